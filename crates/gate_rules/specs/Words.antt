@@ -1,0 +1,22 @@
+-- The number and the name of each rule.
+use Rattle.std.specs.Prelude.{ℕ, List, codes}
+use Rattle.gate_rules.specs.declared.rule.Rule.{Rule}
+use Rattle.gate_rules.specs.declared.rule.Rule.TheVariants.{UnknownChange, NotACommand, NotPermitted, NotOpen, NoSettings, NotApproved, AlreadyOpen}
+
+abbrev pub number_of : Rule → ℕ
+number_of UnknownChange = 1
+number_of NotACommand = 2
+number_of (NotPermitted level) = 3
+number_of NotOpen = 4
+number_of NoSettings = 7
+number_of NotApproved = 9
+number_of AlreadyOpen = 12
+
+abbrev pub word_of : Rule → List ℕ
+word_of UnknownChange = codes "UnknownChange"
+word_of NotACommand = codes "NotACommand"
+word_of (NotPermitted level) = codes "NotPermitted"
+word_of NotOpen = codes "NotOpen"
+word_of NoSettings = codes "NoSettings"
+word_of NotApproved = codes "NotApproved"
+word_of AlreadyOpen = codes "AlreadyOpen"

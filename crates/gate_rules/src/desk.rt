@@ -1,0 +1,188 @@
+ghost use Rattle.std.specs.Prelude.{◌≡◌, IfOk, OnOk, OnErr, IsTrue};
+ghost use Rattle.std.specs.Option.{option_copied};
+ghost use Rattle.std.specs.FinMap as map;
+ghost use Rattle.gate_rules.specs.Rules as rules;
+ghost use Rattle.gate_rules.specs.View.{empty_desk, with_role, with_change, role_on, look};
+
+use crate::change::{Change, Phase};
+use crate::role::{Level, Role};
+use crate::rule::Rule;
+use gate_text::{ChangeNo, Command, Name, Spoken};
+use std::alloc::{AllocError, Global};
+use std::collections::BTreeMap;
+use std::marker::Model;
+
+/// What the rules are read on: the roles of people and the changes. A contract sees it as two finite maps.
+#[derive(Drop)]
+pub struct Desk {
+    roles: BTreeMap<Name, Role>,
+    changes: BTreeMap<ChangeNo, Change>,
+}
+
+impl Model for Desk {
+    ghost use Rattle.std.specs.FinMap as map;
+    ghost use Rattle.std.specs.Coded.{codes};
+    ghost use Rattle.gate_text.specs.Finite.{finite_codes};
+    ghost use Rattle.gate_rules.specs.View.{DeskView};
+
+    ghost Value = { DeskView };
+
+    ghost coded = { Prim.hlevel (codes, finite_codes) };
+
+    ghost view = { λ desk. record { roles = map.from_entries desk.roles.entries; changes = map.from_entries desk.changes.entries } };
+}
+
+impl Desk {
+    /// A desk with no roles and no changes. It takes no memory; its maps keep the allocator.
+    pub fn new(alloc: Global) -> Desk
+        ensures { result ≡ empty_desk }
+    {
+        Desk {
+            roles: BTreeMap::new(alloc),
+            changes: BTreeMap::new(alloc),
+        }
+    }
+
+    /// The role of a person, `Nobody` where none was set.
+    pub fn role(&self, person: &Name) -> Role
+        ensures { result ≡ role_on self.now person.now }
+    {
+        self.roles.get(person).copied().unwrap_or(Role::Nobody)
+    }
+
+    /// The change of this number, if it is on the desk.
+    pub fn change(&self, number: ChangeNo) -> Option<&Change>
+        ensures { option_copied result ≡ map.get self.now.changes number }
+    {
+        self.changes.get(&number)
+    }
+
+    /// Sets the role of a person. Where there is no memory for it, the desk stays as it was; to set `Nobody` takes none.
+    pub fn set_role(&mut self, alloc: Global, person: &Name, role: Role) -> Result<(), AllocError>
+        ensures ok { OnOk result (self.new ≡ with_role self.old person.now role) }
+        ensures err { OnErr result (self.new ≡ self.old) }
+    {
+        if !role.is_member() {
+            self.roles.remove(person);
+            return Ok(());
+        }
+        self.roles.insert(person.copy(alloc)?, role)?;
+        Ok(())
+    }
+
+    /// Puts a copy of the change on the desk, in place of the one that has the number, if there is one. Where there is
+    /// no memory for it, the desk stays as it was.
+    pub fn put_change(
+        &mut self,
+        alloc: Global,
+        number: ChangeNo,
+        change: &Change,
+    ) -> Result<(), AllocError>
+        ensures ok { OnOk result (self.new ≡ with_change self.old number change.now) }
+        ensures err { OnErr result (self.new ≡ self.old) }
+    {
+        self.changes.insert(number, change.copy(alloc)?)?;
+        Ok(())
+    }
+
+    /// The level that a command on this change needs.
+    pub fn need(&self, change: ChangeNo, command: &Command) -> Level
+        ensures { result ≡ rules.need (look self.now) change command.now }
+    {
+        match command {
+            Command::Ping => Level::Anyone,
+            Command::Approve | Command::Withdraw => Level::ReviewerOrDelegate,
+        }
+    }
+
+    /// Whether the person has the level that the command on this change needs.
+    pub fn permits(&self, person: &Name, change: ChangeNo, command: &Command) -> bool
+        ensures { result ≡ rules.permits (look self.now) person.now change command.now }
+    {
+        self.need(change, command).admits(self.role(person), false)
+    }
+
+    fn is_known(&self, change: ChangeNo) -> bool
+        ensures { result ≡ rules.is_known (look self.now) change }
+    {
+        self.change(change).is_some()
+    }
+
+    fn is_open(&self, change: ChangeNo) -> bool
+        ensures { result ≡ rules.is_open (look self.now) change }
+    {
+        match self.change(change) {
+            Some(change) => change.phase == Phase::Opened,
+            None => false,
+        }
+    }
+
+    fn is_approved(&self, change: ChangeNo) -> bool
+        ensures { result ≡ rules.is_approved (look self.now) change }
+    {
+        match self.change(change) {
+            Some(change) => change.approved.is_some(),
+            None => false,
+        }
+    }
+
+    // The first rule that fails, if one does.
+    fn first_failing(&self, person: &Name, change: ChangeNo, spoken: &Spoken) -> Option<Rule>
+        ensures { result ≡ rules.rule_of (look self.now) person.now change spoken.now }
+    {
+        if !self.is_known(change) {
+            return Some(Rule::UnknownChange);
+        }
+        match spoken {
+            Spoken::Unknown => Some(Rule::NotACommand),
+            Spoken::Known(Command::Ping) => None,
+            Spoken::Known(Command::Approve) => self.approve_rule(person, change),
+            Spoken::Known(Command::Withdraw) => self.withdraw_rule(person, change),
+        }
+    }
+
+    // The first rule that fails of an approval of a known change.
+    fn approve_rule(&self, person: &Name, change: ChangeNo) -> Option<Rule>
+        requires { IsTrue (rules.is_known (look self.now) change) }
+        ensures { result ≡ rules.rule_of (look self.now) person.now change (Spoken.Known Command.Approve) }
+    {
+        if !self.permits(person, change, &Command::Approve) {
+            return Some(Rule::NotPermitted(self.need(change, &Command::Approve)));
+        }
+        if !self.is_open(change) {
+            return Some(Rule::NotOpen);
+        }
+        Some(Rule::NoSettings)
+    }
+
+    // The first rule that fails of the withdrawal of an approval of a known change.
+    fn withdraw_rule(&self, person: &Name, change: ChangeNo) -> Option<Rule>
+        requires { IsTrue (rules.is_known (look self.now) change) }
+        ensures { result ≡ rules.rule_of (look self.now) person.now change (Spoken.Known Command.Withdraw) }
+    {
+        if !self.permits(person, change, &Command::Withdraw) {
+            return Some(Rule::NotPermitted(self.need(change, &Command::Withdraw)));
+        }
+        if !self.is_open(change) {
+            return Some(Rule::NotOpen);
+        }
+        if !self.is_approved(change) {
+            return Some(Rule::NotApproved);
+        }
+        None
+    }
+
+    /// The rule that denies what a person's line about a change says: the first of its rules that fails, and nothing
+    /// where all hold.
+    pub fn rule(
+        &self,
+        alloc: Global,
+        person: &Name,
+        change: ChangeNo,
+        spoken: &Spoken,
+    ) -> Result<Option<Rule>, AllocError>
+        ensures { IfOk result (λ rule. rule ≡ rules.rule_of (look self.now) person.now change spoken.now) }
+    {
+        Ok(self.first_failing(person, change, spoken))
+    }
+}

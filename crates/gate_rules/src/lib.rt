@@ -1,0 +1,14 @@
+//! Who may do what, and when: people, changes, the levels of the commands, and the rules that a command is judged by.
+#![tactic(auto)]
+
+mod change;
+mod desk;
+mod role;
+mod rule;
+#[cfg(test)]
+mod tests;
+
+pub use change::{Change, Phase};
+pub use desk::Desk;
+pub use role::{Level, Role};
+pub use rule::Rule;

@@ -1,0 +1,65 @@
+ghost use Rattle.std.specs.Prelude.{◌≡◌};
+ghost use Rattle.gate_rules.specs.Rules as rules;
+
+/// What a person may do in general. bors-ng calls these lists reviewers and members.
+#[derive(Clone, Copy, Debug, PartialEq, Eq)]
+pub enum Role {
+    /// No role was set, or it was taken away.
+    Nobody,
+    /// May try changes.
+    Member,
+    /// May do all that a member may, and approve changes.
+    Reviewer,
+}
+
+/// What a command needs of the person who writes it.
+#[derive(Clone, Copy, Debug, PartialEq, Eq)]
+pub enum Level {
+    /// Anyone at all.
+    Anyone,
+    /// A member or a reviewer.
+    Member,
+    /// A member, a reviewer, or a delegate of this change.
+    MemberOrDelegate,
+    /// A reviewer, or a delegate of this change.
+    ReviewerOrDelegate,
+    /// A reviewer, by role alone.
+    Reviewer,
+}
+
+impl Role {
+    /// Whether the person is a member or a reviewer.
+    pub fn is_member(self) -> bool
+        ensures { result ≡ rules.is_member self }
+    {
+        match self {
+            Role::Nobody => false,
+            Role::Member | Role::Reviewer => true,
+        }
+    }
+
+    /// Whether the person is a reviewer.
+    pub fn is_reviewer(self) -> bool
+        ensures { result ≡ rules.is_reviewer self }
+    {
+        match self {
+            Role::Nobody | Role::Member => false,
+            Role::Reviewer => true,
+        }
+    }
+}
+
+impl Level {
+    /// Whether someone of this role, who is a delegate of the change or isn't, has the level.
+    pub fn admits(self, role: Role, is_delegate: bool) -> bool
+        ensures { result ≡ rules.admits self role is_delegate }
+    {
+        match self {
+            Level::Anyone => true,
+            Level::Member => role.is_member(),
+            Level::MemberOrDelegate => role.is_member() || is_delegate,
+            Level::ReviewerOrDelegate => role.is_reviewer() || is_delegate,
+            Level::Reviewer => role.is_reviewer(),
+        }
+    }
+}

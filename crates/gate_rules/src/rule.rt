@@ -1,0 +1,55 @@
+ghost use Rattle.std.specs.Prelude.{◌≡◌};
+ghost use Rattle.gate_rules.specs.Words.{number_of, word_of};
+
+use crate::role::Level;
+
+/// A rule that an act has broken. An act is answered the first of its rules that fails, in the order of their numbers.
+#[derive(Debug, Drop, PartialEq, Eq)]
+pub enum Rule {
+    /// The change was never opened.
+    UnknownChange,
+    /// The line is no command.
+    NotACommand,
+    /// The person hasn't the level that the command needs.
+    NotPermitted(Level),
+    /// The change is closed or landed.
+    NotOpen,
+    /// No settings are accepted yet.
+    NoSettings,
+    /// The change isn't approved.
+    NotApproved,
+    /// The change is open already.
+    AlreadyOpen,
+}
+
+impl Rule {
+    /// The number of the rule, which hosts and tools compare. Some rules share one.
+    pub fn number(&self) -> u8
+        ensures { result ≡ number_of self.now }
+    {
+        match self {
+            Rule::UnknownChange => 1,
+            Rule::NotACommand => 2,
+            Rule::NotPermitted(_) => 3,
+            Rule::NotOpen => 4,
+            Rule::NoSettings => 7,
+            Rule::NotApproved => 9,
+            Rule::AlreadyOpen => 12,
+        }
+    }
+
+    /// The name of the rule, as answers write it.
+    pub fn word(&self) -> &'static str
+        ensures { result.now ≡ word_of self.now }
+    {
+        match self {
+            Rule::UnknownChange => "UnknownChange",
+            Rule::NotACommand => "NotACommand",
+            Rule::NotPermitted(_) => "NotPermitted",
+            Rule::NotOpen => "NotOpen",
+            Rule::NoSettings => "NoSettings",
+            Rule::NotApproved => "NotApproved",
+            Rule::AlreadyOpen => "AlreadyOpen",
+        }
+    }
+}

@@ -1,0 +1,101 @@
+ghost use Rattle.std.specs.Prelude.{◌≡◌, ◌++◌, List, IfOk, OnOk};
+ghost use Rattle.std.specs.Option.{option_copied};
+ghost use Rattle.std.specs.Str.Lines.{strip_carriage_return};
+ghost use Rattle.gate_text.specs.Reading as reading;
+ghost use Rattle.gate_text.specs.Grammar.{CommentSays};
+
+use crate::command::{Command, Spoken};
+use crate::spaces::trim;
+use std::alloc::{AllocError, Global};
+
+// How many bytes the trigger of a command line has.
+const TRIGGER_LEN: usize = 5;
+
+fn is_trigger(word: &[u8]) -> bool
+    ensures { result ≡ reading.is_trigger word.now }
+{
+    word.eq_ignore_ascii_case(b"bors ") || word.eq_ignore_ascii_case(b"bors:")
+}
+
+// The line without the one carriage return at its end, if it has one.
+fn without_return(line: &[u8]) -> &[u8]
+    ensures { result.now ≡ strip_carriage_return line.now }
+{
+    match line {
+        [front @ .., b'\r'] => front,
+        _ => line,
+    }
+}
+
+// The body of a command line, and nothing for any other line.
+fn body_of(line: &[u8]) -> Option<&[u8]>
+    ensures { option_copied result ≡ reading.body_of line.now }
+{
+    if line.len() < TRIGGER_LEN {
+        return None;
+    }
+    let (trigger, rest) = line.split_at(TRIGGER_LEN);
+    if is_trigger(trigger) {
+        Some(trim(rest))
+    } else {
+        None
+    }
+}
+
+fn command_of(body: &[u8]) -> Option<Command>
+    ensures { result ≡ reading.command_of body.now }
+{
+    match body {
+        b"ping" => Some(Command::Ping),
+        b"r+" => Some(Command::Approve),
+        b"r-" => Some(Command::Withdraw),
+        _ => None,
+    }
+}
+
+fn spoken_in(body: &[u8]) -> Spoken
+    ensures { result ≡ reading.spoken_in body.now }
+{
+    match command_of(body) {
+        Some(command) => Spoken::Known(command),
+        None => Spoken::Unknown,
+    }
+}
+
+// Adds what one line says.
+fn push_line(spoken: &mut Vec<Spoken>, line: &[u8]) -> Result<(), AllocError>
+    ensures { OnOk result (spoken.new.items ≡ spoken.old.items ++ reading.line_says line.now) }
+{
+    if let Some(body) = body_of(without_return(line)) {
+        spoken.push(spoken_in(body))?;
+    }
+    Ok(())
+}
+
+// What the lines of the comment say, one after the other.
+#[tactic(auto, unfolding(crate::specs::Reading::comment_says))]
+fn spoken_lines(alloc: Global, text: &str) -> Result<Vec<Spoken>, AllocError>
+    ensures { IfOk result (λ spoken. spoken.items ≡ reading.comment_says text.now) }
+{
+    let mut spoken = Vec::new(alloc);
+    for line in text.split('\n') {
+        push_line(&mut spoken, line.as_bytes())?;
+    }
+    Ok(spoken)
+}
+
+/// Reads a comment: what its command lines say, in their order. A command line begins with `bors`, in either case,
+/// and one space or colon; what follows, without spaces at its ends, is a command or one `Unknown`. All other lines
+/// say nothing.
+pub fn read_comment(alloc: Global, text: &str) -> Result<Vec<Spoken>, AllocError>
+    // It says these commands.
+    ensures said { IfOk result (λ spoken. CommentSays text.now spoken.items) }
+
+    // It says no others.
+    ensures only { IfOk result (λ spoken. (others : List Spoken) → CommentSays text.now others → others ≡ spoken.items) }
+
+    // The reading as a function of the text, for the contracts above this one.
+    ensures value { IfOk result (λ spoken. spoken.items ≡ reading.comment_says text.now) }
+{
+    spoken_lines(alloc, text)
+}

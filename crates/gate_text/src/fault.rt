@@ -1,0 +1,44 @@
+use std::alloc::{AllocError, AllocFailed};
+use thiserror::Error;
+
+/// Why a text was refused. The checks are made in the order of the variants, and the first that fails is answered.
+#[derive(Clone, Copy, Debug, PartialEq, Eq, Error)]
+pub enum TextFault {
+    /// Nothing is left of the text.
+    #[error("the text is empty")]
+    Empty,
+    /// The text has more bytes than the most that its type allows.
+    #[error("the text is too long")]
+    TooLong,
+    /// The first byte that is not allowed stands at this place, counted from 0 in the text as handed in.
+    #[error("byte {0} is not allowed")]
+    BadByte(usize),
+    /// The digits are no change number: they begin with `0`, or the number is too great.
+    #[error("the number is out of range")]
+    BadNumber,
+    /// The allocator had no memory for a text that is good.
+    #[error("out of memory")]
+    Memory,
+}
+
+impl From<AllocError> for TextFault {
+    ghost use Rattle.std.specs.Prelude.{◌≡◌};
+    ghost use Rattle.gate_text.specs.declared.fault.TextFault.TheVariants.{Memory};
+
+    ghost from_gives = { λ _ fault. fault ≡ Memory };
+
+    fn from(_error: AllocError) -> TextFault {
+        TextFault::Memory
+    }
+}
+
+impl<T: Drop> From<AllocFailed<T>> for TextFault {
+    ghost use Rattle.std.specs.Prelude.{◌≡◌};
+    ghost use Rattle.gate_text.specs.declared.fault.TextFault.TheVariants.{Memory};
+
+    ghost from_gives = { λ _ fault. fault ≡ Memory };
+
+    fn from(_error: AllocFailed<T>) -> TextFault {
+        TextFault::Memory
+    }
+}

@@ -1,0 +1,132 @@
+ghost use Rattle.std.specs.Prelude.{◌≡◌, ◌+◌, ◌<◌, IfOk, Some, refl, nat_eq, map, IsTrue};
+ghost use Rattle.std.specs.Char.{to_ascii_lowercase};
+ghost use Rattle.std.specs.List.{list_all};
+ghost use Rattle.std.specs.String.{string_bytes};
+ghost use Rattle.std.specs.Ordering.{nat_cmp};
+ghost use Rattle.std.specs.Cmp.Lexicographic.{pointwise, slice_cmp, nat_list_eq_equiv, nat_list_cmp_total, texts_ties, texts_po};
+ghost use Rattle.std.specs.Cmp.{partial_equiv_from_equiv};
+ghost use Rattle.gate_text.specs.SmallTexts as small;
+ghost use Rattle.gate_text.specs.SmallTexts.{Reads, name_of, is_name_byte};
+
+use crate::checks::first_fault;
+use crate::fault::TextFault;
+use std::alloc::{AllocError, Global};
+use std::cmp::Ordering;
+use std::marker::Model;
+
+// The most bytes of a name.
+const MAX_LEN: usize = 64;
+
+/// The name of a person, in lower case and without `@`: 1 to 64 bytes. A contract sees it as the list of its bytes.
+#[derive(Debug, Drop)]
+pub struct Name {
+    text: String,
+}
+
+impl Model for Name {
+    ghost use Rattle.std.specs.Prelude.{ℕ, List};
+    ghost use Rattle.std.specs.String.{string_bytes};
+
+    ghost Value = { List ℕ };
+
+    ghost view = { λ name. string_bytes name.text };
+}
+
+fn is_name_byte(byte: u8) -> bool
+    ensures { result ≡ small.is_name_byte byte }
+{
+    byte.is_ascii_alphanumeric() || b"-_.[]".contains(&byte)
+}
+
+// The place of the first byte that no name has.
+fn first_bad_byte(text: &[u8]) -> Option<usize>
+    ensures { result ≡ small.first_bad is_name_byte text.now }
+{
+    text.iter().position(|byte| !is_name_byte(*byte))
+}
+
+// The text in lower case.
+fn lowercase(alloc: Global, text: &[u8]) -> Result<String, AllocError>
+    requires { IsTrue (list_all is_name_byte text.now) }
+    ensures { IfOk result (λ lower. string_bytes lower ≡ map to_ascii_lowercase text.now) }
+{
+    let mut lower = String::new(alloc);
+    for byte in text {
+        lower.push(char::from(byte.to_ascii_lowercase()))?;
+    }
+    Ok(lower)
+}
+
+impl Name {
+    /// Reads a name; one leading `@` is dropped, and capitals become small letters. Refusals, in their order: `Empty`,
+    /// `TooLong` (more than 64 bytes without the `@`), `BadByte` (its place counts the `@`), `Memory`.
+    #[tactic(auto, using(crate::proofs::Refusals::refused), unfolding(crate::specs::SmallTexts::name_of))]
+    pub fn read(alloc: Global, text: &str) -> Result<Name, TextFault>
+        ensures { Reads result (name_of text.now) }
+    {
+        let text = text.as_bytes();
+        let dropped = usize::from(text.starts_with(b"@".as_slice()));
+        let body = &text[dropped..];
+        let bad = first_bad_byte(body).map(|place| place + dropped);
+        if let Some(fault) = first_fault(body.len(), MAX_LEN, bad) {
+            return Err(fault);
+        }
+        Ok(Name {
+            text: lowercase(alloc, body)?,
+        })
+    }
+
+    /// The name, in lower case and without `@`.
+    pub fn text(&self) -> &str
+        ensures { result.now ≡ self.now }
+    {
+        self.text.as_str()
+    }
+
+    /// A copy, or `AllocError` where there is no memory for it.
+    pub fn copy(&self, alloc: Global) -> Result<Name, AllocError>
+        ensures { IfOk result (λ copy. copy ≡ self.now) }
+    {
+        Ok(Name {
+            text: String::from_str(alloc, self.text())?,
+        })
+    }
+}
+
+impl PartialEq for Name {
+    ghost eq = { pointwise nat_eq };
+
+    ghost laws = { partial_equiv_from_equiv nat_list_eq_equiv };
+
+    fn eq(&self, other: &Name) -> bool {
+        self.text() == other.text()
+    }
+}
+
+impl Eq for Name {
+    ghost laws = { nat_list_eq_equiv };
+}
+
+impl PartialOrd for Name {
+    ghost partial_cmp = { λ x y. Some (slice_cmp nat_cmp x y) };
+
+    ghost laws = { texts_po };
+
+    fn partial_cmp(&self, other: &Name) -> Option<Ordering> {
+        Some(self.cmp(other))
+    }
+}
+
+impl Ord for Name {
+    ghost cmp = { slice_cmp nat_cmp };
+
+    ghost total = { nat_list_cmp_total };
+
+    ghost matches_partial_cmp = { λ x y. refl };
+
+    ghost matches_eq = { texts_ties };
+
+    fn cmp(&self, other: &Name) -> Ordering {
+        self.text().cmp(other.text())
+    }
+}

@@ -1,0 +1,31 @@
+ghost use Rattle.std.specs.Prelude.{◌≡◌};
+ghost use Rattle.gate_text.specs.Spaces as spaces;
+
+// The text without the spaces in front. No other byte counts as a space.
+fn trim_start(text: &[u8]) -> &[u8]
+    ensures { result.now ≡ spaces.trim_start text.now }
+{
+    let mut rest = text;
+    while let Some(others) = rest.strip_prefix(b" ".as_slice()) {
+        rest = others;
+    }
+    rest
+}
+
+// The text without the spaces at its end.
+fn trim_end(text: &[u8]) -> &[u8]
+    ensures { result.now ≡ spaces.trim_end text.now }
+{
+    let mut rest = text;
+    while let Some(others) = rest.strip_suffix(b" ".as_slice()) {
+        rest = others;
+    }
+    rest
+}
+
+// The text without the spaces at either end.
+pub fn trim(text: &[u8]) -> &[u8]
+    ensures { result.now ≡ spaces.trim text.now }
+{
+    trim_end(trim_start(text))
+}

@@ -1,0 +1,172 @@
+use crate::{ChangeNo, Command, Commit, DeliveryId, Name, Names, Spoken, TextFault, read_comment};
+use std::test::Fail;
+
+const LETTERS_64: &str = "aaaaaaaaaaaaaaaaaaaaaaaaaaaaaaaaaaaaaaaaaaaaaaaaaaaaaaaaaaaaaaaa";
+
+const DIGITS_40: &str = "0123456789abcdef0123456789abcdef01234567";
+
+#[test]
+fn names_that_are_read(rt: HostRuntime) -> Result<(), Fail> {
+    for (text, name) in [
+        ("@Bob[bot]", "bob[bot]"),
+        ("dave-1_x.y", "dave-1_x.y"),
+        (LETTERS_64, LETTERS_64),
+    ] {
+        let read = Name::read(rt.alloc(), text)?;
+        assert_eq!(rt; read.text(), name);
+        assert_eq!(rt; read.copy(rt.alloc())?, read);
+    }
+    let at_64 = format!(in rt.alloc(); "@{LETTERS_64}")?;
+    assert_eq!(rt; Name::read(rt.alloc(), at_64.as_str())?.text(), LETTERS_64);
+    Ok(())
+}
+
+#[test]
+fn names_that_are_refused(rt: HostRuntime) -> Result<(), Fail> {
+    let letters_65 = format!(in rt.alloc(); "a{LETTERS_64}")?;
+    for (text, fault) in [
+        ("", TextFault::Empty),
+        ("@", TextFault::Empty),
+        (letters_65.as_str(), TextFault::TooLong),
+        ("a b", TextFault::BadByte(1)),
+        ("@a b", TextFault::BadByte(2)),
+        ("@@a", TextFault::BadByte(1)),
+        ("a/b", TextFault::BadByte(1)),
+        ("é", TextFault::BadByte(0)),
+    ] {
+        assert_eq!(rt; Name::read(rt.alloc(), text).err(), Some(fault), "{text:?}");
+    }
+    Ok(())
+}
+
+#[test]
+fn commits(rt: HostRuntime) -> Result<(), Fail> {
+    assert_eq!(rt; Commit::read(DIGITS_40)?.text(), DIGITS_40);
+    let digits_41 = format!(in rt.alloc(); "{DIGITS_40}0")?;
+    for (text, fault) in [
+        ("", TextFault::Empty),
+        ("abc", TextFault::BadByte(3)),
+        ("abg", TextFault::BadByte(2)),
+        (digits_41.as_str(), TextFault::TooLong),
+        (
+            "AAAAAAAAAAAAAAAAAAAAAAAAAAAAAAAAAAAAAAAA",
+            TextFault::BadByte(0),
+        ),
+        (
+            "0123456789abcdef0123456789abcdef0123456",
+            TextFault::BadByte(39),
+        ),
+    ] {
+        assert_eq!(rt; Commit::read(text).err(), Some(fault), "{text:?}");
+    }
+    Ok(())
+}
+
+#[test]
+fn change_numbers(rt: HostRuntime) -> Result<(), Fail> {
+    for (text, number) in [("1", 1), ("42", 42), ("4294967295", 4_294_967_295)] {
+        assert_eq!(rt; ChangeNo::read(text)?.number(), number);
+    }
+    for (text, fault) in [
+        ("", TextFault::Empty),
+        ("4294967296", TextFault::BadNumber),
+        ("0", TextFault::BadNumber),
+        ("01", TextFault::BadNumber),
+        ("1x", TextFault::BadByte(1)),
+        ("+1", TextFault::BadByte(0)),
+        ("10000000000", TextFault::TooLong),
+    ] {
+        assert_eq!(rt; ChangeNo::read(text).err(), Some(fault), "{text:?}");
+    }
+    Ok(())
+}
+
+#[test]
+fn delivery_identifiers(rt: HostRuntime) -> Result<(), Fail> {
+    let letters_128 = format!(in rt.alloc(); "{LETTERS_64}{LETTERS_64}")?;
+    for text in ["d-1", "!~", letters_128.as_str()] {
+        let read = DeliveryId::read(rt.alloc(), text)?;
+        assert_eq!(rt; read.text(), text);
+        assert_eq!(rt; read.copy(rt.alloc())?.text(), text);
+    }
+    let letters_129 = format!(in rt.alloc(); "a{letters_128}")?;
+    for (text, fault) in [
+        ("", TextFault::Empty),
+        (letters_129.as_str(), TextFault::TooLong),
+        ("a b", TextFault::BadByte(1)),
+        ("d\u{7f}", TextFault::BadByte(1)),
+    ] {
+        assert_eq!(rt;
+            DeliveryId::read(rt.alloc(), text).err(),
+            Some(fault),
+            "{text:?}"
+        );
+    }
+    Ok(())
+}
+
+#[test]
+fn lists_of_names(rt: HostRuntime) -> Result<(), Fail> {
+    let names = Names::from(vec![in rt.alloc();
+        Name::read(rt.alloc(), "zoe")?,
+        Name::read(rt.alloc(), "al")?,
+    ]?);
+    let copy = names.copy(rt.alloc())?;
+    assert_eq!(rt; copy, names);
+    assert_eq!(rt; copy.as_slice().len(), 2);
+    let given_back = copy.into_vec();
+    assert_eq!(rt; given_back.len(), 2);
+    assert_eq!(rt; given_back[0].text(), "zoe");
+    Ok(())
+}
+
+#[test]
+fn comments_that_say_nothing(rt: HostRuntime) -> Result<(), Fail> {
+    for text in [
+        "",
+        "Thanks!",
+        " bors r+",
+        "borsalino",
+        "bors",
+        "bors\tr+",
+        "bor s r+",
+        "\nbors\n",
+    ] {
+        assert_eq!(rt; read_comment(rt.alloc(), text)?.len(), 0, "{text:?}");
+    }
+    Ok(())
+}
+
+#[test]
+fn comments_that_say_one_thing(rt: HostRuntime) -> Result<(), Fail> {
+    for (text, said) in [
+        ("bors ping", Spoken::Known(Command::Ping)),
+        ("bors r+", Spoken::Known(Command::Approve)),
+        ("BoRs:r-", Spoken::Known(Command::Withdraw)),
+        ("bors:  r+  ", Spoken::Known(Command::Approve)),
+        ("Looks good.\nbors r+\r\n", Spoken::Known(Command::Approve)),
+        ("bors r+\r", Spoken::Known(Command::Approve)),
+        ("bors r+\r\r", Spoken::Unknown),
+        ("bors ", Spoken::Unknown),
+        ("bors:", Spoken::Unknown),
+        ("bors R+", Spoken::Unknown),
+        ("bors r+ please", Spoken::Unknown),
+        ("bors\u{20}\tr+", Spoken::Unknown),
+    ] {
+        let spoken = read_comment(rt.alloc(), text)?;
+        assert_eq!(rt; spoken.as_slice(), [said].as_slice(), "{text:?}");
+    }
+    Ok(())
+}
+
+#[test]
+fn a_comment_says_its_lines_in_order(rt: HostRuntime) -> Result<(), Fail> {
+    let spoken = read_comment(rt.alloc(), "bors r+\nsome words\nbors dance\nbors ping")?;
+    let want = [
+        Spoken::Known(Command::Approve),
+        Spoken::Unknown,
+        Spoken::Known(Command::Ping),
+    ];
+    assert_eq!(rt; spoken.as_slice(), want.as_slice());
+    Ok(())
+}
