@@ -1,7 +1,7 @@
 -- What the contracts of this crate cite. For a reader, in this order:
 --     Rules    what the rules read (`Look`), the levels, and each act's row of rules with the first that fails
 --     View     the desk as finite maps, what each setter does to it, and how the rules see it
---     Words    the number and the name of each rule
+--     Words    the number and the name of each rule, and the name of each level
 pub mod Rules
 pub mod View
 pub mod Words

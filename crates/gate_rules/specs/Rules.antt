@@ -115,3 +115,7 @@ first_failing (None ∷ rules) = first_failing rules
 -- the rule that denies a line, if one does
 abbrev pub rule_of : Look → List ℕ → ℕ → Spoken → Option Rule
 rule_of s person change spoken = first_failing (row s person change spoken)
+
+-- whether an answer of this rule copies what it names, for which memory may be wanting: no rule of today does
+abbrev pub MayWantMemory : Option Rule → Type 0
+MayWantMemory rule = ⊥

@@ -21,7 +21,7 @@ empty_desk = record { roles = map.empty; changes = map.empty }
 abbrev pub role_on : DeskView → List ℕ → Role
 role_on desk person = unwrap_or (map.get desk.roles person) Nobody
 
--- the roles with one more set
+-- the roles after one is set; `Nobody` takes the entry away
 abbrev pub roles_with : FinMap (slice_cmp nat_cmp) Role → List ℕ → Role → FinMap (slice_cmp nat_cmp) Role
 roles_with roles person role = if is_member role then map.insert roles person role else map.remove roles person
 

@@ -1,5 +1,7 @@
--- The number and the name of each rule.
+-- The number and the name of each rule, and the name of each level.
 use Rattle.std.specs.Prelude.{ℕ, List, codes}
+use Rattle.gate_rules.specs.declared.role.Level.{Level}
+use Rattle.gate_rules.specs.declared.role.Level.TheVariants.{Anyone, Member, MemberOrDelegate, ReviewerOrDelegate, Reviewer}
 use Rattle.gate_rules.specs.declared.rule.Rule.{Rule}
 use Rattle.gate_rules.specs.declared.rule.Rule.TheVariants.{UnknownChange, NotACommand, NotPermitted, NotOpen, NoSettings, NotApproved, AlreadyOpen}
 
@@ -20,3 +22,10 @@ word_of NotOpen = codes "NotOpen"
 word_of NoSettings = codes "NoSettings"
 word_of NotApproved = codes "NotApproved"
 word_of AlreadyOpen = codes "AlreadyOpen"
+
+abbrev pub level_word_of : Level → List ℕ
+level_word_of Anyone = codes "Anyone"
+level_word_of Member = codes "Member"
+level_word_of MemberOrDelegate = codes "MemberOrDelegate"
+level_word_of ReviewerOrDelegate = codes "ReviewerOrDelegate"
+level_word_of Reviewer = codes "Reviewer"

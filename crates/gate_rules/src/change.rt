@@ -3,7 +3,7 @@ ghost use Rattle.std.specs.Prelude.{◌≡◌, IfOk};
 use gate_text::{Commit, Name, Names};
 use std::alloc::{AllocError, Global};
 
-/// Where a change (a pull request) stands in its life.
+/// How far a change (a pull request) has come.
 #[derive(Clone, Copy, Debug, PartialEq, Eq)]
 pub enum Phase {
     /// It is open.
@@ -15,13 +15,13 @@ pub enum Phase {
 }
 
 /// A change (a pull request) as the bot keeps it.
-#[derive(Drop)]
+#[derive(Debug, Drop, PartialEq, Eq)]
 pub struct Change {
     /// Who opened it last.
     pub author: Name,
     /// The commit that is to be merged.
     pub head: Commit,
-    /// Where it stands in its life.
+    /// How far it has come.
     pub phase: Phase,
     /// The approvers, where the change is approved.
     pub approved: Option<Names>,
@@ -30,7 +30,7 @@ pub struct Change {
 impl Change {
     /// A copy, or `AllocError` where there is no memory for it.
     pub fn copy(&self, alloc: Global) -> Result<Change, AllocError>
-        ensures { IfOk result (λ copy. copy ≡ self.now) }
+        ensures value { IfOk result (λ copy. copy ≡ self.now) }
     {
         let approved = match &self.approved {
             Some(approvers) => Some(approvers.copy(alloc)?),

@@ -1,8 +1,9 @@
-ghost use Rattle.std.specs.Prelude.{◌≡◌, IfOk, OnOk, OnErr, IsTrue};
+ghost use Rattle.std.specs.Prelude.{◌≡◌, IfOk, IfErr, IsOk, OnOk, OnErr, IsTrue};
 ghost use Rattle.std.specs.Option.{option_copied};
 ghost use Rattle.std.specs.FinMap as map;
 ghost use Rattle.gate_rules.specs.Rules as rules;
 ghost use Rattle.gate_rules.specs.View.{empty_desk, with_role, with_change, role_on, look};
+ghost use Rattle.gate_rules.specs.declared.role.Role.TheVariants.{Nobody};
 
 use crate::change::{Change, Phase};
 use crate::role::{Level, Role};
@@ -12,7 +13,7 @@ use std::alloc::{AllocError, Global};
 use std::collections::BTreeMap;
 use std::marker::Model;
 
-/// What the rules are read on: the roles of people and the changes. A contract sees it as two finite maps.
+/// What the rules look at: the roles of people, and the changes. A contract sees it as two finite maps.
 #[derive(Drop)]
 pub struct Desk {
     roles: BTreeMap<Name, Role>,
@@ -35,7 +36,7 @@ impl Model for Desk {
 impl Desk {
     /// A desk with no roles and no changes. It takes no memory; its maps keep the allocator.
     pub fn new(alloc: Global) -> Desk
-        ensures { result ≡ empty_desk }
+        ensures value { result ≡ empty_desk }
     {
         Desk {
             roles: BTreeMap::new(alloc),
@@ -45,14 +46,14 @@ impl Desk {
 
     /// The role of a person, `Nobody` where none was set.
     pub fn role(&self, person: &Name) -> Role
-        ensures { result ≡ role_on self.now person.now }
+        ensures value { result ≡ role_on self.now person.now }
     {
         self.roles.get(person).copied().unwrap_or(Role::Nobody)
     }
 
     /// The change of this number, if it is on the desk.
     pub fn change(&self, number: ChangeNo) -> Option<&Change>
-        ensures { option_copied result ≡ map.get self.now.changes number }
+        ensures value { option_copied result ≡ map.get self.now.changes number }
     {
         self.changes.get(&number)
     }
@@ -61,6 +62,7 @@ impl Desk {
     pub fn set_role(&mut self, alloc: Global, person: &Name, role: Role) -> Result<(), AllocError>
         ensures ok { OnOk result (self.new ≡ with_role self.old person.now role) }
         ensures err { OnErr result (self.new ≡ self.old) }
+        ensures no_memory { role ≡ Nobody → IsOk result }
     {
         if !role.is_member() {
             self.roles.remove(person);
@@ -85,9 +87,9 @@ impl Desk {
         Ok(())
     }
 
-    /// The level that a command on this change needs.
+    /// The level that a command on this change needs, whether the change is on the desk or not.
     pub fn need(&self, change: ChangeNo, command: &Command) -> Level
-        ensures { result ≡ rules.need (look self.now) change command.now }
+        ensures value { result ≡ rules.need (look self.now) change command.now }
     {
         match command {
             Command::Ping => Level::Anyone,
@@ -95,26 +97,28 @@ impl Desk {
         }
     }
 
-    /// Whether the person has the level that the command on this change needs.
+    /// Whether the person has the level that the command on this change needs, whether the change is on the desk or
+    /// not. Nobody is a delegate of a change yet.
     pub fn permits(&self, person: &Name, change: ChangeNo, command: &Command) -> bool
-        ensures { result ≡ rules.permits (look self.now) person.now change command.now }
+        ensures value { result ≡ rules.permits (look self.now) person.now change command.now }
     {
         self.need(change, command).admits(self.role(person), false)
+    }
+
+    /// Whether the change of this number is on the desk and open.
+    pub fn is_open(&self, change: ChangeNo) -> bool
+        ensures value { result ≡ rules.is_open (look self.now) change }
+    {
+        match self.change(change) {
+            Some(change) => change.phase == Phase::Opened,
+            None => false,
+        }
     }
 
     fn is_known(&self, change: ChangeNo) -> bool
         ensures { result ≡ rules.is_known (look self.now) change }
     {
         self.change(change).is_some()
-    }
-
-    fn is_open(&self, change: ChangeNo) -> bool
-        ensures { result ≡ rules.is_open (look self.now) change }
-    {
-        match self.change(change) {
-            Some(change) => change.phase == Phase::Opened,
-            None => false,
-        }
     }
 
     fn is_approved(&self, change: ChangeNo) -> bool
@@ -126,8 +130,18 @@ impl Desk {
         }
     }
 
+    // The rule on the person's level, where it fails.
+    fn not_permitted(&self, person: &Name, change: ChangeNo, command: &Command) -> Option<Rule>
+        ensures { result ≡ rules.unless (rules.permits (look self.now) person.now change command.now) (Rule.NotPermitted (rules.need (look self.now) change command.now)) }
+    {
+        if self.permits(person, change, command) {
+            return None;
+        }
+        Some(Rule::NotPermitted(self.need(change, command)))
+    }
+
     // The first rule that fails, if one does.
-    fn first_failing(&self, person: &Name, change: ChangeNo, spoken: &Spoken) -> Option<Rule>
+    fn rule_of(&self, person: &Name, change: ChangeNo, spoken: &Spoken) -> Option<Rule>
         ensures { result ≡ rules.rule_of (look self.now) person.now change spoken.now }
     {
         if !self.is_known(change) {
@@ -146,8 +160,8 @@ impl Desk {
         requires { IsTrue (rules.is_known (look self.now) change) }
         ensures { result ≡ rules.rule_of (look self.now) person.now change (Spoken.Known Command.Approve) }
     {
-        if !self.permits(person, change, &Command::Approve) {
-            return Some(Rule::NotPermitted(self.need(change, &Command::Approve)));
+        if let Some(rule) = self.not_permitted(person, change, &Command::Approve) {
+            return Some(rule);
         }
         if !self.is_open(change) {
             return Some(Rule::NotOpen);
@@ -160,8 +174,8 @@ impl Desk {
         requires { IsTrue (rules.is_known (look self.now) change) }
         ensures { result ≡ rules.rule_of (look self.now) person.now change (Spoken.Known Command.Withdraw) }
     {
-        if !self.permits(person, change, &Command::Withdraw) {
-            return Some(Rule::NotPermitted(self.need(change, &Command::Withdraw)));
+        if let Some(rule) = self.not_permitted(person, change, &Command::Withdraw) {
+            return Some(rule);
         }
         if !self.is_open(change) {
             return Some(Rule::NotOpen);
@@ -173,7 +187,7 @@ impl Desk {
     }
 
     /// The rule that denies what a person's line about a change says: the first of its rules that fails, and nothing
-    /// where all hold.
+    /// where all hold. `AllocError` is for rules still to come, which copy what they name; none of today's does.
     pub fn rule(
         &self,
         alloc: Global,
@@ -181,8 +195,9 @@ impl Desk {
         change: ChangeNo,
         spoken: &Spoken,
     ) -> Result<Option<Rule>, AllocError>
-        ensures { IfOk result (λ rule. rule ≡ rules.rule_of (look self.now) person.now change spoken.now) }
+        ensures value { IfOk result (λ rule. rule ≡ rules.rule_of (look self.now) person.now change spoken.now) }
+        ensures cause { IfErr result (λ _. rules.MayWantMemory (rules.rule_of (look self.now) person.now change spoken.now)) }
     {
-        Ok(self.first_failing(person, change, spoken))
+        Ok(self.rule_of(person, change, spoken))
     }
 }

@@ -1,12 +1,13 @@
 ghost use Rattle.std.specs.Prelude.{◌≡◌};
 ghost use Rattle.gate_rules.specs.Rules as rules;
+ghost use Rattle.gate_rules.specs.Words.{level_word_of};
 
 /// What a person may do in general. bors-ng calls these lists reviewers and members.
 #[derive(Clone, Copy, Debug, PartialEq, Eq)]
 pub enum Role {
     /// No role was set, or it was taken away.
     Nobody,
-    /// May try changes.
+    /// May try changes and review them.
     Member,
     /// May do all that a member may, and approve changes.
     Reviewer,
@@ -30,7 +31,7 @@ pub enum Level {
 impl Role {
     /// Whether the person is a member or a reviewer.
     pub fn is_member(self) -> bool
-        ensures { result ≡ rules.is_member self }
+        ensures value { result ≡ rules.is_member self }
     {
         match self {
             Role::Nobody => false,
@@ -40,7 +41,7 @@ impl Role {
 
     /// Whether the person is a reviewer.
     pub fn is_reviewer(self) -> bool
-        ensures { result ≡ rules.is_reviewer self }
+        ensures value { result ≡ rules.is_reviewer self }
     {
         match self {
             Role::Nobody | Role::Member => false,
@@ -52,7 +53,7 @@ impl Role {
 impl Level {
     /// Whether someone of this role, who is a delegate of the change or isn't, has the level.
     pub fn admits(self, role: Role, is_delegate: bool) -> bool
-        ensures { result ≡ rules.admits self role is_delegate }
+        ensures value { result ≡ rules.admits self role is_delegate }
     {
         match self {
             Level::Anyone => true,
@@ -60,6 +61,19 @@ impl Level {
             Level::MemberOrDelegate => role.is_member() || is_delegate,
             Level::ReviewerOrDelegate => role.is_reviewer() || is_delegate,
             Level::Reviewer => role.is_reviewer(),
+        }
+    }
+
+    /// The name of the level, as answers write it.
+    pub fn word(self) -> &'static str
+        ensures value { result.now ≡ level_word_of self }
+    {
+        match self {
+            Level::Anyone => "Anyone",
+            Level::Member => "Member",
+            Level::MemberOrDelegate => "MemberOrDelegate",
+            Level::ReviewerOrDelegate => "ReviewerOrDelegate",
+            Level::Reviewer => "Reviewer",
         }
     }
 }

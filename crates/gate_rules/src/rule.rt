@@ -3,7 +3,7 @@ ghost use Rattle.gate_rules.specs.Words.{number_of, word_of};
 
 use crate::role::Level;
 
-/// A rule that an act has broken. An act is answered the first of its rules that fails, in the order of their numbers.
+/// A rule that an act has broken. Each act has a row of rules, and is answered the first of its row that fails.
 #[derive(Debug, Drop, PartialEq, Eq)]
 pub enum Rule {
     /// The change was never opened.
@@ -23,9 +23,9 @@ pub enum Rule {
 }
 
 impl Rule {
-    /// The number of the rule, which hosts and tools compare. Some rules share one.
+    /// The number of the rule, which hosts and tools compare.
     pub fn number(&self) -> u8
-        ensures { result ≡ number_of self.now }
+        ensures value { result ≡ number_of self.now }
     {
         match self {
             Rule::UnknownChange => 1,
@@ -40,7 +40,7 @@ impl Rule {
 
     /// The name of the rule, as answers write it.
     pub fn word(&self) -> &'static str
-        ensures { result.now ≡ word_of self.now }
+        ensures value { result.now ≡ word_of self.now }
     {
         match self {
             Rule::UnknownChange => "UnknownChange",

@@ -181,17 +181,33 @@ fn the_desk_keeps_what_was_put_last(rt: HostRuntime) -> Result<(), Fail> {
     assert_eq!(rt; desk.role(&mia), Role::Nobody);
 
     desk.put_change(rt.alloc(), two, &change(rt.alloc(), Phase::Closed, false)?)?;
-    for (number, phase, is_approved) in [
-        ("1", Phase::Opened, false),
+    for (number, phase, is_open) in [
+        ("1", Phase::Opened, true),
         ("2", Phase::Closed, false),
         ("4", Phase::Landed, false),
     ] {
-        let kept = desk.change(ChangeNo::read(number)?).ok_or("it was put")?;
-        assert_eq!(rt; kept.phase, phase);
-        assert_eq!(rt; kept.approved.is_some(), is_approved);
-        assert_eq!(rt; kept.author.text(), "carol");
-        assert_eq!(rt; kept.head.text(), HEAD);
+        let number = ChangeNo::read(number)?;
+        let kept = desk.change(number).ok_or("it was put")?;
+        let put = change(rt.alloc(), phase, false)?;
+        assert_eq!(rt; kept, &put);
+        assert_eq!(rt; kept.copy(rt.alloc())?, put);
+        assert_eq!(rt; desk.is_open(number), is_open);
     }
-    assert_eq!(rt; desk.change(ChangeNo::read("9")?).is_none(), true);
+    let nine = ChangeNo::read("9")?;
+    assert_eq!(rt; desk.change(nine).is_none(), true);
+    assert_eq!(rt; desk.is_open(nine), false);
     Ok(())
+}
+
+#[test]
+fn names_of_levels(rt: HostRuntime) {
+    for (level, word) in [
+        (Level::Anyone, "Anyone"),
+        (Level::Member, "Member"),
+        (Level::MemberOrDelegate, "MemberOrDelegate"),
+        (Level::ReviewerOrDelegate, "ReviewerOrDelegate"),
+        (Level::Reviewer, "Reviewer"),
+    ] {
+        assert_eq!(rt; level.word(), word);
+    }
 }

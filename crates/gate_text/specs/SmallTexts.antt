@@ -22,9 +22,9 @@ abbrev pub first_bad : (ℕ → Bool) → List ℕ → Option ℕ
 first_bad is_good text = position (λ b. not (is_good b)) text
 
 -- the result, unless a check failed before
-abbrev pub unless : {X : Type 0} → Option TextFault → Result X TextFault → Result X TextFault
-unless None result = result
-unless (Some fault) result = Err fault
+abbrev pub unless_refused : {X : Type 0} → Option TextFault → Result X TextFault → Result X TextFault
+unless_refused None result = result
+unless_refused (Some fault) result = Err fault
 
 -- What `read` answers where `reading` is what the text says: the same, except that memory may be wanting for a text
 -- that is good. So a bad text is never answered `Memory`.
@@ -44,31 +44,31 @@ abbrev pub begins_with_at : List ℕ → Bool
 begins_with_at text = starts_with nat_eq text (codes "@")
 
 -- how many bytes are dropped in front
-abbrev pub dropped : List ℕ → ℕ
-dropped text = if begins_with_at text then 1 else 0
+abbrev pub dropped_count : List ℕ → ℕ
+dropped_count text = if begins_with_at text then 1 else 0
 
 abbrev pub without_at : List ℕ → List ℕ
-without_at text = drop (dropped text) text
+without_at text = drop (dropped_count text) text
 
 -- The place of a bad byte counts the dropped `@`.
 unfoldable pub name_of : List ℕ → Result (List ℕ) TextFault
 name_of text =
-    unless (first_fault (length (without_at text)) 64 (option_map (λ place. place + dropped text) (first_bad is_name_byte (without_at text))))
+    unless_refused (first_fault (length (without_at text)) 64 (option_map (λ place. place + dropped_count text) (first_bad is_name_byte (without_at text))))
     (Ok (map to_ascii_lowercase (without_at text)))
 
 -- DELIVERY IDENTIFIERS: 1 to 128 bytes from `!` to `~`.
 unfoldable pub delivery_id_of : List ℕ → Result (List ℕ) TextFault
-delivery_id_of text = unless (first_fault (length text) 128 (first_bad is_ascii_graphic text)) (Ok text)
+delivery_id_of text = unless_refused (first_fault (length text) 128 (first_bad is_ascii_graphic text)) (Ok text)
 
 -- COMMITS: exactly 40 of `0` to `9` and `a` to `f`. A text that ends too soon is bad at its end.
 abbrev pub is_commit_digit : ℕ → Bool
 is_commit_digit b = is_in_range 48 57 b || is_in_range 97 102 b
 
-abbrev pub first_bad_digit : List ℕ → Option ℕ
-first_bad_digit text = option_or (first_bad is_commit_digit text) (then_some (nat_lt (length text) 40) (length text))
+abbrev pub first_bad_or_end : List ℕ → Option ℕ
+first_bad_or_end text = option_or (first_bad is_commit_digit text) (then_some (nat_lt (length text) 40) (length text))
 
 unfoldable pub commit_of : List ℕ → Result (List ℕ) TextFault
-commit_of text = unless (first_fault (length text) 40 (first_bad_digit text)) (Ok text)
+commit_of text = unless_refused (first_fault (length text) 40 (first_bad_or_end text)) (Ok text)
 
 -- CHANGE NUMBERS: 1 to 10 decimal digits that do not begin with `0`, at most 4294967295.
 abbrev pub number_from : List ℕ → Result ℕ TextFault
@@ -77,4 +77,8 @@ number_from digits =
     else Ok (digits_value 10 digits)
 
 unfoldable pub change_no_of : List ℕ → Result ℕ TextFault
-change_no_of text = unless (first_fault (length text) 10 (first_bad is_ascii_digit text)) (number_from text)
+change_no_of text = unless_refused (first_fault (length text) 10 (first_bad is_ascii_digit text)) (number_from text)
+
+-- the same from a number
+abbrev pub change_no_from : ℕ → Option ℕ
+change_no_from number = if number == 0 || nat_lt 4294967295 number then None else Some number

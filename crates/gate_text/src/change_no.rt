@@ -1,21 +1,18 @@
-ghost use Rattle.std.specs.Prelude.{◌≡◌, ◌≢◌, ◌≤◌, ◌<◌, Err, IfOk, IsTrue, Some, length, nat_eq, refl};
-ghost use Rattle.std.specs.Ordering.{nat_cmp};
-ghost use Rattle.std.specs.Cmp.{partial_equiv_from_equiv, nat_eq_equiv, nat_cmp_total, unsigned_po, unsigned_ties};
+ghost use Rattle.std.specs.Prelude.{◌≡◌, ◌≢◌, ◌≤◌, ◌<◌, Err, IfOk, IsTrue, length};
 ghost use Rattle.std.specs.List.{list_all};
 ghost use Rattle.std.specs.Char.{is_ascii_digit};
 ghost use Rattle.gate_text.specs.SmallTexts as small;
-ghost use Rattle.gate_text.specs.SmallTexts.{Reads, change_no_of};
+ghost use Rattle.gate_text.specs.SmallTexts.{Reads, change_no_of, change_no_from};
 
 use crate::checks::first_fault;
 use crate::fault::TextFault;
-use std::cmp::Ordering;
 use std::marker::Model;
 
 // How many digits the greatest number has.
 const MAX_LEN: usize = 10;
 
 /// The number of a change (a pull request), from 1 to 4,294,967,295. A contract sees it as that number.
-#[derive(Clone, Copy, Debug)]
+#[derive(Clone, Copy, Debug, PartialEq, Eq, PartialOrd, Ord)]
 pub struct ChangeNo {
     value: u32,
 }
@@ -72,49 +69,21 @@ impl ChangeNo {
         })
     }
 
+    /// The change number of a number, and nothing for 0 and for more than 4,294,967,295.
+    pub fn from_number(number: u64) -> Option<ChangeNo>
+        ensures value { result ≡ change_no_from number }
+    {
+        match u32::try_from(number) {
+            Ok(0) | Err(_) => None,
+            Ok(value) => Some(ChangeNo { value }),
+        }
+    }
+
     /// The number, at least 1.
     pub fn number(self) -> u32
         ensures value { result ≡ self }
         ensures least { 1 ≤ result }
     {
         self.value
-    }
-}
-
-impl PartialEq for ChangeNo {
-    ghost eq = { nat_eq };
-
-    ghost laws = { partial_equiv_from_equiv nat_eq_equiv };
-
-    fn eq(&self, other: &ChangeNo) -> bool {
-        self.number() == other.number()
-    }
-}
-
-impl Eq for ChangeNo {
-    ghost laws = { nat_eq_equiv };
-}
-
-impl PartialOrd for ChangeNo {
-    ghost partial_cmp = { λ x y. Some (nat_cmp x y) };
-
-    ghost laws = { unsigned_po };
-
-    fn partial_cmp(&self, other: &ChangeNo) -> Option<Ordering> {
-        Some(self.cmp(other))
-    }
-}
-
-impl Ord for ChangeNo {
-    ghost cmp = { nat_cmp };
-
-    ghost total = { nat_cmp_total };
-
-    ghost matches_partial_cmp = { λ x y. refl };
-
-    ghost matches_eq = { unsigned_ties };
-
-    fn cmp(&self, other: &ChangeNo) -> Ordering {
-        self.number().cmp(&other.number())
     }
 }

@@ -9,7 +9,7 @@ pub enum Command {
     Withdraw,
 }
 
-/// What one command line of a comment says.
+/// One thing that a command line of a comment says.
 #[derive(Debug, Drop, PartialEq, Eq)]
 pub enum Spoken {
     /// A command.

@@ -1,4 +1,4 @@
-ghost use Rattle.std.specs.Prelude.{◌≡◌, ◌++◌, List, IfOk, OnOk};
+ghost use Rattle.std.specs.Prelude.{◌≡◌, ◌++◌, ℕ, List, IfOk, OnOk};
 ghost use Rattle.std.specs.Option.{option_copied};
 ghost use Rattle.std.specs.Str.Lines.{strip_carriage_return};
 ghost use Rattle.gate_text.specs.Reading as reading;
@@ -84,9 +84,10 @@ fn spoken_lines(alloc: Global, text: &str) -> Result<Vec<Spoken>, AllocError>
     Ok(spoken)
 }
 
-/// Reads a comment: what its command lines say, in their order. A command line begins with `bors`, in either case,
-/// and one space or colon; what follows, without spaces at its ends, is a command or one `Unknown`. All other lines
-/// say nothing.
+/// Reads a comment: what its command lines say, in their order, or `AllocError` where there is no memory for it. Lines
+/// end at a line feed, and one carriage return before it is dropped. A command line begins with `bors`, each letter in
+/// either case, and one space or colon; what follows, without spaces at its ends, is a command or one `Unknown`. All
+/// other lines say nothing. The commands are those of the bors-ng reference documentation.
 pub fn read_comment(alloc: Global, text: &str) -> Result<Vec<Spoken>, AllocError>
     // It says these commands.
     ensures said { IfOk result (λ spoken. CommentSays text.now spoken.items) }
@@ -99,3 +100,9 @@ pub fn read_comment(alloc: Global, text: &str) -> Result<Vec<Spoken>, AllocError
 {
     spoken_lines(alloc, text)
 }
+
+/// The law of comments: each text has exactly one reading.
+pub fn one_reading()
+    ensures { (text : List ℕ) → (spoken : List Spoken) × CommentSays text spoken
+        × ((others : List Spoken) → CommentSays text others → others ≡ spoken) }
+{}

@@ -44,23 +44,23 @@ fn first_bad_byte(text: &[u8]) -> Option<usize>
     text.iter().position(|byte| !is_digit(*byte))
 }
 
-// The place of the first byte that is no digit of a commit, or the end of a text that ends too soon.
-fn first_bad_digit(text: &[u8]) -> Option<usize>
-    ensures { result ≡ small.first_bad_digit text.now }
+// The same, or the end of a text that ends too soon.
+fn first_bad_or_end(text: &[u8]) -> Option<usize>
+    ensures { result ≡ small.first_bad_or_end text.now }
 {
     first_bad_byte(text).or((text.len() < LEN).then_some(text.len()))
 }
 
 impl Commit {
-    /// Reads the name of a commit. Refusals, in their order: `Empty`, `TooLong` (more than 40 bytes), `BadByte` (a
-    /// text of fewer than 40 good digits has its length as the place).
+    /// Reads the name of a commit: exactly 40 of `0` to `9` and `a` to `f`. Refusals, in their order: `Empty`, `TooLong`
+    /// (more than 40 bytes), `BadByte` (another byte; a text of fewer than 40 good digits has its length as the place).
     #[tactic(auto, using(crate::proofs::Refusals::refused), unfolding(crate::specs::SmallTexts::commit_of))]
     pub fn read(text: &str) -> Result<Commit, TextFault>
         ensures value { Reads result (commit_of text.now) }
         ensures no_memory { result ≢ Err TextFault.Memory }
     {
         let text = text.as_bytes();
-        if let Some(fault) = first_fault(text.len(), LEN, first_bad_digit(text)) {
+        if let Some(fault) = first_fault(text.len(), LEN, first_bad_or_end(text)) {
             return Err(fault);
         }
         let mut digits = [0; LEN];
@@ -70,7 +70,7 @@ impl Commit {
 
     /// The 40 digits.
     pub fn text(&self) -> &str
-        ensures { result.now ≡ self.now }
+        ensures value { result.now ≡ self.now }
     {
         match str::from_utf8(&self.digits) {
             Ok(text) => text,

@@ -35,10 +35,11 @@ fn first_bad_byte(text: &[u8]) -> Option<usize>
 }
 
 impl DeliveryId {
-    /// Reads an identifier. Refusals, in their order: `Empty`, `TooLong` (more than 128 bytes), `BadByte`, `Memory`.
+    /// Reads an identifier. Refusals, in their order: `Empty`, `TooLong` (more than 128 bytes), `BadByte` (no byte from
+    /// `!` to `~`), `Memory`.
     #[tactic(auto, using(crate::proofs::Refusals::refused), unfolding(crate::specs::SmallTexts::delivery_id_of))]
     pub fn read(alloc: Global, text: &str) -> Result<DeliveryId, TextFault>
-        ensures { Reads result (delivery_id_of text.now) }
+        ensures value { Reads result (delivery_id_of text.now) }
     {
         if let Some(fault) = first_fault(text.len(), MAX_LEN, first_bad_byte(text.as_bytes())) {
             return Err(fault);
@@ -50,14 +51,14 @@ impl DeliveryId {
 
     /// The identifier as it was read.
     pub fn text(&self) -> &str
-        ensures { result.now ≡ self.now }
+        ensures value { result.now ≡ self.now }
     {
         self.text.as_str()
     }
 
     /// A copy, or `AllocError` where there is no memory for it.
     pub fn copy(&self, alloc: Global) -> Result<DeliveryId, AllocError>
-        ensures { IfOk result (λ copy. copy ≡ self.now) }
+        ensures value { IfOk result (λ copy. copy ≡ self.now) }
     {
         Ok(DeliveryId {
             text: String::from_str(alloc, self.text())?,

@@ -1,4 +1,4 @@
-use std::alloc::{AllocError, AllocFailed};
+use std::alloc::AllocError;
 use thiserror::Error;
 
 /// Why a text was refused. The checks are made in the order of the variants, and the first that fails is answered.
@@ -10,8 +10,9 @@ pub enum TextFault {
     /// The text has more bytes than the most that its type allows.
     #[error("the text is too long")]
     TooLong,
-    /// The first byte that is not allowed stands at this place, counted from 0 in the text as handed in.
-    #[error("byte {0} is not allowed")]
+    /// No allowed byte stands at this place, counted from 0 in the text as handed in: it is that of the first byte that
+    /// isn't allowed or, where a commit has good digits but too few of them, its length.
+    #[error("no allowed byte at place {0}")]
     BadByte(usize),
     /// The digits are no change number: they begin with `0`, or the number is too great.
     #[error("the number is out of range")]
@@ -28,17 +29,6 @@ impl From<AllocError> for TextFault {
     ghost from_gives = { λ _ fault. fault ≡ Memory };
 
     fn from(_error: AllocError) -> TextFault {
-        TextFault::Memory
-    }
-}
-
-impl<T: Drop> From<AllocFailed<T>> for TextFault {
-    ghost use Rattle.std.specs.Prelude.{◌≡◌};
-    ghost use Rattle.gate_text.specs.declared.fault.TextFault.TheVariants.{Memory};
-
-    ghost from_gives = { λ _ fault. fault ≡ Memory };
-
-    fn from(_error: AllocFailed<T>) -> TextFault {
         TextFault::Memory
     }
 }

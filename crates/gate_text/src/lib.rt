@@ -13,12 +13,14 @@ mod names;
 mod spaces;
 #[cfg(test)]
 mod tests;
+mod text;
 
 pub use change_no::ChangeNo;
 pub use command::{Command, Spoken};
-pub use comment::read_comment;
+pub use comment::{one_reading, read_comment};
 pub use commit::Commit;
 pub use delivery_id::DeliveryId;
 pub use fault::TextFault;
 pub use name::Name;
 pub use names::Names;
+pub use text::Text;

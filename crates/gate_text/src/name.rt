@@ -17,7 +17,8 @@ use std::marker::Model;
 // The most bytes of a name.
 const MAX_LEN: usize = 64;
 
-/// The name of a person, in lower case and without `@`: 1 to 64 bytes. A contract sees it as the list of its bytes.
+/// The name of a person, in lower case and without `@`: 1 to 64 of the small ASCII letters, the digits and `-`, `_`, `.`,
+/// `[`, `]`. A contract sees it as the list of its bytes.
 #[derive(Debug, Drop)]
 pub struct Name {
     text: String,
@@ -58,11 +59,12 @@ fn lowercase(alloc: Global, text: &[u8]) -> Result<String, AllocError>
 }
 
 impl Name {
-    /// Reads a name; one leading `@` is dropped, and capitals become small letters. Refusals, in their order: `Empty`,
-    /// `TooLong` (more than 64 bytes without the `@`), `BadByte` (its place counts the `@`), `Memory`.
+    /// Reads a name: 1 to 64 ASCII letters, digits, `-`, `_`, `.`, `[`, `]`. One leading `@` is dropped, and capitals
+    /// become small letters. Refusals, in their order: `Empty`, `TooLong` (more than 64 bytes without the `@`), `BadByte`
+    /// (another byte; its place counts the `@`), `Memory`.
     #[tactic(auto, using(crate::proofs::Refusals::refused), unfolding(crate::specs::SmallTexts::name_of))]
     pub fn read(alloc: Global, text: &str) -> Result<Name, TextFault>
-        ensures { Reads result (name_of text.now) }
+        ensures value { Reads result (name_of text.now) }
     {
         let text = text.as_bytes();
         let dropped = usize::from(text.starts_with(b"@".as_slice()));
@@ -78,14 +80,14 @@ impl Name {
 
     /// The name, in lower case and without `@`.
     pub fn text(&self) -> &str
-        ensures { result.now ≡ self.now }
+        ensures value { result.now ≡ self.now }
     {
         self.text.as_str()
     }
 
     /// A copy, or `AllocError` where there is no memory for it.
     pub fn copy(&self, alloc: Global) -> Result<Name, AllocError>
-        ensures { IfOk result (λ copy. copy ≡ self.now) }
+        ensures value { IfOk result (λ copy. copy ≡ self.now) }
     {
         Ok(Name {
             text: String::from_str(alloc, self.text())?,

@@ -19,16 +19,16 @@ impl Model for Names {
 }
 
 impl Names {
-    /// The names, the first first.
+    /// The names, in their order.
     pub fn as_slice(&self) -> &[Name]
-        ensures { result.now ≡ self.now }
+        ensures value { result.now ≡ self.now }
     {
         self.items.as_slice()
     }
 
     /// The names as a `Vec`. It takes no memory.
     pub fn into_vec(self) -> Vec<Name>
-        ensures { result.items ≡ self }
+        ensures value { result.items ≡ self }
     {
         let Names { items } = self;
         items
@@ -36,7 +36,7 @@ impl Names {
 
     /// A copy, or `AllocError` where there is no memory for it.
     pub fn copy(&self, alloc: Global) -> Result<Names, AllocError>
-        ensures { IfOk result (λ copy. copy ≡ self.now) }
+        ensures value { IfOk result (λ copy. copy ≡ self.now) }
     {
         let mut items = Vec::new(alloc);
         for name in &self.items {

@@ -1,4 +1,6 @@
-use crate::{ChangeNo, Command, Commit, DeliveryId, Name, Names, Spoken, TextFault, read_comment};
+use crate::{
+    ChangeNo, Command, Commit, DeliveryId, Name, Names, Spoken, Text, TextFault, read_comment,
+};
 use std::test::Fail;
 
 const LETTERS_64: &str = "aaaaaaaaaaaaaaaaaaaaaaaaaaaaaaaaaaaaaaaaaaaaaaaaaaaaaaaaaaaaaaaa";
@@ -77,6 +79,29 @@ fn change_numbers(rt: HostRuntime) -> Result<(), Fail> {
         ("10000000000", TextFault::TooLong),
     ] {
         assert_eq!(rt; ChangeNo::read(text).err(), Some(fault), "{text:?}");
+    }
+    Ok(())
+}
+
+#[test]
+fn change_numbers_of_integers(rt: HostRuntime) {
+    for (number, change) in [
+        (0, None),
+        (1, Some(1)),
+        (4294967295, Some(4294967295)),
+        (4294967296, None),
+        (4294967297, None),
+        (18446744073709551615, None),
+    ] {
+        let found = ChangeNo::from_number(number).map(ChangeNo::number);
+        assert_eq!(rt; found, change, "{number}");
+    }
+}
+
+#[test]
+fn any_text_is_kept(rt: HostRuntime) -> Result<(), Fail> {
+    for text in ["", "bors r+\r\n", "é\0"] {
+        assert_eq!(rt; Text::from_str(rt.alloc(), text)?.as_str(), text);
     }
     Ok(())
 }

@@ -6,6 +6,8 @@ use Rattle.gate_rules.specs.View.{DeskView}
 use Rattle.gate_rules.proofs.desk.Desk.change.Goals as goal
 
 pub returns : goal.returns
-returns c =
-    c.get.ensures.value ∙ sym (get-entries nat_cmp_total c.self.inside.changes c.args.number)
-    ∙ ap (λ (desk : DeskView). map.get desk.changes c.args.number) c.self.view_is
+returns c = record {
+  value =
+      c.get.ensures.value ∙ sym (get-entries nat_cmp_total c.self.inside.changes c.args.number)
+      ∙ ap (λ (desk : DeskView). map.get desk.changes c.args.number) c.self.view_is;
+}

@@ -6,5 +6,5 @@ use Rattle.gate_rules.specs.View.{DeskView, with_change}
 use Rattle.gate_rules.proofs.desk.Desk.put_change.Goals as goal
 
 pub returns-clause-ok : goal.returns-clause-ok
-returns-clause-ok c = rw (inserted nat_cmp_total nat_cmp-IsAntisymmetric c.self.inside.changes c.insert.new.self c.args.number _ c.in_ok-insert.ensures.updates, c.in_ok-copy.ensures)
+returns-clause-ok c = rw (inserted nat_cmp_total nat_cmp-IsAntisymmetric c.self.inside.changes c.insert.new.self c.args.number _ c.in_ok-insert.ensures.updates, c.in_ok-copy.ensures.value)
     (ap (λ (desk : DeskView). with_change desk c.args.number c.args.change.now) c.self.view_is)

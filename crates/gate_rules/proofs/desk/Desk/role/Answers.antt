@@ -7,4 +7,4 @@ use Rattle.gate_rules.proofs.desk.Desk.role.Goals as goal
 pub returns : goal.returns
 returns c =
     let found = c.copied.ensures ∙ c.get.ensures.value ∙ sym (get-entries nat_list_cmp_total c.self.inside.roles c.args.person.now) in
-    rw (c.unwrap_or.ensures, found) (ap (λ (desk : DeskView). role_on desk c.args.person.now) c.self.view_is)
+    record { value = rw (c.unwrap_or.ensures, found) (ap (λ (desk : DeskView). role_on desk c.args.person.now) c.self.view_is) }

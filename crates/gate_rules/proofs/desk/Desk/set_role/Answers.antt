@@ -25,5 +25,5 @@ pub returns-clause-ok : goal.returns-clause-ok
 returns-clause-ok c =
     let person = c.args.person.now in
     let member : is_member c.args.role ≡ true = search rules in
-    rw (inserted nat_list_cmp_total (slice_cmp-IsAntisymmetric nat_cmp-IsAntisymmetric) c.self.inside.roles c.insert.new.self _ c.args.role c.in_ok-insert.ensures.updates, c.in_ok-copy.ensures)
+    rw (inserted nat_list_cmp_total (slice_cmp-IsAntisymmetric nat_cmp-IsAntisymmetric) c.self.inside.roles c.insert.new.self _ c.args.role c.in_ok-insert.ensures.updates, c.in_ok-copy.ensures.value)
     (ap (λ (desk : DeskView). record desk { roles = map.insert desk.roles person c.args.role }) c.self.view_is ∙ set_to c.args.self.now person c.args.role true member)

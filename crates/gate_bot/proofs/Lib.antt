@@ -1,0 +1,8 @@
+pub mod Attributes
+pub mod Ending
+pub mod Kept
+pub mod Law
+pub mod Progress
+pub mod Splitting
+pub mod Taking
+pub mod Whole

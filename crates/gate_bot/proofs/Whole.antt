@@ -1,0 +1,33 @@
+-- Nothing that is written holds a float, so its text is compact.
+use Rattle.std.proofs.Common.{◌≡◌, false, List, [], ◌∷◌, map, refl}
+use Rattle.serde_json.specs.View.{items_of}
+use Rattle.serde_json.specs.Written.{has_float, items_have_float}
+use Rattle.gate_rules.specs.declared.rule.Rule.TheVariants.{UnknownChange, NotACommand, NotPermitted, NotOpen, NoSettings, NotApproved, AlreadyOpen}
+use Rattle.gate_bot.specs.Answers.{reply_data, answer_data, error_data}
+use Rattle.gate_bot.specs.declared.reading.DeliveryFault.{DeliveryFault}
+use Rattle.gate_bot.specs.declared.reading.DeliveryFault.TheVariants.{NotJson, BadField, UnknownEvent, Memory}
+use Rattle.gate_bot.specs.declared.reply.Reply.{Reply}
+use Rattle.gate_bot.specs.declared.reply.Reply.TheVariants.{Done, Denied}
+
+reply_whole : (reply : Reply) → has_float (reply_data reply) ≡ false
+reply_whole Done = refl
+reply_whole (Denied UnknownChange) = refl
+reply_whole (Denied NotACommand) = refl
+reply_whole (Denied (NotPermitted level)) = refl
+reply_whole (Denied NotOpen) = refl
+reply_whole (Denied NoSettings) = refl
+reply_whole (Denied NotApproved) = refl
+reply_whole (Denied AlreadyOpen) = refl
+
+replies_whole : (replies : List Reply) → items_have_float (items_of (map reply_data replies)) ≡ false
+replies_whole [] = refl
+replies_whole (reply ∷ replies) = rw (reply_whole reply) (replies_whole replies)
+
+pub answer_whole : (replies : List Reply) → has_float (answer_data replies) ≡ false
+answer_whole replies = replies_whole replies
+
+pub error_whole : (fault : DeliveryFault) → has_float (error_data fault) ≡ false
+error_whole NotJson = refl
+error_whole (BadField field) = refl
+error_whole UnknownEvent = refl
+error_whole Memory = refl

@@ -1,0 +1,36 @@
+use Rattle.std.proofs.Common.{◌≡◌, ◌<◌, ◌++◌, length, take, arith}
+use Rattle.std.proofs.KnownBytes.{Consumes-trans}
+use Rattle.std.proofs.lemmas.List.{length-take}
+use Rattle.gate_bot.proofs.Ending.{within_served, too_much}
+use Rattle.gate_bot.proofs.Splitting.{length-ended_lines}
+use Rattle.gate_bot.proofs.lines.serve_lines.Goals as goal
+
+pub finish-requires : goal.finish-requires
+finish-requires g c =
+    let so_far = c.chunks.invariant in
+    omega (arith, length-ended_lines so_far.0, so_far.2.count, so_far.3)
+
+pub returns-then-left-eq0-clause-served : goal.returns-then-left-eq0-clause-served
+returns-then-left-eq0-clause-served g c =
+    let so_far = c.chunks.invariant in
+    let chunk = take c.in_ok-n.n c.read_part.new.buffer in
+    let size : length so_far.0 ≡ 4294967296 = omega (arith, so_far.3, c.if-left-eq0.true) in
+    let some : 0 < length chunk = omega (arith, length-take c.in_ok-n.n c.read_part.new.buffer, c.read_part.auto.buffer, c.if-n-eq0.false, c.in_ok-n.ensures.0, c.room_for.ensures.within) in (
+      so_far.0 ++ chunk,
+      Consumes-trans _ _ _ so_far.0 chunk so_far.1 c.in_ok-n.ensures.1,
+      too_much c.args.bench.now so_far.0 chunk c.chunks.bench c.chunks.line c.chunks.count _ _ size some so_far.2,
+    )
+
+pub take_chunk-requires : goal.take_chunk-requires
+take_chunk-requires g c =
+    let so_far = c.chunks.invariant in
+    omega (arith, length-ended_lines so_far.0, so_far.2.count, so_far.3, length-take c.in_ok-n.n c.read_part.new.buffer, c.in_ok-n.ensures.0, c.room_for.ensures.left)
+
+pub returns-in-Err-clause-served : goal.returns-in-Err-clause-served
+returns-in-Err-clause-served g c =
+    let so_far = c.chunks.invariant in
+    let chunk = take c.in_ok-n.n c.read_part.new.buffer in (
+      so_far.0 ++ chunk,
+      Consumes-trans _ _ _ so_far.0 chunk so_far.1 c.in_ok-n.ensures.1,
+      within_served c.in-Err.fault c.args.bench.now so_far.0 chunk c.take_chunk.new.bench _ _ (c.in-Err.ensures.taken c.args.bench.now so_far.0 _ so_far.2),
+    )

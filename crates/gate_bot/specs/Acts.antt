@@ -1,0 +1,17 @@
+-- THE ACTS OF AN EVENT.
+use Rattle.std.specs.Prelude.{ℕ, List, [], ◌∷◌, map}
+use Rattle.gate_text.specs.Reading.{comment_says}
+use Rattle.gate_bot.specs.declared.act.Act.{Act}
+use Rattle.gate_bot.specs.declared.act.Act.TheVariants as act
+use Rattle.gate_bot.specs.declared.delivery.Event.{Event}
+use Rattle.gate_bot.specs.declared.delivery.Event.TheVariants.{Comment, Role, Opened}
+
+-- one act for each command line of a comment, in order
+abbrev pub spoken_acts_of : ℕ → List ℕ → List ℕ → List Act
+spoken_acts_of change person text = map (λ spoken. act.Spoken change person spoken) (comment_says text)
+
+-- one act for a fact
+abbrev pub acts_of_event : Event → List Act
+acts_of_event (Comment change person text) = spoken_acts_of change person text
+acts_of_event (Role person role) = act.Role person role ∷ []
+acts_of_event (Opened change author head) = act.Opened change author head ∷ []

@@ -1,0 +1,150 @@
+-- DELIVERIES: the delivery that a text is, as JSON (RFC 8259), or why it is none.
+use Rattle.std.specs.Prelude.{◌≡◌, ℕ, List, Option, Some, None, Result, Ok, Err, option_and_then, codes, if◌then◌else◌}
+use Rattle.std.specs.Result.{result_ok}
+use Rattle.std.specs.Str.{bytes_eq, is_utf8}
+use Rattle.serde_json.specs.Data.{Data, object}
+use Rattle.serde_json.specs.Find.{get, as_str, as_u64, as_number}
+use Rattle.serde_json.specs.Read.{read}
+use Rattle.gate_text.specs.SmallTexts.{name_of, commit_of, delivery_id_of, change_no_from}
+use Rattle.gate_text.specs.declared.fault.TextFault.{TextFault}
+use Rattle.gate_text.specs.declared.fault.TextFault.TheVariants as text_fault
+use Rattle.serde_json.specs.View.{view}
+use Rattle.serde_json.specs.declared.value.Value.{Value}
+use Rattle.std.specs.Borrow.{Bor}
+use Rattle.gate_rules.specs.declared.role.Role.{Role as RoleOf}
+use Rattle.gate_rules.specs.declared.role.Role.TheVariants.{Nobody, Member, Reviewer}
+use Rattle.gate_bot.specs.declared.delivery.Delivery.{Delivery}
+use Rattle.gate_bot.specs.declared.delivery.Event.{Event}
+use Rattle.gate_bot.specs.declared.delivery.Event.TheVariants.{Comment, Role, Opened}
+use Rattle.gate_bot.specs.declared.reading.Field.{Field}
+use Rattle.gate_bot.specs.declared.reading.Field.TheVariants as field
+use Rattle.gate_bot.specs.declared.reading.DeliveryFault.{DeliveryFault}
+use Rattle.gate_bot.specs.declared.reading.DeliveryFault.TheVariants.{NotJson, BadField, UnknownEvent, Memory}
+
+-- a step that may refuse, and what follows it
+infixl 10 ◌>>=◌
+abbrev pub ◌>>=◌ : {A B : Type 0} → Result A DeliveryFault → (A → Result B DeliveryFault) → Result B DeliveryFault
+Ok x >>= f = f x
+Err fault >>= f = Err fault
+
+-- What `read_delivery` answers where `reading` is what the text says. Want of memory is `serde_json`'s to meet.
+abbrev pub Reads : {X : Type 0} → Result X DeliveryFault → Result X DeliveryFault → Type 0
+Reads (Ok value) reading = reading ≡ Ok value
+Reads (Err Memory) reading = Unit {0}
+Reads (Err NotJson) reading = reading ≡ Err NotJson
+Reads (Err (BadField name)) reading = reading ≡ Err (BadField name)
+Reads (Err UnknownEvent) reading = reading ≡ Err UnknownEvent
+
+-- FIELDS
+abbrev pub field_name : Field → List ℕ
+field_name field.Id = codes "id"
+field_name field.Event = codes "event"
+field_name field.Change = codes "change"
+field_name field.Person = codes "person"
+field_name field.Text = codes "text"
+field_name field.Role = codes "role"
+field_name field.Author = codes "author"
+field_name field.Head = codes "head"
+
+-- a value that has to be there, or the refusal that names its field
+abbrev pub required : {X : Type 0} → Field → Option X → Result X DeliveryFault
+required name None = Err (BadField name)
+required name (Some value) = Ok value
+
+abbrev pub text_at : Field → Data → Result (List ℕ) DeliveryFault
+text_at name d = required name (option_and_then as_str (get (field_name name) d))
+
+abbrev pub id_at : Data → Result (List ℕ) DeliveryFault
+id_at d = do
+  text ← text_at field.Id d
+  required field.Id (result_ok (delivery_id_of text))
+
+-- a whole number written in digits alone
+abbrev pub change_at : Data → Result ℕ DeliveryFault
+change_at d = required field.Change (option_and_then change_no_from (option_and_then as_u64 (option_and_then as_number (get (field_name field.Change) d))))
+
+abbrev pub name_at : Field → Data → Result (List ℕ) DeliveryFault
+name_at name d = do
+  text ← text_at name d
+  required name (result_ok (name_of text))
+
+abbrev pub head_at : Data → Result (List ℕ) DeliveryFault
+head_at d = do
+  text ← text_at field.Head d
+  required field.Head (result_ok (commit_of text))
+
+abbrev pub role_called : List ℕ → Option RoleOf
+role_called text =
+    if bytes_eq text (codes "nobody") then Some Nobody
+    else (if bytes_eq text (codes "member") then Some Member
+    else (if bytes_eq text (codes "reviewer") then Some Reviewer
+    else None))
+
+abbrev pub role_at : Data → Result RoleOf DeliveryFault
+role_at d = do
+  text ← text_at field.Role d
+  required field.Role (role_called text)
+
+-- EVENTS: the fields of each, in the order in which they are checked
+abbrev pub comment_in : Data → Result Event DeliveryFault
+comment_in d = do
+  change ← change_at d
+  person ← name_at field.Person d
+  text ← text_at field.Text d
+  Ok (Comment change person text)
+
+abbrev pub role_in : Data → Result Event DeliveryFault
+role_in d = do
+  person ← name_at field.Person d
+  role ← role_at d
+  Ok (Role person role)
+
+abbrev pub opened_in : Data → Result Event DeliveryFault
+opened_in d = do
+  change ← change_at d
+  author ← name_at field.Author d
+  head ← head_at d
+  Ok (Opened change author head)
+
+abbrev pub event_called : List ℕ → Data → Result Event DeliveryFault
+event_called kind d =
+    if bytes_eq kind (codes "comment") then comment_in d
+    else (if bytes_eq kind (codes "role") then role_in d
+    else (if bytes_eq kind (codes "opened") then opened_in d
+    else Err UnknownEvent))
+
+-- DELIVERIES: the identifier first, then the event and its fields
+abbrev pub delivery_in : Data → Result Delivery DeliveryFault
+delivery_in d = do
+  id ← id_at d
+  kind ← text_at field.Event d
+  event ← event_called kind d
+  Ok (record { id = id; event = event })
+
+-- The text has to be UTF-8, JSON, and an object.
+abbrev pub object_in : Option Data → Result Data DeliveryFault
+object_in (Some (object members)) = Ok (object members)
+object_in _ = Err NotJson
+
+abbrev pub object_of : List ℕ → Result Data DeliveryFault
+object_of text = if is_utf8 text then object_in (read text) else Err NotJson
+
+unfoldable pub delivery_of : List ℕ → Result Delivery DeliveryFault
+delivery_of text = object_of text >>= delivery_in
+
+-- WHAT THE CODE HOLDS, as clauses see it: a text that was found, an object that was read, a small text at a field
+abbrev pub now_of : Result (Bor (List ℕ)) DeliveryFault → Result (List ℕ) DeliveryFault
+now_of (Ok text) = Ok text.now
+now_of (Err fault) = Err fault
+
+abbrev pub view_of : Result Value DeliveryFault → Result Data DeliveryFault
+view_of (Ok value) = Ok (view value)
+view_of (Err fault) = Err fault
+
+abbrev pub at_field : {X : Type 0} → Field → Result X TextFault → Result X DeliveryFault
+at_field name (Ok value) = Ok value
+at_field name (Err text_fault.Memory) = Err Memory
+at_field name (Err text_fault.Empty) = Err (BadField name)
+at_field name (Err text_fault.TooLong) = Err (BadField name)
+at_field name (Err (text_fault.BadByte place)) = Err (BadField name)
+at_field name (Err text_fault.BadNumber) = Err (BadField name)

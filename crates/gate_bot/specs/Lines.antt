@@ -1,0 +1,115 @@
+-- LINES: what is written for the lines that were read. A text is seen whole; the code takes it byte by byte.
+use Rattle.std.specs.Prelude.{◌≡◌, ◌⊎◌, ℕ, ◌<◌, ◌==◌, ◌&&◌, not, nat_lt, List, [], ◌∷◌, ◌++◌, length, take, Bool, Option, Result, Ok, Err, IsTrue, codes, if◌then◌else◌}
+use Rattle.std.specs.Io.KnownBytes.{Appends}
+use Rattle.gate_bot.specs.Acts.{acts_of_event}
+use Rattle.gate_bot.specs.Answers.{answer_text_of, error_text_of}
+use Rattle.gate_bot.specs.Bench.{BenchView}
+use Rattle.gate_bot.specs.Deliveries.{delivery_of}
+use Rattle.gate_bot.specs.Machine.{replies_to, after_all}
+use Rattle.gate_bot.specs.declared.delivery.Delivery.{Delivery}
+use Rattle.gate_bot.specs.declared.fault.Fault.TheVariants as fault
+use Rattle.gate_bot.specs.declared.lines.HookFault.{HookFault}
+use Rattle.gate_bot.specs.declared.lines.HookFault.TheVariants.{Gate, Read, Write, TooMuch}
+use Rattle.gate_bot.specs.declared.reading.DeliveryFault.{DeliveryFault}
+
+-- THE LINES OF A TEXT
+abbrev pub begin_with : ℕ → List (List ℕ) → List (List ℕ)
+begin_with b [] = []
+begin_with b (line ∷ lines) = (b ∷ line) ∷ lines
+
+-- the lines that a line feed ends, without it
+abbrev pub ended_lines : List ℕ → List (List ℕ)
+ended_lines [] = []
+ended_lines (b ∷ bs) = if b == 10 then [] ∷ ended_lines bs else begin_with b (ended_lines bs)
+
+-- what stands behind the last line feed
+abbrev pub open_line : List ℕ → List ℕ
+open_line [] = []
+open_line (b ∷ bs) = if (length (ended_lines bs) == 0) && not (b == 10) then b ∷ open_line bs else open_line bs
+
+-- bytes behind the last line feed are a line, if there are any
+abbrev pub last_line : List ℕ → List (List ℕ)
+last_line [] = []
+last_line (b ∷ bs) = (b ∷ bs) ∷ []
+
+abbrev pub lines_of : List ℕ → List (List ℕ)
+lines_of text = ended_lines text ++ last_line (open_line text)
+
+-- WHAT A LINE IS ANSWERED
+abbrev pub max_line : ℕ
+max_line = 65536
+
+abbrev pub is_too_long : List ℕ → Bool
+is_too_long line = nat_lt max_line (length line)
+
+abbrev pub too_long_text : List ℕ
+too_long_text = codes "{\"error\":\"LineTooLong\",\"number\":5}"
+
+-- a delivery by its answer, and a line that is none by its error
+abbrev pub text_of : BenchView → Result Delivery DeliveryFault → List ℕ
+text_of bench (Ok delivery) = answer_text_of (replies_to bench.desk (acts_of_event delivery.event))
+text_of bench (Err fault) = error_text_of fault
+
+abbrev pub line_text : BenchView → List ℕ → List ℕ
+line_text bench line = if is_too_long line then too_long_text else text_of bench (delivery_of line)
+
+-- the bench after it: a line that is no delivery changes nothing
+abbrev pub with_desk : BenchView → Result Delivery DeliveryFault → BenchView
+with_desk bench (Ok delivery) = record bench { desk = after_all bench.desk (acts_of_event delivery.event) }
+with_desk bench (Err fault) = bench
+
+abbrev pub after_line : BenchView → List ℕ → BenchView
+after_line bench line = if is_too_long line then bench else with_desk bench (delivery_of line)
+
+-- LINES IN ORDER: each line's text and a line feed, and the bench after all
+abbrev pub text_for : BenchView → List (List ℕ) → List ℕ
+text_for bench [] = []
+text_for bench (line ∷ lines) = (line_text bench line ++ 10 ∷ []) ++ text_for (after_line bench line) lines
+
+abbrev pub after_lines : BenchView → List (List ℕ) → BenchView
+after_lines bench [] = bench
+after_lines bench (line ∷ lines) = after_lines (after_line bench line) lines
+
+-- WHAT SERVING LEAVES, of the input that was consumed
+abbrev pub max_input : ℕ
+max_input = 4294967296
+
+-- the lines were served, one after the other: this bench, and this text written
+abbrev pub HasServed : BenchView → List (List ℕ) → BenchView → Option (List ℕ) → Option (List ℕ) → Type 0
+HasServed old lines new before after = (new ≡ after_lines old lines) × Appends before after (text_for old lines)
+
+-- Want of memory at a line that comes after those served: nothing of its answer is written. The delivery may have been
+-- answered already; or the bench met the fault, and has stopped; or neither.
+abbrev pub StopsForMemory : BenchView → List ℕ → BenchView → Type 0
+StopsForMemory old line new = (new ≡ old) ⊎ ((new ≡ after_line old line) ⊎ IsTrue new.stopped)
+
+pub record StopsAtGate (old : BenchView) (input : List ℕ) (new : BenchView) (before after : Option (List ℕ)) : Type 0 where
+  pub served : List (List ℕ)
+  pub line : List ℕ
+  pub others : List (List ℕ)
+  pub lines : lines_of input ≡ served ++ line ∷ others
+  pub bench : StopsForMemory (after_lines old served) line new
+  pub written : Appends before after (text_for old served)
+
+-- The writer refused a part of a line's text: a prefix of the text due is written, and the line has acted.
+pub record StopsAtWrite (old : BenchView) (input : List ℕ) (new : BenchView) (before after : Option (List ℕ)) : Type 0 where
+  pub served : List (List ℕ)
+  pub line : List ℕ
+  pub others : List (List ℕ)
+  pub lines : lines_of input ≡ served ++ line ∷ others
+  pub bench : new ≡ after_line (after_lines old served) line
+  pub taken : ℕ
+  pub written : Appends before after (text_for old served ++ take taken (line_text (after_lines old served) line ++ 10 ∷ []))
+
+abbrev pub IsServed : Result ℕ HookFault → BenchView → List ℕ → BenchView → Option (List ℕ) → Option (List ℕ) → Type 0
+-- all lines are answered, and counted
+IsServed (Ok count) old input new before after = (count ≡ length (lines_of input)) × HasServed old (lines_of input) new before after
+-- the reader failed: a line that isn't complete is dropped
+IsServed (Err Read) old input new before after = HasServed old (ended_lines input) new before after
+-- there is more input than may be read: the lines that end within the limit are answered
+IsServed (Err TooMuch) old input new before after = (max_input < length input) × HasServed old (ended_lines (take max_input input)) new before after
+-- the gate can only want memory
+IsServed (Err (Gate fault.Memory)) old input new before after = StopsAtGate old input new before after
+IsServed (Err (Gate fault.Store)) old input new before after = ⊥
+IsServed (Err (Gate fault.Full)) old input new before after = ⊥
+IsServed (Err Write) old input new before after = StopsAtWrite old input new before after

@@ -1,0 +1,73 @@
+-- THE MACHINE: what one act is answered on a desk, and the desk after it.
+use Rattle.std.specs.Prelude.{◌≡◌, ℕ, not, List, [], ◌∷◌, Option, Some, None}
+use Rattle.std.specs.FinMap as map
+use Rattle.std.specs.Option.{option_map}
+use Rattle.gate_text.specs.declared.command.Command.TheVariants.{Ping, Approve, Withdraw}
+use Rattle.gate_text.specs.declared.command.Spoken.TheVariants.{Known, Unknown}
+use Rattle.gate_rules.specs.Rules.{Look, unless, is_open, rule_of}
+use Rattle.gate_rules.specs.View.{DeskView, with_role, with_change, look}
+use Rattle.gate_rules.specs.declared.change.Change.{Change}
+use Rattle.gate_rules.specs.declared.change.Phase.TheVariants as phase
+use Rattle.gate_rules.specs.declared.rule.Rule.{Rule}
+use Rattle.gate_rules.specs.declared.rule.Rule.TheVariants.{AlreadyOpen}
+use Rattle.gate_bot.specs.declared.act.Act.{Act}
+use Rattle.gate_bot.specs.declared.act.Act.TheVariants.{Spoken, Role, Opened}
+use Rattle.gate_bot.specs.declared.reply.Reply.{Reply}
+use Rattle.gate_bot.specs.declared.reply.Reply.TheVariants.{Done, Denied}
+
+-- The rule that denies an act, if one does.
+abbrev pub broken : Look → Act → Option Rule
+broken s (Spoken change person spoken) = rule_of s person change spoken
+broken s (Role person role) = None
+broken s (Opened change author head) = unless (not (is_open s change)) AlreadyOpen
+
+-- An act that no rule denies is done.
+abbrev pub answered : Option Rule → Reply
+answered None = Done
+answered (Some rule) = Denied rule
+
+-- the change without its approval
+abbrev pub withdrawn : Change → Change
+withdrawn change = record change { approved = None }
+
+-- a change that was just opened
+abbrev pub just_opened : List ℕ → List ℕ → Change
+just_opened author head = record { author = author; head = head; phase = phase.Opened; approved = None }
+
+-- the desk with one change altered, if it is there
+abbrev pub with_altered : DeskView → ℕ → Option Change → DeskView
+with_altered desk number None = desk
+with_altered desk number (Some change) = with_change desk number change
+
+-- What an act does that no rule denies. An approval never acts yet, since no settings can be accepted.
+abbrev pub effect : DeskView → Act → DeskView
+effect desk (Spoken change person Unknown) = desk
+effect desk (Spoken change person (Known Ping)) = desk
+effect desk (Spoken change person (Known Approve)) = desk
+effect desk (Spoken change person (Known Withdraw)) = with_altered desk change (option_map withdrawn (map.get desk.changes change))
+effect desk (Role person role) = with_role desk person role
+effect desk (Opened change author head) = with_change desk change (just_opened author head)
+
+-- the reply to an act, and the desk after it: a denied act changes nothing
+abbrev pub reply_to : DeskView → Act → Reply
+reply_to desk act = answered (broken (look desk) act)
+
+abbrev pub unless_denied : Option Rule → DeskView → DeskView → DeskView
+unless_denied None desk done = done
+unless_denied (Some rule) desk done = desk
+
+abbrev pub after : DeskView → Act → DeskView
+after desk act = unless_denied (broken (look desk) act) desk (effect desk act)
+
+-- A step of the machine.
+abbrev pub Step : DeskView → Act → Reply → DeskView → Type 0
+Step old act reply new = (reply ≡ reply_to old act) × (new ≡ after old act)
+
+-- ACTS IN ORDER: their replies, and the desk after all
+abbrev pub replies_to : DeskView → List Act → List Reply
+replies_to desk [] = []
+replies_to desk (act ∷ acts) = reply_to desk act ∷ replies_to (after desk act) acts
+
+abbrev pub after_all : DeskView → List Act → DeskView
+after_all desk [] = desk
+after_all desk (act ∷ acts) = after_all (after desk act) acts

@@ -1,0 +1,65 @@
+-- Serving in mid-course, for the contracts of the functions that `serve_lines` is made of.
+use Rattle.std.specs.Prelude.{◌≡◌, ◌≤◌, ℕ, List, [], ◌∷◌, ◌++◌, length, take, Option, Result, Ok, Err}
+use Rattle.std.specs.Io.KnownBytes.{Appends, Consumes, Keeps, IsAtEnd}
+use Rattle.gate_bot.specs.Bench.{BenchView}
+use Rattle.gate_bot.specs.Lines.{ended_lines, open_line, line_text, after_line, text_for, after_lines, StopsForMemory}
+use Rattle.gate_bot.specs.declared.fault.Fault.TheVariants as fault
+use Rattle.gate_bot.specs.declared.lines.HookFault.{HookFault}
+use Rattle.gate_bot.specs.declared.lines.HookFault.TheVariants.{Gate, Read, Write, TooMuch}
+
+-- a line was answered, or its answer was refused
+abbrev pub IsAnswered : Result (Unit {0}) HookFault → BenchView → List ℕ → BenchView → Option (List ℕ) → Option (List ℕ) → Type 0
+IsAnswered (Ok _) old line new before after = (new ≡ after_line old line) × Appends before after (line_text old line ++ 10 ∷ [])
+IsAnswered (Err (Gate fault.Memory)) old line new before after = StopsForMemory old line new × Appends before after []
+IsAnswered (Err (Gate fault.Store)) old line new before after = ⊥
+IsAnswered (Err (Gate fault.Full)) old line new before after = ⊥
+IsAnswered (Err Write) old line new before after = (new ≡ after_line old line) × ((taken : ℕ) × Appends before after (take taken (line_text old line ++ 10 ∷ [])))
+IsAnswered (Err Read) old line new before after = ⊥
+IsAnswered (Err TooMuch) old line new before after = ⊥
+
+-- A part of the input was read into the front of a buffer, at most `room` bytes; or the reader failed.
+abbrev pub IsRead : Result ℕ HookFault → Option (List ℕ) → Option (List ℕ) → List ℕ → ℕ → Type 0
+IsRead (Ok n) before after buffer room = (n ≤ room) × Consumes before after (take n buffer) × (n ≡ 0 → IsAtEnd after)
+IsRead (Err Read) before after buffer room = Keeps before after
+IsRead (Err (Gate fault)) before after buffer room = ⊥
+IsRead (Err Write) before after buffer room = ⊥
+IsRead (Err TooMuch) before after buffer room = ⊥
+
+-- the bytes that are kept of a line
+abbrev pub kept_of : List ℕ → List ℕ
+kept_of line = take 65537 line
+
+-- All lines that end in the input are served and counted, and what follows the last is kept.
+pub record IsUpTo (opened : BenchView) (input : List ℕ) (now : BenchView) (kept : List ℕ) (counted : ℕ) (before after : Option (List ℕ)) : Type 0 where
+  pub bench : now ≡ after_lines opened (ended_lines input)
+  pub line : kept ≡ kept_of (open_line input)
+  pub count : counted ≡ length (ended_lines input)
+  pub written : Appends before after (text_for opened (ended_lines input))
+
+-- The answer to the line that is open was refused, where all before it are served.
+abbrev pub StopsBehind : HookFault → BenchView → List ℕ → BenchView → Option (List ℕ) → Option (List ℕ) → Type 0
+StopsBehind (Gate fault.Memory) opened input new before after =
+    StopsForMemory (after_lines opened (ended_lines input)) (open_line input) new × Appends before after (text_for opened (ended_lines input))
+StopsBehind (Gate fault.Store) opened input new before after = ⊥
+StopsBehind (Gate fault.Full) opened input new before after = ⊥
+StopsBehind Write opened input new before after =
+    (new ≡ after_line (after_lines opened (ended_lines input)) (open_line input))
+    × ((taken : ℕ) × Appends before after (text_for opened (ended_lines input) ++ take taken (line_text (after_lines opened (ended_lines input)) (open_line input) ++ 10 ∷ [])))
+StopsBehind Read opened input new before after = ⊥
+StopsBehind TooMuch opened input new before after = ⊥
+
+-- one more byte
+abbrev pub TakesByte : Result (Unit {0}) HookFault → BenchView → List ℕ → ℕ → BenchView → List ℕ → ℕ → Option (List ℕ) → Option (List ℕ) → Type 0
+TakesByte (Ok _) opened input byte bench line count before after = IsUpTo opened (input ++ byte ∷ []) bench line count before after
+TakesByte (Err fault) opened input byte bench line count before after = (byte ≡ 10) × StopsBehind fault opened input bench before after
+
+-- more bytes: the fault came at a line feed among them
+pub record StopsWithin (fault : HookFault) (opened : BenchView) (input taken : List ℕ) (bench : BenchView) (before after : Option (List ℕ)) : Type 0 where
+  pub front : List ℕ
+  pub others : List ℕ
+  pub bytes : taken ≡ front ++ 10 ∷ others
+  pub stops : StopsBehind fault opened (input ++ front) bench before after
+
+abbrev pub TakesBytes : Result (Unit {0}) HookFault → BenchView → List ℕ → List ℕ → BenchView → List ℕ → ℕ → Option (List ℕ) → Option (List ℕ) → Type 0
+TakesBytes (Ok _) opened input bytes bench line count before after = IsUpTo opened (input ++ bytes) bench line count before after
+TakesBytes (Err fault) opened input bytes bench line count before after = StopsWithin fault opened input bytes bench before after

@@ -1,0 +1,92 @@
+ghost use Rattle.std.specs.Prelude.{◌≡◌, IfOk, OnOk, IsNone};
+ghost use Rattle.std.specs.FinMap as map;
+ghost use Rattle.std.specs.Option.{option_map};
+ghost use Rattle.gate_rules.specs.View.{look};
+ghost use Rattle.gate_bot.specs.Machine.{broken, effect, with_altered, withdrawn, reply_to, after, replies_to, after_all};
+
+use crate::act::Act;
+use crate::reply::Reply;
+use gate_rules::{Change, Desk, Phase, Rule};
+use gate_text::{ChangeNo, Command, Spoken};
+use std::alloc::{AllocError, Global};
+
+/// Lets acts step on the desk in order, and answers their replies. After `AllocError` some of them have stepped.
+pub fn step_all(desk: &mut Desk, alloc: Global, acts: &[Act]) -> Result<Vec<Reply>, AllocError>
+    ensures replies { IfOk result (λ replies. replies.items ≡ replies_to desk.old acts.now) }
+    ensures desk { OnOk result (desk.new ≡ after_all desk.old acts.now) }
+{
+    let mut replies = Vec::new(alloc);
+    for act in acts {
+        replies.push(step(desk, alloc, act)?)?;
+    }
+    Ok(replies)
+}
+
+// One act: it is denied by the first of its rules that fails, or it has its effect.
+fn step(desk: &mut Desk, alloc: Global, act: &Act) -> Result<Reply, AllocError>
+    ensures reply { IfOk result (λ reply. reply ≡ reply_to desk.old act.now) }
+    ensures desk { OnOk result (desk.new ≡ after desk.old act.now) }
+{
+    match rule_of(desk, alloc, act)? {
+        Some(rule) => Ok(Reply::Denied(rule)),
+        None => {
+            perform(desk, alloc, act)?;
+            Ok(Reply::Done)
+        }
+    }
+}
+
+// The rule that denies an act, if one does.
+fn rule_of(desk: &Desk, alloc: Global, act: &Act) -> Result<Option<Rule>, AllocError>
+    ensures { IfOk result (λ rule. rule ≡ broken (look desk.now) act.now) }
+{
+    match act {
+        Act::Spoken {
+            change,
+            person,
+            spoken,
+        } => desk.rule(alloc, person, *change, spoken),
+        Act::Role { .. } => Ok(None),
+        Act::Opened { change, .. } if desk.is_open(*change) => Ok(Some(Rule::AlreadyOpen)),
+        Act::Opened { .. } => Ok(None),
+    }
+}
+
+// What an act does that no rule denies.
+fn perform(desk: &mut Desk, alloc: Global, act: &Act) -> Result<(), AllocError>
+    requires { IsNone (broken (look desk.old) act.now) }
+    ensures { OnOk result (desk.new ≡ effect desk.old act.now) }
+{
+    match act {
+        Act::Spoken { change, spoken, .. } => match spoken {
+            Spoken::Known(Command::Withdraw) => withdraw(desk, alloc, *change),
+            Spoken::Known(Command::Ping | Command::Approve) | Spoken::Unknown => Ok(()),
+        },
+        Act::Role { person, role } => desk.set_role(alloc, person, *role),
+        Act::Opened {
+            change,
+            author,
+            head,
+        } => {
+            let opened = Change {
+                author: author.copy(alloc)?,
+                head: *head,
+                phase: Phase::Opened,
+                approved: None,
+            };
+            desk.put_change(alloc, *change, &opened)
+        }
+    }
+}
+
+// The approval of a change ends.
+fn withdraw(desk: &mut Desk, alloc: Global, number: ChangeNo) -> Result<(), AllocError>
+    ensures { OnOk result (desk.new ≡ with_altered desk.old number (option_map withdrawn (map.get desk.old.changes number))) }
+{
+    let mut change = match desk.change(number) {
+        Some(change) => change.copy(alloc)?,
+        None => return Ok(()),
+    };
+    change.approved = None;
+    desk.put_change(alloc, number, &change)
+}

@@ -1,0 +1,36 @@
+//! The program `gate`: the merge bot, from the bytes that come in to the bytes that go out.
+#![tactic(auto)]
+
+mod act;
+mod bench;
+mod delivery;
+mod fault;
+mod line;
+mod lines;
+mod machine;
+mod reading;
+mod reply;
+mod sending;
+#[cfg(test)]
+mod tests;
+mod writing;
+
+use crate::bench::Bench;
+use crate::lines::serve_lines;
+use std::io;
+use std::process::ExitCode;
+
+/// Serves the lines of standard input on standard output. The status is 0 at the end of the input, and 1 after a
+/// fault, with one line `gate: WORD` on standard error.
+fn main(rt: HostRuntime) -> ExitCode {
+    let mut bench = Bench::new(rt.alloc());
+    let mut reader = rt.reader();
+    let mut writer = io::writer(&rt);
+    match serve_lines(rt.alloc(), &mut bench, &mut reader, &mut writer) {
+        Ok(_) => ExitCode::SUCCESS,
+        Err(fault) => {
+            let _ = eprintln!(rt; "gate: {fault}");
+            ExitCode::FAILURE
+        }
+    }
+}

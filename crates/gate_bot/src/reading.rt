@@ -1,0 +1,228 @@
+ghost use Rattle.std.specs.Prelude.{◌≡◌, IfOk, IfErr, Some, Ok};
+ghost use Rattle.std.specs.Str.{is_utf8};
+ghost use Rattle.serde_json.specs.View.{view};
+ghost use Rattle.gate_bot.specs.Deliveries as deliveries;
+ghost use Rattle.gate_bot.specs.Deliveries.{Reads, delivery_of};
+
+use crate::delivery::{Delivery, Event};
+use gate_rules::Role;
+use gate_text::{ChangeNo, Commit, DeliveryId, Name, Text, TextFault};
+use serde_json::Value;
+use std::alloc::{AllocError, Global};
+use thiserror::Error;
+
+/// A field of a delivery.
+#[derive(Clone, Copy, Debug, PartialEq, Eq)]
+pub enum Field {
+    /// `id`
+    Id,
+    /// `event`
+    Event,
+    /// `change`
+    Change,
+    /// `person`
+    Person,
+    /// `text`
+    Text,
+    /// `role`
+    Role,
+    /// `author`
+    Author,
+    /// `head`
+    Head,
+}
+
+impl Field {
+    /// The name of the field, as deliveries write it.
+    pub fn name(self) -> &'static str
+        ensures { result.now ≡ deliveries.field_name self }
+    {
+        match self {
+            Field::Id => "id",
+            Field::Event => "event",
+            Field::Change => "change",
+            Field::Person => "person",
+            Field::Text => "text",
+            Field::Role => "role",
+            Field::Author => "author",
+            Field::Head => "head",
+        }
+    }
+}
+
+/// Why a text is no delivery. The first check that fails is answered: JSON, the identifier, the event, its fields.
+#[derive(Clone, Copy, Debug, PartialEq, Eq, Error)]
+pub enum DeliveryFault {
+    /// The text isn't UTF-8, isn't JSON, or isn't an object.
+    #[error("not a JSON object")]
+    NotJson,
+    /// A field is missing, or isn't of its kind.
+    #[error("bad field")]
+    BadField(Field),
+    /// No event has this name.
+    #[error("unknown event")]
+    UnknownEvent,
+    /// The allocator had no memory.
+    #[error("out of memory")]
+    Memory,
+}
+
+impl From<AllocError> for DeliveryFault {
+    ghost use Rattle.std.specs.Prelude.{◌≡◌};
+    ghost use Rattle.gate_bot.specs.declared.reading.DeliveryFault.TheVariants.{Memory};
+
+    ghost from_gives = { λ _ fault. fault ≡ Memory };
+
+    fn from(_error: AllocError) -> DeliveryFault {
+        DeliveryFault::Memory
+    }
+}
+
+// What a small text that stands at a field gives.
+fn at_field<T>(field: Field, read: Result<T, TextFault>) -> Result<T, DeliveryFault>
+    ensures { result ≡ deliveries.at_field field read }
+{
+    match read {
+        Ok(value) => Ok(value),
+        Err(TextFault::Memory) => Err(DeliveryFault::Memory),
+        Err(_) => Err(DeliveryFault::BadField(field)),
+    }
+}
+
+fn text_at(field: Field, value: &Value) -> Result<&str, DeliveryFault>
+    ensures { Reads (deliveries.now_of result) (deliveries.text_at field (view value.now)) }
+{
+    match value.get(field.name()).and_then(Value::as_str) {
+        Some(text) => Ok(text),
+        None => Err(DeliveryFault::BadField(field)),
+    }
+}
+
+fn id_at(alloc: Global, value: &Value) -> Result<DeliveryId, DeliveryFault>
+    ensures { Reads result (deliveries.id_at (view value.now)) }
+{
+    let text = text_at(Field::Id, value)?;
+    at_field(Field::Id, DeliveryId::read(alloc, text))
+}
+
+fn name_at(alloc: Global, field: Field, value: &Value) -> Result<Name, DeliveryFault>
+    ensures { Reads result (deliveries.name_at field (view value.now)) }
+{
+    let text = text_at(field, value)?;
+    at_field(field, Name::read(alloc, text))
+}
+
+fn head_at(value: &Value) -> Result<Commit, DeliveryFault>
+    ensures { Reads result (deliveries.head_at (view value.now)) }
+{
+    let text = text_at(Field::Head, value)?;
+    at_field(Field::Head, Commit::read(text))
+}
+
+fn change_at(value: &Value) -> Result<ChangeNo, DeliveryFault>
+    ensures { Reads result (deliveries.change_at (view value.now)) }
+{
+    match value
+        .get(Field::Change.name())
+        .and_then(Value::as_u64)
+        .and_then(ChangeNo::from_number)
+    {
+        Some(change) => Ok(change),
+        None => Err(DeliveryFault::BadField(Field::Change)),
+    }
+}
+
+fn role_at(value: &Value) -> Result<Role, DeliveryFault>
+    ensures { Reads result (deliveries.role_at (view value.now)) }
+{
+    match text_at(Field::Role, value)? {
+        "nobody" => Ok(Role::Nobody),
+        "member" => Ok(Role::Member),
+        "reviewer" => Ok(Role::Reviewer),
+        _ => Err(DeliveryFault::BadField(Field::Role)),
+    }
+}
+
+fn comment_in(alloc: Global, value: &Value) -> Result<Event, DeliveryFault>
+    ensures { Reads result (deliveries.comment_in (view value.now)) }
+{
+    let change = change_at(value)?;
+    let person = name_at(alloc, Field::Person, value)?;
+    let text = Text::from_str(alloc, text_at(Field::Text, value)?)?;
+    Ok(Event::Comment {
+        change,
+        person,
+        text,
+    })
+}
+
+fn role_in(alloc: Global, value: &Value) -> Result<Event, DeliveryFault>
+    ensures { Reads result (deliveries.role_in (view value.now)) }
+{
+    let person = name_at(alloc, Field::Person, value)?;
+    let role = role_at(value)?;
+    Ok(Event::Role { person, role })
+}
+
+fn opened_in(alloc: Global, value: &Value) -> Result<Event, DeliveryFault>
+    ensures { Reads result (deliveries.opened_in (view value.now)) }
+{
+    let change = change_at(value)?;
+    let author = name_at(alloc, Field::Author, value)?;
+    let head = head_at(value)?;
+    Ok(Event::Opened {
+        change,
+        author,
+        head,
+    })
+}
+
+fn event_called(alloc: Global, kind: &str, value: &Value) -> Result<Event, DeliveryFault>
+    ensures { Reads result (deliveries.event_called kind.now (view value.now)) }
+{
+    match kind {
+        "comment" => comment_in(alloc, value),
+        "role" => role_in(alloc, value),
+        "opened" => opened_in(alloc, value),
+        _ => Err(DeliveryFault::UnknownEvent),
+    }
+}
+
+fn delivery_in(alloc: Global, value: &Value) -> Result<Delivery, DeliveryFault>
+    ensures { Reads result (deliveries.delivery_in (view value.now)) }
+{
+    let id = id_at(alloc, value)?;
+    let kind = text_at(Field::Event, value)?;
+    let event = event_called(alloc, kind, value)?;
+    Ok(Delivery { id, event })
+}
+
+// The JSON object that the text is.
+fn object_in(alloc: Global, text: &[u8]) -> Result<Value, DeliveryFault>
+    ensures { Reads (deliveries.view_of result) (deliveries.object_of text.now) }
+{
+    match Value::from_slice(alloc, text) {
+        Ok(value) => {
+            if !value.is_object() {
+                return Err(DeliveryFault::NotJson);
+            }
+            Ok(value)
+        }
+        Err(error) => {
+            if error.is_memory() {
+                return Err(DeliveryFault::Memory);
+            }
+            Err(DeliveryFault::NotJson)
+        }
+    }
+}
+
+/// Reads a delivery, as JSON (RFC 8259). Refusals, in their order: `NotJson`; `BadField` of the identifier, then of
+/// the event's name; `UnknownEvent`; `BadField` of the event's fields. `Memory` may come at any point.
+#[tactic(auto, unfolding(crate::specs::Deliveries::delivery_of))]
+pub fn read_delivery(alloc: Global, text: &[u8]) -> Result<Delivery, DeliveryFault>
+    ensures { Reads result (delivery_of text.now) }
+{
+    let value = object_in(alloc, text)?;
+    delivery_in(alloc, &value)
+}
