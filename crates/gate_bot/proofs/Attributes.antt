@@ -19,7 +19,7 @@ use Rattle.gate_rules.specs.declared.change.Phase.{Phase}
 use Rattle.gate_rules.specs.declared.change.Phase.TheVariants as phase
 use Rattle.gate_rules.specs.declared.role.Role.{Role as RoleOf}
 use Rattle.gate_rules.specs.declared.role.Role.TheVariants.{Nobody, Member, Reviewer}
-use Rattle.gate_bot.specs.History.{Entry, last_of, role_set, author_back, head_back, phase_back, look_back}
+use Rattle.gate_bot.specs.History.{Entry, entry_of, last_of, role_set, author_back, head_back, phase_back, look_back}
 use Rattle.gate_bot.specs.Machine.{effect, just_opened, with_altered, withdrawn}
 use Rattle.gate_bot.specs.declared.act.Act.{Act}
 use Rattle.gate_bot.specs.declared.act.Act.TheVariants.{Spoken, Role, Opened}
@@ -120,7 +120,7 @@ withdrawal_said : (b : Bool) (change : ChangeLook) → change ≡ without_approv
 withdrawal_said true change is = is
 withdrawal_said false change is = refl
 
-pub history_next : (history : List Entry) (act : Act) → look_back (record { act = act; reply = Done } ∷ history) ≡ next_look (look_back history) act
+pub history_next : (history : List Entry) (act : Act) → look_back (entry_of act Done ∷ history) ≡ next_look (look_back history) act
 history_next history (Spoken change person Unknown) = refl
 history_next history (Spoken change person (Known Ping)) = refl
 history_next history (Spoken change person (Known Approve)) = refl

@@ -1,7 +1,7 @@
 -- How a text splits into lines where a byte comes behind it.
-use Rattle.std.proofs.Common.{◌≡◌, ◌≤◌, ℕ, suc, Bool, true, false, cond, not, ◌&&◌, List, [], ◌∷◌, ◌++◌, length, refl, ◌∙◌, ap, eqb, append_assoc, arith}
+use Rattle.std.proofs.Common.{◌≡◌, ◌≤◌, ℕ, suc, Bool, true, false, cond, not, ◌&&◌, List, [], ◌∷◌, ◌++◌, length, refl, ◌∙◌, ap, eqb, arith}
 use Rattle.std.proofs.lemmas.Bool.Decides.{nat_tests}
-use Rattle.gate_bot.specs.Lines.{begin_with, ended_lines, open_line, last_line, lines_of}
+use Rattle.gate_bot.specs.Lines.{begin_with, ended_lines, open_line}
 
 not_empty : (line : List ℕ) (lines : List (List ℕ)) → eqb (length (line ∷ lines)) 0 ≡ false
 not_empty line lines = grind (arith, nat_tests)
@@ -15,7 +15,8 @@ at_step true x (first ∷ ended) line others = rw (not_empty first ended) refl
 at_step false x [] line others = refl
 at_step false x (first ∷ ended) line others = rw (not_empty first ended) refl
 
-ended_at : (xs ys : List ℕ) → ended_lines (xs ++ 10 ∷ ys) ≡ ended_lines xs ++ open_line xs ∷ ended_lines ys
+-- a line feed ends the line that is open; what follows it splits by itself
+pub ended_at : (xs ys : List ℕ) → ended_lines (xs ++ 10 ∷ ys) ≡ ended_lines xs ++ open_line xs ∷ ended_lines ys
 ended_at [] ys = refl
 ended_at (x ∷ xs) ys =
     ap (λ (lines : List (List ℕ)). cond (eqb x 10) ([] ∷ lines) (begin_with x lines)) (ended_at xs ys)
@@ -34,10 +35,6 @@ open_at : (xs ys : List ℕ) → open_line (xs ++ 10 ∷ ys) ≡ open_line ys
 open_at [] ys = none_begun _ _ _
 open_at (x ∷ xs) ys =
     rw (ended_at xs ys) (passed (ended_lines xs) (open_line xs) (ended_lines ys) (eqb x 10) _ _) ∙ open_at xs ys
-
--- a line feed ends the line that is open; what follows it splits by itself
-pub lines_at : (xs ys : List ℕ) → lines_of (xs ++ 10 ∷ ys) ≡ ended_lines xs ++ open_line xs ∷ lines_of ys
-lines_at xs ys = rw (ended_at xs ys, open_at xs ys) (append_assoc (ended_lines xs) (open_line xs ∷ ended_lines ys) (last_line (open_line ys)))
 
 pub ended_lines-feed : (xs : List ℕ) → ended_lines (xs ++ 10 ∷ []) ≡ ended_lines xs ++ open_line xs ∷ []
 ended_lines-feed xs = ended_at xs []

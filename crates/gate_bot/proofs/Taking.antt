@@ -1,12 +1,12 @@
 -- One more byte, or more of them: serving goes on, or it stops at a line feed among them.
-use Rattle.std.proofs.Common.{◌≡◌, ◌≢◌, ℕ, ◌+◌, false, List, [], ◌∷◌, ◌++◌, take, Option, Err, refl, sym, ◌∙◌, ap, subst, inl, inr, eqb, append-nil, arith}
+use Rattle.std.proofs.Common.{◌≡◌, ◌≢◌, ℕ, ◌+◌, ◌<◌, Bool, false, is_ok, IsTrue, length, List, [], ◌∷◌, ◌++◌, take, Option, Err, refl, sym, ◌∙◌, ap, subst, inl, inr, eqb, append-nil, arith}
 use Rattle.std.proofs.KnownBytes.{Appends-trans}
 use Rattle.std.proofs.lemmas.Bool.Decides.{nat_tests}
 use Rattle.std.proofs.lemmas.List.{length_push}
 use Rattle.std.specs.Io.KnownBytes.{Appends}
 use Rattle.gate_bot.specs.Bench.{BenchView}
 use Rattle.gate_bot.specs.Deliveries.{delivery_of}
-use Rattle.gate_bot.specs.Lines.{ended_lines, open_line, line_text, too_long_text, text_of, after_line, with_desk, text_for, after_lines, StopsForMemory}
+use Rattle.gate_bot.specs.Lines.{ended_lines, open_line, line_text, too_long_text, text_answered, after_line, is_delivery, after_reading, text_for, after_lines, StopsForMemory}
 use Rattle.gate_bot.specs.Serving.{IsAnswered, IsUpTo, StopsBehind, kept_of}
 use Rattle.gate_bot.specs.declared.fault.Fault.TheVariants as fault
 use Rattle.gate_bot.specs.declared.lines.HookFault.{HookFault}
@@ -17,10 +17,13 @@ use Rattle.gate_bot.proofs.Splitting.{ended_lines-push, open_line-push, ended_li
 
 -- WHAT IS KEPT OF A LINE SAYS THE SAME
 line_text-kept : (bench : BenchView) (line : List ℕ) → line_text bench (kept_of line) ≡ line_text bench line
-line_text-kept bench line = kept-says 65536 too_long_text (λ text. text_of bench (delivery_of text)) line
+line_text-kept bench line = kept-says 65536 too_long_text (λ text. text_answered bench (delivery_of text)) line
 
 after_line-kept : (bench : BenchView) (line : List ℕ) → after_line bench (kept_of line) ≡ after_line bench line
-after_line-kept bench line = kept-says 65536 bench (λ text. with_desk bench (delivery_of text)) line
+after_line-kept bench line = kept-says 65536 bench (λ text. after_reading bench (delivery_of text)) line
+
+is_delivery-kept : (line : List ℕ) → is_delivery (kept_of line) ≡ is_delivery line
+is_delivery-kept line = kept-says 65536 false (λ text. is_ok (delivery_of text)) line
 
 -- ANOTHER BYTE THAN A LINE FEED
 pub goes_on : (opened : BenchView) (input : List ℕ) (bench : BenchView) (line : List ℕ) (count : ℕ) (before after : Option (List ℕ)) (byte : ℕ)
@@ -61,7 +64,8 @@ wants_memory : (bench new : BenchView) (served : BenchView) (line last : List �
 wants_memory bench new served line last is kept (inl nothing) = inl (nothing ∙ is)
 wants_memory bench new served line last is kept (inr (inl acted)) =
     inr (inl (acted ∙ ap (after_line bench) kept ∙ ap (λ (b : BenchView). after_line b (kept_of last)) is ∙ after_line-kept served last))
-wants_memory bench new served line last is kept (inr (inr stopped)) = inr (inr stopped)
+wants_memory bench new served line last is kept (inr (inr stopped)) =
+    inr (inr (subst (λ (b : Bool). IsTrue b) (ap is_delivery kept ∙ is_delivery-kept last) stopped.0, stopped.1))
 
 pub stops : (opened : BenchView) (input : List ℕ) (bench new : BenchView) (line : List ℕ) (count : ℕ) (before between after : Option (List ℕ)) (fault : HookFault)
     → IsUpTo opened input bench line count before between → IsAnswered (Err fault) bench line new between after → StopsBehind fault opened input new before after
@@ -78,7 +82,11 @@ stops opened input bench new line count before between after Write so_far refuse
     ap (λ (kept : List ℕ). line_text bench kept ++ 10 ∷ []) so_far.line ∙ ap (λ (b : BenchView). line_text b (kept_of last) ++ 10 ∷ []) so_far.bench
     ∙ ap (λ (t : List ℕ). t ++ 10 ∷ []) (line_text-kept served last) in (
       refused.0 ∙ ap (after_line bench) so_far.line ∙ ap (λ (b : BenchView). after_line b (kept_of last)) so_far.bench ∙ after_line-kept served last,
-      (refused.1.0, Appends-trans before between after _ _ so_far.written (subst (λ (t : List ℕ). Appends between after (take refused.1.0 t)) text refused.1.1)),
+      (
+        refused.1.0,
+        subst (λ (t : List ℕ). refused.1.0 < length t) text refused.1.1,
+        Appends-trans before between after _ _ so_far.written (subst (λ (t : List ℕ). Appends between after (take refused.1.0 t)) text refused.1.2),
+      ),
     )
 stops opened input bench new line count before between after Read so_far refused = refused
 stops opened input bench new line count before between after TooMuch so_far refused = refused

@@ -89,17 +89,20 @@ Legal [] desk = desk ≡ empty_desk
 Legal (entry ∷ history) desk = (before : DeskView) × Legal history before × Step before entry.act entry.reply desk
 
 -- WHAT ONE MORE ENTRY TELLS, after a history that led from an empty desk to `old`.
-pub record EntryTells (history : List Entry) (old : DeskView) (act : Act) (reply : Reply) (new : DeskView) : Type 0 where
+pub record EntryTells (history : List Entry) (old : DeskView) (entry : Entry) (new : DeskView) : Type 0 where
   -- attributes: roles, authors and heads on the desk are those of the history with the entry
-  pub roles : (person : List ℕ) → role_on new person ≡ role_back (record { act = act; reply = reply } ∷ history) person
-  pub authors : (change : ℕ) → ((look new).change change).author ≡ author_back (record { act = act; reply = reply } ∷ history) change
-  pub heads : (change : ℕ) → ((look new).change change).head ≡ head_back (record { act = act; reply = reply } ∷ history) change
+  pub roles : (person : List ℕ) → role_on new person ≡ role_back (entry ∷ history) person
+  pub authors : (change : ℕ) → ((look new).change change).author ≡ author_back (entry ∷ history) change
+  pub heads : (change : ℕ) → ((look new).change change).head ≡ head_back (entry ∷ history) change
   -- acts exactly by rule: done where no rule fails on the history before, and else denied by the first that does
-  pub by_rule : reply ≡ answered (rule_back history act)
+  pub by_rule : entry.reply ≡ answered (rule_back history entry.act)
   -- a denied act changes nothing
-  pub denied : (rule : Rule) → reply ≡ Denied rule → new ≡ old
+  pub denied : (rule : Rule) → entry.reply ≡ Denied rule → new ≡ old
   -- legality goes on
-  pub legal : Legal (record { act = act; reply = reply } ∷ history) new
+  pub legal : Legal (entry ∷ history) new
+
+abbrev pub entry_of : Act → Reply → Entry
+entry_of act reply = record { act = act; reply = reply }
 
 -- the same of acts in order: each entry that they add tells this, after all entries before it
 abbrev pub Tells : List Entry → DeskView → List Act → List Reply → DeskView → Type 0
@@ -107,4 +110,4 @@ Tells history old [] [] new = new ≡ old
 Tells history old [] (reply ∷ replies) new = ⊥
 Tells history old (act ∷ acts) [] new = ⊥
 Tells history old (act ∷ acts) (reply ∷ replies) new =
-    (next : DeskView) × EntryTells history old act reply next × Tells (record { act = act; reply = reply } ∷ history) next acts replies new
+    (next : DeskView) × EntryTells history old (entry_of act reply) next × Tells (entry_of act reply ∷ history) next acts replies new

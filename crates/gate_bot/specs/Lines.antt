@@ -1,6 +1,6 @@
 -- LINES: what is written for the lines that were read. A text is seen whole; the code takes it byte by byte.
-use Rattle.std.specs.Prelude.{◌≡◌, ◌⊎◌, ℕ, ◌<◌, ◌==◌, ◌&&◌, not, nat_lt, List, [], ◌∷◌, ◌++◌, length, take, Bool, Option, Result, Ok, Err, IsTrue, codes, if◌then◌else◌}
-use Rattle.std.specs.Io.KnownBytes.{Appends}
+use Rattle.std.specs.Prelude.{◌≡◌, ◌⊎◌, ℕ, ◌+◌, ◌<◌, ◌≤◌, ◌==◌, ◌&&◌, not, nat_lt, List, [], ◌∷◌, ◌++◌, length, take, Bool, false, Option, Result, Ok, Err, is_ok, IsTrue, codes, if◌then◌else◌}
+use Rattle.std.specs.Io.KnownBytes.{Appends, IsAtEnd}
 use Rattle.gate_bot.specs.Acts.{acts_of_event}
 use Rattle.gate_bot.specs.Answers.{answer_text_of, error_text_of}
 use Rattle.gate_bot.specs.Bench.{BenchView}
@@ -39,27 +39,34 @@ lines_of text = ended_lines text ++ last_line (open_line text)
 abbrev pub max_line : ℕ
 max_line = 65536
 
+-- of a line that is too long one byte more is kept, which shows it
+abbrev pub max_kept : ℕ
+max_kept = max_line + 1
+
 abbrev pub is_too_long : List ℕ → Bool
 is_too_long line = nat_lt max_line (length line)
 
 abbrev pub too_long_text : List ℕ
 too_long_text = codes "{\"error\":\"LineTooLong\",\"number\":5}"
 
--- a delivery by its answer, and a line that is none by its error
-abbrev pub text_of : BenchView → Result Delivery DeliveryFault → List ℕ
-text_of bench (Ok delivery) = answer_text_of (replies_to bench.desk (acts_of_event delivery.event))
-text_of bench (Err fault) = error_text_of fault
+-- by what the line was read as: a delivery by its answer, and a line that is none by its error
+abbrev pub text_answered : BenchView → Result Delivery DeliveryFault → List ℕ
+text_answered bench (Ok delivery) = answer_text_of (replies_to bench.desk (acts_of_event delivery.event))
+text_answered bench (Err fault) = error_text_of fault
 
 abbrev pub line_text : BenchView → List ℕ → List ℕ
-line_text bench line = if is_too_long line then too_long_text else text_of bench (delivery_of line)
+line_text bench line = if is_too_long line then too_long_text else text_answered bench (delivery_of line)
+
+abbrev pub is_delivery : List ℕ → Bool
+is_delivery line = if is_too_long line then false else is_ok (delivery_of line)
 
 -- the bench after it: a line that is no delivery changes nothing
-abbrev pub with_desk : BenchView → Result Delivery DeliveryFault → BenchView
-with_desk bench (Ok delivery) = record bench { desk = after_all bench.desk (acts_of_event delivery.event) }
-with_desk bench (Err fault) = bench
+abbrev pub after_reading : BenchView → Result Delivery DeliveryFault → BenchView
+after_reading bench (Ok delivery) = record bench { desk = after_all bench.desk (acts_of_event delivery.event) }
+after_reading bench (Err fault) = bench
 
 abbrev pub after_line : BenchView → List ℕ → BenchView
-after_line bench line = if is_too_long line then bench else with_desk bench (delivery_of line)
+after_line bench line = if is_too_long line then bench else after_reading bench (delivery_of line)
 
 -- LINES IN ORDER: each line's text and a line feed, and the bench after all
 abbrev pub text_for : BenchView → List (List ℕ) → List ℕ
@@ -78,38 +85,51 @@ max_input = 4294967296
 abbrev pub HasServed : BenchView → List (List ℕ) → BenchView → Option (List ℕ) → Option (List ℕ) → Type 0
 HasServed old lines new before after = (new ≡ after_lines old lines) × Appends before after (text_for old lines)
 
--- Want of memory at a line that comes after those served: nothing of its answer is written. The delivery may have been
--- answered already; or the bench met the fault, and has stopped; or neither.
+-- Want of memory at a line that comes after those served: nothing of its answer is written. The line may have acted
+-- already; or it is a delivery at which the bench met the fault, and has stopped; or neither.
 abbrev pub StopsForMemory : BenchView → List ℕ → BenchView → Type 0
-StopsForMemory old line new = (new ≡ old) ⊎ ((new ≡ after_line old line) ⊎ IsTrue new.stopped)
+StopsForMemory old line new = (new ≡ old) ⊎ ((new ≡ after_line old line) ⊎ (IsTrue (is_delivery line) × IsTrue new.stopped))
 
-pub record StopsAtGate (old : BenchView) (input : List ℕ) (new : BenchView) (before after : Option (List ℕ)) : Type 0 where
+-- these lines are the first that are complete: line feeds ended them; or they are all, and the input is at its end
+abbrev pub AreComplete : List ℕ → Option (List ℕ) → List (List ℕ) → Type 0
+AreComplete input left lines =
+    ((others : List (List ℕ)) × (ended_lines input ≡ lines ++ others)) ⊎ ((lines_of input ≡ lines) × IsAtEnd left)
+
+pub record StopsAtGate (old : BenchView) (input : List ℕ) (left : Option (List ℕ)) (new : BenchView) (before after : Option (List ℕ)) : Type 0 where
   pub served : List (List ℕ)
   pub line : List ℕ
-  pub others : List (List ℕ)
-  pub lines : lines_of input ≡ served ++ line ∷ others
+  pub complete : AreComplete input left (served ++ line ∷ [])
   pub bench : StopsForMemory (after_lines old served) line new
   pub written : Appends before after (text_for old served)
 
--- The writer refused a part of a line's text: a prefix of the text due is written, and the line has acted.
-pub record StopsAtWrite (old : BenchView) (input : List ℕ) (new : BenchView) (before after : Option (List ℕ)) : Type 0 where
+-- The writer refused a line's text, or what was left of it: a part from its front is written, but not all, and the line
+-- has acted.
+pub record StopsAtWrite (old : BenchView) (input : List ℕ) (left : Option (List ℕ)) (new : BenchView) (before after : Option (List ℕ)) : Type 0 where
   pub served : List (List ℕ)
   pub line : List ℕ
-  pub others : List (List ℕ)
-  pub lines : lines_of input ≡ served ++ line ∷ others
+  pub complete : AreComplete input left (served ++ line ∷ [])
   pub bench : new ≡ after_line (after_lines old served) line
   pub taken : ℕ
+  pub part : taken < length (line_text (after_lines old served) line ++ 10 ∷ [])
   pub written : Appends before after (text_for old served ++ take taken (line_text (after_lines old served) line ++ 10 ∷ []))
 
-abbrev pub IsServed : Result ℕ HookFault → BenchView → List ℕ → BenchView → Option (List ℕ) → Option (List ℕ) → Type 0
+abbrev pub IsServed : Result ℕ HookFault → BenchView → List ℕ → Option (List ℕ) → BenchView → Option (List ℕ) → Option (List ℕ) → Type 0
 -- all lines are answered, and counted
-IsServed (Ok count) old input new before after = (count ≡ length (lines_of input)) × HasServed old (lines_of input) new before after
+IsServed (Ok count) old input left new before after = (count ≡ length (lines_of input)) × HasServed old (lines_of input) new before after
 -- the reader failed: a line that isn't complete is dropped
-IsServed (Err Read) old input new before after = HasServed old (ended_lines input) new before after
+IsServed (Err Read) old input left new before after = HasServed old (ended_lines input) new before after
 -- there is more input than may be read: the lines that end within the limit are answered
-IsServed (Err TooMuch) old input new before after = (max_input < length input) × HasServed old (ended_lines (take max_input input)) new before after
+IsServed (Err TooMuch) old input left new before after = HasServed old (ended_lines (take max_input input)) new before after
 -- the gate can only want memory
-IsServed (Err (Gate fault.Memory)) old input new before after = StopsAtGate old input new before after
-IsServed (Err (Gate fault.Store)) old input new before after = ⊥
-IsServed (Err (Gate fault.Full)) old input new before after = ⊥
-IsServed (Err Write) old input new before after = StopsAtWrite old input new before after
+IsServed (Err (Gate fault.Memory)) old input left new before after = StopsAtGate old input left new before after
+IsServed (Err (Gate fault.Store)) old input left new before after = ⊥
+IsServed (Err (Gate fault.Full)) old input left new before after = ⊥
+IsServed (Err Write) old input left new before after = StopsAtWrite old input left new before after
+
+-- how much of the input was consumed: never more than the limit, but for the one byte that shows that there is more
+abbrev pub IsWithinLimit : Result ℕ HookFault → List ℕ → Type 0
+IsWithinLimit (Ok count) input = length input ≤ max_input
+IsWithinLimit (Err (Gate fault)) input = length input ≤ max_input
+IsWithinLimit (Err Read) input = length input ≤ max_input
+IsWithinLimit (Err Write) input = length input ≤ max_input
+IsWithinLimit (Err TooMuch) input = length input ≡ max_input + 1

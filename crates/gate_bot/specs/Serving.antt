@@ -1,8 +1,8 @@
 -- Serving in mid-course, for the contracts of the functions that `serve_lines` is made of.
-use Rattle.std.specs.Prelude.{◌≡◌, ◌≤◌, ℕ, List, [], ◌∷◌, ◌++◌, length, take, Option, Result, Ok, Err}
+use Rattle.std.specs.Prelude.{◌≡◌, ◌≤◌, ◌<◌, ℕ, List, [], ◌∷◌, ◌++◌, length, take, Option, Result, Ok, Err}
 use Rattle.std.specs.Io.KnownBytes.{Appends, Consumes, Keeps, IsAtEnd}
 use Rattle.gate_bot.specs.Bench.{BenchView}
-use Rattle.gate_bot.specs.Lines.{ended_lines, open_line, line_text, after_line, text_for, after_lines, StopsForMemory}
+use Rattle.gate_bot.specs.Lines.{ended_lines, open_line, line_text, after_line, text_for, after_lines, StopsForMemory, max_kept}
 use Rattle.gate_bot.specs.declared.fault.Fault.TheVariants as fault
 use Rattle.gate_bot.specs.declared.lines.HookFault.{HookFault}
 use Rattle.gate_bot.specs.declared.lines.HookFault.TheVariants.{Gate, Read, Write, TooMuch}
@@ -13,7 +13,7 @@ IsAnswered (Ok _) old line new before after = (new ≡ after_line old line) × A
 IsAnswered (Err (Gate fault.Memory)) old line new before after = StopsForMemory old line new × Appends before after []
 IsAnswered (Err (Gate fault.Store)) old line new before after = ⊥
 IsAnswered (Err (Gate fault.Full)) old line new before after = ⊥
-IsAnswered (Err Write) old line new before after = (new ≡ after_line old line) × ((taken : ℕ) × Appends before after (take taken (line_text old line ++ 10 ∷ [])))
+IsAnswered (Err Write) old line new before after = (new ≡ after_line old line) × ((taken : ℕ) × (taken < length (line_text old line ++ 10 ∷ [])) × Appends before after (take taken (line_text old line ++ 10 ∷ [])))
 IsAnswered (Err Read) old line new before after = ⊥
 IsAnswered (Err TooMuch) old line new before after = ⊥
 
@@ -27,7 +27,7 @@ IsRead (Err TooMuch) before after buffer room = ⊥
 
 -- the bytes that are kept of a line
 abbrev pub kept_of : List ℕ → List ℕ
-kept_of line = take 65537 line
+kept_of line = take max_kept line
 
 -- All lines that end in the input are served and counted, and what follows the last is kept.
 pub record IsUpTo (opened : BenchView) (input : List ℕ) (now : BenchView) (kept : List ℕ) (counted : ℕ) (before after : Option (List ℕ)) : Type 0 where
@@ -44,7 +44,8 @@ StopsBehind (Gate fault.Store) opened input new before after = ⊥
 StopsBehind (Gate fault.Full) opened input new before after = ⊥
 StopsBehind Write opened input new before after =
     (new ≡ after_line (after_lines opened (ended_lines input)) (open_line input))
-    × ((taken : ℕ) × Appends before after (text_for opened (ended_lines input) ++ take taken (line_text (after_lines opened (ended_lines input)) (open_line input) ++ 10 ∷ [])))
+    × ((taken : ℕ) × (taken < length (line_text (after_lines opened (ended_lines input)) (open_line input) ++ 10 ∷ []))
+    × Appends before after (text_for opened (ended_lines input) ++ take taken (line_text (after_lines opened (ended_lines input)) (open_line input) ++ 10 ∷ [])))
 StopsBehind Read opened input new before after = ⊥
 StopsBehind TooMuch opened input new before after = ⊥
 

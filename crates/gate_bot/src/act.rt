@@ -2,7 +2,7 @@ use gate_rules::Role;
 use gate_text::{ChangeNo, Commit, Name, Spoken};
 
 /// One thing that may change the desk: a command of a comment, or a fact that the host hands in.
-#[derive(Drop)]
+#[derive(Debug, Drop, PartialEq, Eq)]
 pub enum Act {
     /// A person's command line on a change.
     Spoken {

@@ -8,7 +8,7 @@ ghost use Rattle.gate_bot.specs.Machine.{replies_to, after_all};
 use crate::delivery::{Delivery, acts_of};
 use crate::fault::Fault;
 use crate::machine::step_all;
-use crate::reply::Reply;
+use crate::reply::Answer;
 use gate_rules::Desk;
 use std::alloc::{AllocError, Global};
 use std::marker::Model;
@@ -45,9 +45,9 @@ impl Bench {
         }
     }
 
-    /// Lets the acts of a delivery step in order, and answers their replies. The one fault is `Memory`; a bench that
-    /// has met it answers it to every later delivery.
-    pub fn deliver(&mut self, alloc: Global, delivery: &Delivery) -> Result<Vec<Reply>, Fault>
+    /// Lets the acts of a delivery step in order, and answers their replies. The one fault is `Memory`: some of the acts
+    /// may have stepped then, and the bench answers `Memory` to every later delivery.
+    pub fn deliver(&mut self, alloc: Global, delivery: &Delivery) -> Result<Answer, Fault>
         // The answer is the replies of the machine, and the desk then is the machine's.
         ensures answer { IfOk result (λ answer. answer.items ≡ replies_to self.old.desk (acts_of_event delivery.now.event)) }
         ensures desk { OnOk result (self.new ≡ record self.old { desk = after_all self.old.desk (acts_of_event delivery.now.event) }) }
@@ -75,7 +75,7 @@ impl Bench {
 }
 
 // The replies to the acts of a delivery, each of which steps on the desk.
-fn deliver_to(desk: &mut Desk, alloc: Global, delivery: &Delivery) -> Result<Vec<Reply>, AllocError>
+fn deliver_to(desk: &mut Desk, alloc: Global, delivery: &Delivery) -> Result<Answer, AllocError>
     ensures answer { IfOk result (λ answer. answer.items ≡ replies_to desk.old (acts_of_event delivery.now.event)) }
     ensures desk { OnOk result (desk.new ≡ after_all desk.old (acts_of_event delivery.now.event)) }
 {

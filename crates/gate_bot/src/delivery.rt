@@ -7,7 +7,7 @@ use gate_text::{ChangeNo, Commit, DeliveryId, Name, Text, read_comment};
 use std::alloc::{AllocError, Global};
 
 /// What happened, as a host hands it in.
-#[derive(Drop)]
+#[derive(Debug, Drop, PartialEq, Eq)]
 pub enum Event {
     /// A comment was written on a change.
     Comment {
@@ -37,7 +37,7 @@ pub enum Event {
 }
 
 /// One hand-in of the host, with its identifier.
-#[derive(Drop)]
+#[derive(Debug, Drop, PartialEq, Eq)]
 pub struct Delivery {
     /// What the host calls the delivery.
     pub id: DeliveryId,

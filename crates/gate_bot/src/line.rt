@@ -19,12 +19,13 @@ pub struct Line {
 
 impl Model for Line {
     ghost use Rattle.std.specs.Prelude.{ℕ, List, take, ◌≤◌};
+    ghost use Rattle.gate_bot.specs.Lines.{max_kept};
 
     ghost Value = { List ℕ };
 
     ghost view = { λ line. take line.len line.bytes };
 
-    ghost invariant = { λ line. line.len ≤ 65537 };
+    ghost invariant = { λ line. line.len ≤ max_kept };
 }
 
 impl Line {
@@ -40,7 +41,7 @@ impl Line {
 
     /// Adds a byte, unless the line is known to be too long.
     pub fn add(&mut self, byte: u8)
-        ensures { self.new ≡ take 65537 (self.old ++ byte ∷ []) }
+        ensures { self.new ≡ take lines.max_kept (self.old ++ byte ∷ []) }
     {
         if self.len < MAX_KEPT {
             self.bytes[self.len] = byte;

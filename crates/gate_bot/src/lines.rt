@@ -2,7 +2,7 @@ ghost use Rattle.std.specs.Prelude.{◌≡◌, ◌+◌, ◌<◌, ◌≤◌, ◌^
 ghost use Rattle.std.specs.String.{string_bytes};
 ghost use Rattle.std.specs.Io.KnownBytes.{Consumes, IsAtEnd};
 ghost use Rattle.gate_bot.specs.Bench.{BenchView};
-ghost use Rattle.gate_bot.specs.Lines.{line_text, after_line, text_of, with_desk, StopsForMemory, IsServed};
+ghost use Rattle.gate_bot.specs.Lines.{line_text, after_line, text_answered, after_reading, StopsForMemory, IsServed, IsWithinLimit};
 ghost use Rattle.gate_bot.specs.Serving.{IsAnswered, IsUpTo, IsRead, TakesByte, TakesBytes};
 
 use crate::bench::Bench;
@@ -28,7 +28,7 @@ const MAX_INPUT: u64 = 4_294_967_296;
 /// Why serving stopped before the end of the input.
 #[derive(Clone, Copy, Debug, PartialEq, Eq, Error)]
 pub enum HookFault {
-    /// A delivery met a fault, or there was no memory for a line's answer.
+    /// A delivery met a fault, or there was no memory to read a line or to write its answer.
     #[error(transparent)]
     Gate(Fault),
     /// The reader failed; an interrupted read is a failure too.
@@ -52,10 +52,10 @@ fn with_line_feed(text: String) -> Result<String, AllocError>
 
 // The text of the answer to a delivery, with its line feed.
 fn delivery_answer(alloc: Global, bench: &mut Bench, delivery: &Delivery) -> Result<String, Fault>
-    ensures text { IfOk result (λ text. string_bytes text ≡ text_of bench.old (Ok delivery.now) ++ 10 ∷ []) }
-    ensures bench { OnOk result (bench.new ≡ with_desk bench.old (Ok delivery.now)) }
+    ensures text { IfOk result (λ text. string_bytes text ≡ text_answered bench.old (Ok delivery.now) ++ 10 ∷ []) }
+    ensures bench { OnOk result (bench.new ≡ after_reading bench.old (Ok delivery.now)) }
     ensures cause { IfErr result (λ fault. fault ≡ Fault.Memory) }
-    ensures stops { OnErr result ((bench.new ≡ with_desk bench.old (Ok delivery.now)) ⊎ IsTrue bench.new.stopped) }
+    ensures stops { OnErr result ((bench.new ≡ after_reading bench.old (Ok delivery.now)) ⊎ IsTrue bench.new.stopped) }
 {
     let answer = bench.deliver(alloc, delivery)?;
     let text = answer_text(alloc, answer.as_slice())?;
@@ -163,9 +163,10 @@ fn finish<W: Write>(
     writer: &mut W,
 ) -> Result<u64, HookFault>
     requires { count ≤ 2 ^ 32 }
-    ensures { (opened : BenchView) (input : List ℕ) (before : Option (List ℕ))
-        → IsUpTo opened input bench.old line.now count before (W.contents writer.old)
-        → IsServed result opened input bench.new before (W.contents writer.new) }
+    ensures within { (input : List ℕ) → length input ≤ MAX_INPUT → IsWithinLimit result input }
+    ensures served { (opened : BenchView) (input : List ℕ) (left before : Option (List ℕ))
+        → IsUpTo opened input bench.old line.now count before (W.contents writer.old) → IsAtEnd left
+        → IsServed result opened input left bench.new before (W.contents writer.new) }
 {
     if line.is_empty() {
         return Ok(count);
@@ -183,14 +184,7 @@ fn room_for(left: u64) -> usize
     ensures left { 0 < left → result ≤ left }
     ensures last { left ≡ 0 → result ≡ 1 }
 {
-    if left == 0 {
-        return 1;
-    }
-    if left < CHUNK as u64 {
-        left as usize
-    } else {
-        CHUNK
-    }
+    left.clamp(1, CHUNK as u64) as usize
 }
 
 // Reads at most `room` bytes to the front of the buffer. It doesn't try again after a failure.
@@ -209,9 +203,12 @@ fn read_part<R: Read>(reader: &mut R, buffer: &mut [u8], room: usize) -> Result<
 /// lines are JSON Lines (jsonlines.org). The answer to a line is written before more of the input is asked for. At the
 /// end of the input it answers the count of lines.
 ///
-/// Each fault ends the call without an answer to the line that it came at; lines before it are answered. After
-/// `Read` and `TooMuch` a line that isn't complete is dropped. After `Write` a prefix of the text due is written. The
-/// gate's fault is `Memory` alone. The buffers have a fixed size, whatever the input.
+/// Each fault ends the call; the lines before the one that it came at are answered. After `Read` and `TooMuch` a line
+/// that isn't complete is dropped. After `Write` the line has acted, and a part of its answer, but not all, is written.
+/// After `Gate`, which is `Memory` alone, nothing of the answer is written; the line may have acted, and the bench may
+/// have stopped. Of the reader up to 8,191 bytes behind that line may be taken.
+///
+/// The buffers have a fixed size, whatever the input. The writer isn't flushed, so it shouldn't keep bytes back.
 pub fn serve_lines<R: Read, W: Write>(
     alloc: Global,
     bench: &mut Bench,
@@ -220,7 +217,8 @@ pub fn serve_lines<R: Read, W: Write>(
 ) -> Result<u64, HookFault>
     // What is written is the text for the lines that were consumed.
     ensures served { (input : List ℕ) × Consumes (R.remaining reader.old) (R.remaining reader.new) input
-        × IsServed result bench.old input bench.new (W.contents writer.old) (W.contents writer.new) }
+        × IsWithinLimit result input
+        × IsServed result bench.old input (R.remaining reader.new) bench.new (W.contents writer.old) (W.contents writer.new) }
 
     // It succeeds at the end of the input alone.
     ensures end { OnOk result (IsAtEnd (R.remaining reader.new)) }

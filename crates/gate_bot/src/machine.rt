@@ -5,13 +5,14 @@ ghost use Rattle.gate_rules.specs.View.{look};
 ghost use Rattle.gate_bot.specs.Machine.{broken, effect, with_altered, withdrawn, reply_to, after, replies_to, after_all};
 
 use crate::act::Act;
-use crate::reply::Reply;
+use crate::reply::{Answer, Reply};
 use gate_rules::{Change, Desk, Phase, Rule};
 use gate_text::{ChangeNo, Command, Spoken};
 use std::alloc::{AllocError, Global};
 
-/// Lets acts step on the desk in order, and answers their replies. After `AllocError` some of them have stepped.
-pub fn step_all(desk: &mut Desk, alloc: Global, acts: &[Act]) -> Result<Vec<Reply>, AllocError>
+/// Lets acts step on the desk in order, and answers their replies. After `AllocError` any number of them,
+/// from the first, may have stepped.
+pub fn step_all(desk: &mut Desk, alloc: Global, acts: &[Act]) -> Result<Answer, AllocError>
     ensures replies { IfOk result (λ replies. replies.items ≡ replies_to desk.old acts.now) }
     ensures desk { OnOk result (desk.new ≡ after_all desk.old acts.now) }
 {

@@ -8,3 +8,6 @@ pub enum Reply {
     /// It was denied by the first of its rules that fails, and changed nothing.
     Denied(Rule),
 }
+
+/// What one delivery is answered: a reply for each of its acts, in order.
+pub type Answer = Vec<Reply>;

@@ -1,6 +1,6 @@
 -- The small texts: which texts each type takes, the value that is read, and the first check that fails.
 use Rattle.std.specs.Prelude.{◌≡◌, ℕ, ◌+◌, ◌==◌, nat_lt, nat_eq, Bool, not, ◌||◌, List, length, drop, map, Option, Some, None, Result, Ok, Err, IsOk, codes, if◌then◌else◌}
-use Rattle.std.specs.Char.{to_ascii_lowercase, is_ascii_alphanumeric, is_ascii_digit, is_ascii_graphic}
+use Rattle.std.specs.Char.{to_ascii_lowercase, is_ascii_alphanumeric, is_ascii_digit, is_ascii_graphic, is_ascii_control}
 use Rattle.std.specs.Int.{is_in_range}
 use Rattle.std.specs.List.{list_any, position, starts_with}
 use Rattle.std.specs.Option.{option_map, option_or}
@@ -59,6 +59,13 @@ name_of text =
 -- DELIVERY IDENTIFIERS: 1 to 128 bytes from `!` to `~`.
 unfoldable pub delivery_id_of : List ℕ → Result (List ℕ) TextFault
 delivery_id_of text = unless_refused (first_fault (length text) 128 (first_bad is_ascii_graphic text)) (Ok text)
+
+-- LABELS AND NAMES OF STATUSES: 1 to 255 bytes without control characters.
+abbrev pub first_control : List ℕ → Option ℕ
+first_control text = position is_ascii_control text
+
+unfoldable pub plain_of : List ℕ → Result (List ℕ) TextFault
+plain_of text = unless_refused (first_fault (length text) 255 (first_control text)) (Ok text)
 
 -- COMMITS: exactly 40 of `0` to `9` and `a` to `f`. A text that ends too soon is bad at its end.
 abbrev pub is_commit_digit : ℕ → Bool

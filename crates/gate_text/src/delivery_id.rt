@@ -5,6 +5,7 @@ ghost use Rattle.gate_text.specs.SmallTexts.{Reads, delivery_id_of};
 
 use crate::checks::first_fault;
 use crate::fault::TextFault;
+use crate::text::Text;
 use std::alloc::{AllocError, Global};
 use std::marker::Model;
 
@@ -13,18 +14,19 @@ const MAX_LEN: usize = 128;
 
 /// The identifier of a delivery: 1 to 128 bytes of printable ASCII without spaces. A contract sees it as the list of
 /// its bytes.
-#[derive(Debug, Drop)]
+#[derive(Debug, Drop, PartialEq, Eq, PartialOrd, Ord)]
 pub struct DeliveryId {
-    text: String,
+    text: Text,
 }
 
 impl Model for DeliveryId {
     ghost use Rattle.std.specs.Prelude.{ℕ, List};
-    ghost use Rattle.std.specs.String.{string_bytes};
 
     ghost Value = { List ℕ };
 
-    ghost view = { λ id. string_bytes id.text };
+    ghost view = { λ id. id.text };
+
+    ghost inverse = { λ text. record { text = text } };
 }
 
 // The place of the first byte that is no printable ASCII, or a space.
@@ -45,7 +47,7 @@ impl DeliveryId {
             return Err(fault);
         }
         Ok(DeliveryId {
-            text: String::from_str(alloc, text)?,
+            text: Text::from_str(alloc, text)?,
         })
     }
 
@@ -61,7 +63,7 @@ impl DeliveryId {
         ensures value { IfOk result (λ copy. copy ≡ self.now) }
     {
         Ok(DeliveryId {
-            text: String::from_str(alloc, self.text())?,
+            text: self.text.copy(alloc)?,
         })
     }
 }

@@ -1,4 +1,5 @@
-//! The words of the merge bot's users: names, commits, change numbers, delivery identifiers, and what a comment says.
+//! The words of the merge bot's users: names, labels, names of statuses, commits, change numbers, delivery
+//! identifiers, and what a comment says.
 #![tactic(auto)]
 
 mod change_no;
@@ -6,10 +7,13 @@ mod checks;
 mod command;
 mod comment;
 mod commit;
+mod context;
 mod delivery_id;
 mod fault;
+mod label;
 mod name;
 mod names;
+mod plain;
 mod spaces;
 #[cfg(test)]
 mod tests;
@@ -19,8 +23,10 @@ pub use change_no::ChangeNo;
 pub use command::{Command, Spoken};
 pub use comment::{one_reading, read_comment};
 pub use commit::Commit;
+pub use context::Context;
 pub use delivery_id::DeliveryId;
 pub use fault::TextFault;
+pub use label::Label;
 pub use name::Name;
 pub use names::Names;
 pub use text::Text;

@@ -1,17 +1,14 @@
-ghost use Rattle.std.specs.Prelude.{◌≡◌, ◌+◌, ◌<◌, IfOk, Some, refl, nat_eq, map, IsTrue};
+ghost use Rattle.std.specs.Prelude.{◌≡◌, ◌+◌, ◌<◌, IfOk, map, IsTrue};
 ghost use Rattle.std.specs.Char.{to_ascii_lowercase};
 ghost use Rattle.std.specs.List.{list_all};
 ghost use Rattle.std.specs.String.{string_bytes};
-ghost use Rattle.std.specs.Ordering.{nat_cmp};
-ghost use Rattle.std.specs.Cmp.Lexicographic.{pointwise, slice_cmp, nat_list_eq_equiv, nat_list_cmp_total, texts_ties, texts_po};
-ghost use Rattle.std.specs.Cmp.{partial_equiv_from_equiv};
 ghost use Rattle.gate_text.specs.SmallTexts as small;
 ghost use Rattle.gate_text.specs.SmallTexts.{Reads, name_of, is_name_byte};
 
 use crate::checks::first_fault;
 use crate::fault::TextFault;
+use crate::text::Text;
 use std::alloc::{AllocError, Global};
-use std::cmp::Ordering;
 use std::marker::Model;
 
 // The most bytes of a name.
@@ -19,18 +16,19 @@ const MAX_LEN: usize = 64;
 
 /// The name of a person, in lower case and without `@`: 1 to 64 of the small ASCII letters, the digits and `-`, `_`, `.`,
 /// `[`, `]`. A contract sees it as the list of its bytes.
-#[derive(Debug, Drop)]
+#[derive(Debug, Drop, PartialEq, Eq, PartialOrd, Ord)]
 pub struct Name {
-    text: String,
+    text: Text,
 }
 
 impl Model for Name {
     ghost use Rattle.std.specs.Prelude.{ℕ, List};
-    ghost use Rattle.std.specs.String.{string_bytes};
 
     ghost Value = { List ℕ };
 
-    ghost view = { λ name. string_bytes name.text };
+    ghost view = { λ name. name.text };
+
+    ghost inverse = { λ text. record { text = text } };
 }
 
 fn is_name_byte(byte: u8) -> bool
@@ -74,7 +72,7 @@ impl Name {
             return Err(fault);
         }
         Ok(Name {
-            text: lowercase(alloc, body)?,
+            text: Text::from(lowercase(alloc, body)?),
         })
     }
 
@@ -90,45 +88,7 @@ impl Name {
         ensures value { IfOk result (λ copy. copy ≡ self.now) }
     {
         Ok(Name {
-            text: String::from_str(alloc, self.text())?,
+            text: self.text.copy(alloc)?,
         })
-    }
-}
-
-impl PartialEq for Name {
-    ghost eq = { pointwise nat_eq };
-
-    ghost laws = { partial_equiv_from_equiv nat_list_eq_equiv };
-
-    fn eq(&self, other: &Name) -> bool {
-        self.text() == other.text()
-    }
-}
-
-impl Eq for Name {
-    ghost laws = { nat_list_eq_equiv };
-}
-
-impl PartialOrd for Name {
-    ghost partial_cmp = { λ x y. Some (slice_cmp nat_cmp x y) };
-
-    ghost laws = { texts_po };
-
-    fn partial_cmp(&self, other: &Name) -> Option<Ordering> {
-        Some(self.cmp(other))
-    }
-}
-
-impl Ord for Name {
-    ghost cmp = { slice_cmp nat_cmp };
-
-    ghost total = { nat_list_cmp_total };
-
-    ghost matches_partial_cmp = { λ x y. refl };
-
-    ghost matches_eq = { texts_ties };
-
-    fn cmp(&self, other: &Name) -> Ordering {
-        self.text().cmp(other.text())
     }
 }

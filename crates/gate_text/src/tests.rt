@@ -1,5 +1,6 @@
 use crate::{
-    ChangeNo, Command, Commit, DeliveryId, Name, Names, Spoken, Text, TextFault, read_comment,
+    ChangeNo, Command, Commit, Context, DeliveryId, Label, Name, Names, Spoken, Text, TextFault,
+    read_comment,
 };
 use std::test::Fail;
 
@@ -101,7 +102,9 @@ fn change_numbers_of_integers(rt: HostRuntime) {
 #[test]
 fn any_text_is_kept(rt: HostRuntime) -> Result<(), Fail> {
     for text in ["", "bors r+\r\n", "é\0"] {
-        assert_eq!(rt; Text::from_str(rt.alloc(), text)?.as_str(), text);
+        let kept = Text::from_str(rt.alloc(), text)?;
+        assert_eq!(rt; kept.as_str(), text);
+        assert_eq!(rt; kept.copy(rt.alloc())?, kept);
     }
     Ok(())
 }
@@ -123,6 +126,48 @@ fn delivery_identifiers(rt: HostRuntime) -> Result<(), Fail> {
     ] {
         assert_eq!(rt;
             DeliveryId::read(rt.alloc(), text).err(),
+            Some(fault),
+            "{text:?}"
+        );
+    }
+    Ok(())
+}
+
+#[test]
+fn labels_and_names_of_statuses_that_are_read(rt: HostRuntime) -> Result<(), Fail> {
+    let letters_255 = format!(in rt.alloc();
+        "{LETTERS_64}{LETTERS_64}{LETTERS_64}{}",
+        &LETTERS_64[1..]
+    )?;
+    for text in ["hold it", "ci", "CI / build (é)", " ", letters_255.as_str()] {
+        let label = Label::read(rt.alloc(), text)?;
+        assert_eq!(rt; label.text(), text);
+        assert_eq!(rt; label.copy(rt.alloc())?, label);
+        let context = Context::read(rt.alloc(), text)?;
+        assert_eq!(rt; context.text(), text);
+        assert_eq!(rt; context.copy(rt.alloc())?, context);
+    }
+    Ok(())
+}
+
+#[test]
+fn labels_and_names_of_statuses_that_are_refused(rt: HostRuntime) -> Result<(), Fail> {
+    let letters_256 = format!(in rt.alloc(); "{LETTERS_64}{LETTERS_64}{LETTERS_64}{LETTERS_64}")?;
+    for (text, fault) in [
+        ("", TextFault::Empty),
+        (letters_256.as_str(), TextFault::TooLong),
+        ("a\tb", TextFault::BadByte(1)),
+        ("\0", TextFault::BadByte(0)),
+        ("é\u{1f}", TextFault::BadByte(2)),
+        ("ab\u{7f}", TextFault::BadByte(2)),
+    ] {
+        assert_eq!(rt;
+            Label::read(rt.alloc(), text).err(),
+            Some(fault),
+            "{text:?}"
+        );
+        assert_eq!(rt;
+            Context::read(rt.alloc(), text).err(),
             Some(fault),
             "{text:?}"
         );

@@ -1,7 +1,7 @@
-use Rattle.std.proofs.Common.{◌≡◌, ◌<◌, ◌++◌, length, take, arith}
+use Rattle.std.proofs.Common.{◌≡◌, ◌≤◌, ◌++◌, length, take, arith}
 use Rattle.std.proofs.KnownBytes.{Consumes-trans}
-use Rattle.std.proofs.lemmas.List.{length-take}
-use Rattle.gate_bot.proofs.Ending.{within_served, too_much}
+use Rattle.std.proofs.lemmas.List.{length-append, length-take}
+use Rattle.gate_bot.proofs.Ending.{within_served, behind_within, too_much}
 use Rattle.gate_bot.proofs.Splitting.{length-ended_lines}
 use Rattle.gate_bot.proofs.lines.serve_lines.Goals as goal
 
@@ -15,10 +15,11 @@ returns-then-left-eq0-clause-served g c =
     let so_far = c.chunks.invariant in
     let chunk = take c.in_ok-n.n c.read_part.new.buffer in
     let size : length so_far.0 ≡ 4294967296 = omega (arith, so_far.3, c.if-left-eq0.true) in
-    let some : 0 < length chunk = omega (arith, length-take c.in_ok-n.n c.read_part.new.buffer, c.read_part.auto.buffer, c.if-n-eq0.false, c.in_ok-n.ensures.0, c.room_for.ensures.within) in (
+    let one : length chunk ≡ 1 = omega (arith, length-take c.in_ok-n.n c.read_part.new.buffer, c.read_part.auto.buffer, c.if-n-eq0.false, c.in_ok-n.ensures.0, c.room_for.ensures.within, c.room_for.ensures.last c.if-left-eq0.true) in (
       so_far.0 ++ chunk,
       Consumes-trans _ _ _ so_far.0 chunk so_far.1 c.in_ok-n.ensures.1,
-      too_much c.args.bench.now so_far.0 chunk c.chunks.bench c.chunks.line c.chunks.count _ _ size some so_far.2,
+      omega (arith, length-append so_far.0 chunk),
+      too_much c.args.bench.now so_far.0 chunk (g.R.Read.remaining c.read_part.new.reader) c.chunks.bench c.chunks.line c.chunks.count _ _ size so_far.2,
     )
 
 pub take_chunk-requires : goal.take_chunk-requires
@@ -29,8 +30,11 @@ take_chunk-requires g c =
 pub returns-in-Err-clause-served : goal.returns-in-Err-clause-served
 returns-in-Err-clause-served g c =
     let so_far = c.chunks.invariant in
-    let chunk = take c.in_ok-n.n c.read_part.new.buffer in (
+    let chunk = take c.in_ok-n.n c.read_part.new.buffer in
+    let stopped = c.in-Err.ensures.taken c.args.bench.now so_far.0 _ so_far.2 in
+    let within : length (so_far.0 ++ chunk) ≤ 4294967296 = omega (arith, length-append so_far.0 chunk, so_far.3, length-take c.in_ok-n.n c.read_part.new.buffer, c.in_ok-n.ensures.0, c.room_for.ensures.left) in (
       so_far.0 ++ chunk,
       Consumes-trans _ _ _ so_far.0 chunk so_far.1 c.in_ok-n.ensures.1,
-      within_served c.in-Err.fault c.args.bench.now so_far.0 chunk c.take_chunk.new.bench _ _ (c.in-Err.ensures.taken c.args.bench.now so_far.0 _ so_far.2),
+      behind_within c.in-Err.fault _ _ _ _ _ (so_far.0 ++ chunk) within stopped.stops,
+      within_served c.in-Err.fault c.args.bench.now so_far.0 chunk (g.R.Read.remaining c.read_part.new.reader) c.take_chunk.new.bench _ _ stopped,
     )
