@@ -7,8 +7,8 @@ use crate::text::Text;
 use std::alloc::{AllocError, Global};
 use std::marker::Model;
 
-/// The name of a status, which code hosts call its context: 1 to 255 bytes of UTF-8 without control characters. Names of statuses are compared and ordered by their
-/// bytes. A contract sees one as the list of its bytes.
+/// The name of a status, which code hosts call its context: 1 to 255 bytes of UTF-8 without control characters. Names of
+/// statuses are compared and ordered by their bytes. A contract sees one as the list of its bytes.
 #[derive(Debug, Drop, PartialEq, Eq, PartialOrd, Ord)]
 pub struct Context {
     text: Text,
@@ -25,8 +25,8 @@ impl Model for Context {
 }
 
 impl Context {
-    /// Reads the name of a status. Refusals, in their order: `Empty`, `TooLong` (more than 255 bytes), `BadByte` (a byte below a space,
-    /// or DEL), `Memory`.
+    /// Reads the name of a status. Refusals, in their order: `Empty`, `TooLong` (more than 255 bytes), `BadByte` (a byte
+    /// below a space, or DEL), `Memory`.
     pub fn read(alloc: Global, text: &str) -> Result<Context, TextFault>
         ensures value { Reads result (plain_of text.now) }
     {
