@@ -7,11 +7,12 @@ use Rattle.std.specs.Cmp.{nat_cmp_total, unsigned_ties}
 use Rattle.std.specs.Cmp.Lexicographic.{slice_cmp, nat_list_cmp_total}
 use Rattle.std.specs.FinMap as map
 use Rattle.std.specs.FinMap.{FinMap, get-insert, get-remove}
+use Rattle.std.specs.FinSet as set
 use Rattle.std.specs.Option.{option_map, option_or, unwrap_or}
 use Rattle.std.specs.Ordering.{nat_cmp}
 use Rattle.std.specs.Str.{bytes_eq}
-use Rattle.gate_text.specs.declared.command.Command.TheVariants.{Ping, Approve, Withdraw}
-use Rattle.gate_text.specs.declared.command.Spoken.TheVariants.{Known, Unknown}
+use Rattle.gate_text.specs.declared.command.Command.TheVariants.{Withdraw}
+use Rattle.gate_text.specs.declared.command.Spoken.TheVariants.{Known}
 use Rattle.gate_rules.specs.Rules.{Look, ChangeLook}
 use Rattle.gate_rules.specs.View.{DeskView, roles_with, change_look, look}
 use Rattle.gate_rules.specs.declared.change.Change.{Change}
@@ -29,13 +30,11 @@ abbrev without_approvers : ChangeLook → ChangeLook
 without_approvers change = record change { approvers = None }
 
 abbrev opened_look : List ℕ → List ℕ → ChangeLook
-opened_look author head = record { author = Some author; head = Some head; phase = Some phase.Opened; approvers = None }
+opened_look author head = record { author = Some author; head = Some head; phase = Some phase.Opened; delegate = λ person. false; approvers = None; last = None }
 
 abbrev pub next_look : Look → Act → Look
-next_look s (Spoken change person Unknown) = s
-next_look s (Spoken change person (Known Ping)) = s
-next_look s (Spoken change person (Known Approve)) = s
 next_look s (Spoken change person (Known Withdraw)) = record s { change = λ c. cond (eqb c change) (without_approvers (s.change c)) (s.change c) }
+next_look s (Spoken change person _) = s
 next_look s (Role person role) = record s { role = λ p. cond (bytes_eq p person) role (s.role p) }
 next_look s (Opened change author head) = record s { change = λ c. cond (eqb c change) (opened_look author head) (s.change c) }
 
@@ -91,14 +90,29 @@ withdraw_next desk number (Some change) is =
       change = λ c. (changes_next desk.changes number (withdrawn change) c ∙ withdrawn_some desk.changes number c change (eqb c number) refl is) i;
     }
 
+-- nobody is a delegate of a change that was just opened
+opened_looks : (author head : List ℕ) → change_look (Some (just_opened author head)) ≡ opened_look author head
+opened_looks author head =
+    λ i. record {
+      author = Some author;
+      head = Some head;
+      phase = Some phase.Opened;
+      delegate = λ person. set.contains-empty (slice_cmp nat_cmp) person i;
+      approvers = None;
+      last = None;
+    }
+
+open_next : (desk : DeskView) (change : ℕ) (author head : List ℕ) (c : ℕ)
+    → change_look (map.get (map.insert desk.changes change (just_opened author head)) c) ≡ cond (eqb c change) (opened_look author head) ((look desk).change c)
+open_next desk change author head c =
+    changes_next desk.changes change (just_opened author head) c ∙ ap (λ opened. cond (eqb c change) opened ((look desk).change c)) (opened_looks author head)
+
 pub machine_next : (desk : DeskView) (act : Act) → look (effect desk act) ≡ next_look (look desk) act
-machine_next desk (Spoken change person Unknown) = refl
-machine_next desk (Spoken change person (Known Ping)) = refl
-machine_next desk (Spoken change person (Known Approve)) = refl
 machine_next desk (Spoken change person (Known Withdraw)) = withdraw_next desk change _ refl
+machine_next desk (Spoken change person _) = refl
 machine_next desk (Role person role) = λ i. record { role = λ p. roles_next desk.roles person role p i; change = (look desk).change }
 machine_next desk (Opened change author head) =
-    λ i. record { role = (look desk).role; change = λ c. changes_next desk.changes change (just_opened author head) c i }
+    λ i. record { role = (look desk).role; change = λ c. open_next desk change author head c i }
 
 -- THE HISTORY
 role_said : (b : Bool) (role : RoleOf) (had : Option RoleOf) → unwrap_or (option_or (cond b (Some role) None) had) Nobody ≡ cond b role (unwrap_or had Nobody)
@@ -110,9 +124,11 @@ opening_said : (b : Bool) (author head : List ℕ) (had_author had_head : Option
       author = option_or (cond b (Some author) None) had_author;
       head = option_or (cond b (Some head) None) had_head;
       phase = option_or (cond b (Some phase.Opened) None) had_phase;
+      delegate = λ person. false;
       approvers = None;
+      last = None;
     }
-    ≡ cond b (opened_look author head) (record { author = had_author; head = had_head; phase = had_phase; approvers = None })
+    ≡ cond b (opened_look author head) (record { author = had_author; head = had_head; phase = had_phase; delegate = λ person. false; approvers = None; last = None })
 opening_said true author head had_author had_head had_phase = refl
 opening_said false author head had_author had_head had_phase = refl
 
@@ -121,11 +137,9 @@ withdrawal_said true change is = is
 withdrawal_said false change is = refl
 
 pub history_next : (history : List Entry) (act : Act) → look_back (entry_of act Done ∷ history) ≡ next_look (look_back history) act
-history_next history (Spoken change person Unknown) = refl
-history_next history (Spoken change person (Known Ping)) = refl
-history_next history (Spoken change person (Known Approve)) = refl
 history_next history (Spoken change person (Known Withdraw)) =
     λ i. record { role = (look_back history).role; change = λ c. withdrawal_said (eqb c change) ((look_back history).change c) refl i }
+history_next history (Spoken change person _) = refl
 history_next history (Role person role) =
     λ i. record { role = λ p. role_said (bytes_eq p person) role (last_of (role_set p) history) i; change = (look_back history).change }
 history_next history (Opened change author head) =

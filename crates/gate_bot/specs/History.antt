@@ -1,5 +1,5 @@
 -- THE HISTORY: all acts so far with their replies, and what it says of people and changes.
-use Rattle.std.specs.Prelude.{◌≡◌, ℕ, ◌==◌, List, [], ◌∷◌, Option, Some, None, if◌then◌else◌}
+use Rattle.std.specs.Prelude.{◌≡◌, ℕ, ◌==◌, false, List, [], ◌∷◌, Option, Some, None, if◌then◌else◌}
 use Rattle.std.specs.Option.{unwrap_or, option_or, option_and_then}
 use Rattle.std.specs.Str.{bytes_eq}
 use Rattle.gate_rules.specs.Rules.{Look}
@@ -67,7 +67,8 @@ phase_set change (Role person role) = None
 abbrev pub phase_back : List Entry → ℕ → Option Phase
 phase_back history change = last_of (phase_set change) history
 
--- What the rules read of a history. No approval has acted in one yet, since no settings can be accepted.
+-- What the rules read of a history. No approval, delegation or try has acted in one yet: no settings can be accepted, and
+-- the rules of the delegations and of the tries are still to come.
 abbrev pub look_back : List Entry → Look
 look_back history = record {
   role = role_back history;
@@ -75,7 +76,9 @@ look_back history = record {
     author = author_back history change;
     head = head_back history change;
     phase = phase_back history change;
+    delegate = λ person. false;
     approvers = None;
+    last = None;
   };
 }
 

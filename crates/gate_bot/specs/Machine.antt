@@ -1,9 +1,10 @@
 -- THE MACHINE: what one act is answered on a desk, and the desk after it.
 use Rattle.std.specs.Prelude.{◌≡◌, ℕ, not, List, [], ◌∷◌, Option, Some, None}
 use Rattle.std.specs.FinMap as map
+use Rattle.std.specs.FinSet as set
 use Rattle.std.specs.Option.{option_map}
-use Rattle.gate_text.specs.declared.command.Command.TheVariants.{Ping, Approve, Withdraw}
-use Rattle.gate_text.specs.declared.command.Spoken.TheVariants.{Known, Unknown}
+use Rattle.gate_text.specs.declared.command.Command.TheVariants.{Withdraw}
+use Rattle.gate_text.specs.declared.command.Spoken.TheVariants.{Known}
 use Rattle.gate_rules.specs.Rules.{Look, unless, is_open, rule_of}
 use Rattle.gate_rules.specs.View.{DeskView, with_role, with_change, look}
 use Rattle.gate_rules.specs.declared.change.Change.{Change}
@@ -32,19 +33,18 @@ withdrawn change = record change { approved = None }
 
 -- a change that was just opened
 abbrev pub just_opened : List ℕ → List ℕ → Change
-just_opened author head = record { author = author; head = head; phase = phase.Opened; approved = None }
+just_opened author head = record { author = author; head = head; phase = phase.Opened; delegates = set.empty; approved = None; last = None }
 
 -- the desk with one change altered, if it is there
 abbrev pub with_altered : DeskView → ℕ → Option Change → DeskView
 with_altered desk number None = desk
 with_altered desk number (Some change) = with_change desk number change
 
--- What an act does that no rule denies. An approval never acts yet, since no settings can be accepted.
+-- What an act does that no rule denies. Of the commands that change the desk `r-` alone can act yet: `r+` can't, since no
+-- settings can be accepted, and the rules of the others are still to come.
 abbrev pub effect : DeskView → Act → DeskView
-effect desk (Spoken change person Unknown) = desk
-effect desk (Spoken change person (Known Ping)) = desk
-effect desk (Spoken change person (Known Approve)) = desk
 effect desk (Spoken change person (Known Withdraw)) = with_altered desk change (option_map withdrawn (map.get desk.changes change))
+effect desk (Spoken change person _) = desk
 effect desk (Role person role) = with_role desk person role
 effect desk (Opened change author head) = with_change desk change (just_opened author head)
 

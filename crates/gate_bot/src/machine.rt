@@ -7,7 +7,7 @@ ghost use Rattle.gate_bot.specs.Machine.{broken, effect, with_altered, withdrawn
 use crate::act::Act;
 use crate::reply::{Answer, Reply};
 use gate_rules::{Change, Desk, Phase, Rule};
-use gate_text::{ChangeNo, Command, Spoken};
+use gate_text::{ChangeNo, Command, NameSet, Spoken};
 use std::alloc::{AllocError, Global};
 
 /// Lets acts step on the desk in order, and answers their replies. After `AllocError` any number of them,
@@ -61,7 +61,8 @@ fn perform(desk: &mut Desk, alloc: Global, act: &Act) -> Result<(), AllocError>
     match act {
         Act::Spoken { change, spoken, .. } => match spoken {
             Spoken::Known(Command::Withdraw) => withdraw(desk, alloc, *change),
-            Spoken::Known(Command::Ping | Command::Approve) | Spoken::Unknown => Ok(()),
+            // `ping` does nothing, and of the others none can act yet.
+            Spoken::Known(_) | Spoken::Unknown => Ok(()),
         },
         Act::Role { person, role } => desk.set_role(alloc, person, *role),
         Act::Opened {
@@ -73,7 +74,9 @@ fn perform(desk: &mut Desk, alloc: Global, act: &Act) -> Result<(), AllocError>
                 author: author.copy(alloc)?,
                 head: *head,
                 phase: Phase::Opened,
+                delegates: NameSet::new(alloc),
                 approved: None,
+                last: None,
             };
             desk.put_change(alloc, *change, &opened)
         }

@@ -1,11 +1,13 @@
 -- THE RULES. They are stated once, over what a `Look` shows, and read on the desk and on the history alike.
 use Rattle.std.specs.Prelude.{ℕ, Bool, true, false, ◌||◌, List, [], ◌∷◌, Option, Some, None, is_some}
 use Rattle.gate_text.specs.declared.command.Command.{Command}
-use Rattle.gate_text.specs.declared.command.Command.TheVariants.{Ping, Approve, Withdraw}
+use Rattle.gate_text.specs.declared.command.Command.TheVariants.{Ping, Approve, ApproveFor, Withdraw, Priority, Try, TryCancel, DelegateAuthor, DelegateTo, DelegateNone, Retry}
 use Rattle.gate_text.specs.declared.command.Spoken.{Spoken}
-use Rattle.gate_text.specs.declared.command.Spoken.TheVariants.{Known, Unknown}
+use Rattle.gate_text.specs.declared.command.Spoken.TheVariants.{Known}
 use Rattle.gate_rules.specs.declared.change.Phase.{Phase}
 use Rattle.gate_rules.specs.declared.change.Phase.TheVariants.{Opened, Closed, Landed}
+use Rattle.gate_rules.specs.declared.change.Repeat.{Repeat}
+use Rattle.gate_rules.specs.declared.change.Repeat.TheVariants as repeat
 use Rattle.gate_rules.specs.declared.role.Role.{Role}
 use Rattle.gate_rules.specs.declared.role.Role.TheVariants as role
 use Rattle.gate_rules.specs.declared.role.Level.{Level}
@@ -14,12 +16,14 @@ use Rattle.gate_rules.specs.declared.rule.Rule.{Rule}
 use Rattle.gate_rules.specs.declared.rule.Rule.TheVariants.{UnknownChange, NotACommand, NotPermitted, NotOpen, NoSettings, NotApproved}
 
 -- WHAT THE RULES READ
--- of a change: nothing in any field where the change was never opened
+-- of a change: nothing in any field, and no delegate, where the change was never opened
 pub record ChangeLook : Type 0 where
   pub author : Option (List ℕ)
   pub head : Option (List ℕ)
   pub phase : Option Phase
+  pub delegate : List ℕ → Bool
   pub approvers : Option (List (List ℕ))
+  pub last : Option Repeat
 
 -- of the whole
 pub record Look : Type 0 where
@@ -45,15 +49,29 @@ admits level.MemberOrDelegate role delegate = is_member role || delegate
 admits level.ReviewerOrDelegate role delegate = is_reviewer role || delegate
 admits level.Reviewer role delegate = is_reviewer role
 
+-- the level that `retry` needs: that of the command which it repeats
+abbrev pub need_of_retry : Option Repeat → Level
+need_of_retry None = level.Member
+need_of_retry (Some repeat.Approve) = level.ReviewerOrDelegate
+need_of_retry (Some (repeat.ApproveFor names)) = level.ReviewerOrDelegate
+need_of_retry (Some repeat.Try) = level.MemberOrDelegate
+
 -- the level that a command on a change needs
 abbrev pub need : Look → ℕ → Command → Level
 need s change Ping = level.Anyone
 need s change Approve = level.ReviewerOrDelegate
+need s change (ApproveFor names) = level.ReviewerOrDelegate
 need s change Withdraw = level.ReviewerOrDelegate
+need s change (Priority priority) = level.ReviewerOrDelegate
+need s change Try = level.MemberOrDelegate
+need s change TryCancel = level.MemberOrDelegate
+need s change DelegateAuthor = level.Reviewer
+need s change (DelegateTo names) = level.Reviewer
+need s change DelegateNone = level.Reviewer
+need s change Retry = need_of_retry (s.change change).last
 
--- No one is a delegate yet: delegation is still to come.
 abbrev pub is_delegate : Look → ℕ → List ℕ → Bool
-is_delegate s change person = false
+is_delegate s change person = (s.change change).delegate person
 
 abbrev pub permits : Look → List ℕ → ℕ → Command → Bool
 permits s person change command = admits (need s change command) (s.role person) (is_delegate s change person)
@@ -84,12 +102,8 @@ abbrev pub unless : Bool → Rule → Option Rule
 unless true rule = None
 unless false rule = Some rule
 
--- what a person's line about a change is judged by, in order
+-- what a person's line about a change is judged by, in order; a command whose rules are still to come counts as no command
 abbrev pub row : Look → List ℕ → ℕ → Spoken → List (Option Rule)
-row s person change Unknown =
-    unless (is_known s change) UnknownChange
-    ∷ Some NotACommand
-    ∷ []
 row s person change (Known Ping) =
     unless (is_known s change) UnknownChange
     ∷ []
@@ -104,6 +118,10 @@ row s person change (Known Withdraw) =
     ∷ unless (permits s person change Withdraw) (NotPermitted (need s change Withdraw))
     ∷ unless (is_open s change) NotOpen
     ∷ unless (is_approved s change) NotApproved
+    ∷ []
+row s person change _ =
+    unless (is_known s change) UnknownChange
+    ∷ Some NotACommand
     ∷ []
 
 -- the first rule that fails, if one does

@@ -1,10 +1,11 @@
 -- THE DESK as finite maps, what each setter does to it, and how the rules see it.
-use Rattle.std.specs.Prelude.{ℕ, List, Option, if◌then◌else◌}
+use Rattle.std.specs.Prelude.{ℕ, false, List, Option, if◌then◌else◌}
 use Rattle.std.specs.Ordering.{nat_cmp}
 use Rattle.std.specs.Cmp.Lexicographic.{slice_cmp}
 use Rattle.std.specs.FinMap as map
 use Rattle.std.specs.FinMap.{FinMap}
-use Rattle.std.specs.Option.{unwrap_or, option_map, option_and_then}
+use Rattle.std.specs.FinSet as set
+use Rattle.std.specs.Option.{unwrap_or, option_map, option_map_or, option_and_then}
 use Rattle.gate_rules.specs.declared.change.Change.{Change}
 use Rattle.gate_rules.specs.declared.role.Role.{Role}
 use Rattle.gate_rules.specs.declared.role.Role.TheVariants.{Nobody}
@@ -37,7 +38,9 @@ change_look change = record {
   author = option_map (λ c. c.author) change;
   head = option_map (λ c. c.head) change;
   phase = option_map (λ c. c.phase) change;
+  delegate = λ person. option_map_or (λ c. set.contains c.delegates person) change false;
   approvers = option_and_then (λ c. c.approved) change;
+  last = option_and_then (λ c. c.last) change;
 }
 
 abbrev pub look : DeskView → Look

@@ -1,6 +1,6 @@
 ghost use Rattle.std.specs.Prelude.{◌≡◌, IfOk};
 
-use gate_text::{Commit, Name, Names};
+use gate_text::{Commit, Name, NameSet, Names};
 use std::alloc::{AllocError, Global};
 
 /// How far a change (a pull request) has come.
@@ -14,6 +14,30 @@ pub enum Phase {
     Landed,
 }
 
+/// A command that `retry` repeats.
+#[derive(Debug, Drop, PartialEq, Eq)]
+pub enum Repeat {
+    /// `r+`: the approval of who writes it.
+    Approve,
+    /// `r=`: the approval in the name of these people.
+    ApproveFor(Names),
+    /// `try`: a test that lands nothing.
+    Try,
+}
+
+impl Repeat {
+    /// A copy, or `AllocError` where there is no memory for it.
+    pub fn copy(&self, alloc: Global) -> Result<Repeat, AllocError>
+        ensures value { IfOk result (λ copy. copy ≡ self.now) }
+    {
+        Ok(match self {
+            Repeat::Approve => Repeat::Approve,
+            Repeat::ApproveFor(names) => Repeat::ApproveFor(names.copy(alloc)?),
+            Repeat::Try => Repeat::Try,
+        })
+    }
+}
+
 /// A change (a pull request) as the bot keeps it.
 #[derive(Debug, Drop, PartialEq, Eq)]
 pub struct Change {
@@ -23,8 +47,12 @@ pub struct Change {
     pub head: Commit,
     /// How far it has come.
     pub phase: Phase,
+    /// Who may approve and try it besides those whose role lets them.
+    pub delegates: NameSet,
     /// The approvers, where the change is approved.
     pub approved: Option<Names>,
+    /// The last command that `retry` would repeat, if there was one.
+    pub last: Option<Repeat>,
 }
 
 impl Change {
@@ -36,11 +64,17 @@ impl Change {
             Some(approvers) => Some(approvers.copy(alloc)?),
             None => None,
         };
+        let last = match &self.last {
+            Some(repeat) => Some(repeat.copy(alloc)?),
+            None => None,
+        };
         Ok(Change {
             author: self.author.copy(alloc)?,
             head: self.head,
             phase: self.phase,
+            delegates: self.delegates.copy(alloc)?,
             approved,
+            last,
         })
     }
 }

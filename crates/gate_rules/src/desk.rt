@@ -5,7 +5,7 @@ ghost use Rattle.gate_rules.specs.Rules as rules;
 ghost use Rattle.gate_rules.specs.View.{empty_desk, with_role, with_change, role_on, look};
 ghost use Rattle.gate_rules.specs.declared.role.Role.TheVariants.{Nobody};
 
-use crate::change::{Change, Phase};
+use crate::change::{Change, Phase, Repeat};
 use crate::role::{Level, Role};
 use crate::rule::Rule;
 use gate_text::{ChangeNo, Command, Name, Spoken};
@@ -87,22 +87,52 @@ impl Desk {
         Ok(())
     }
 
-    /// The level that a command on this change needs, whether the change is on the desk or not.
+    /// The level that a command on this change needs: for `retry` that of the command which it would repeat, and `Member`
+    /// where there is none to repeat, as on a change that isn't on the desk.
     pub fn need(&self, change: ChangeNo, command: &Command) -> Level
         ensures value { result ≡ rules.need (look self.now) change command.now }
     {
         match command {
             Command::Ping => Level::Anyone,
-            Command::Approve | Command::Withdraw => Level::ReviewerOrDelegate,
+            Command::Approve | Command::ApproveFor(_) => Level::ReviewerOrDelegate,
+            Command::Withdraw | Command::Priority(_) => Level::ReviewerOrDelegate,
+            Command::Try | Command::TryCancel => Level::MemberOrDelegate,
+            Command::DelegateAuthor | Command::DelegateTo(_) | Command::DelegateNone => {
+                Level::Reviewer
+            }
+            Command::Retry => self.need_of_retry(change),
         }
     }
 
-    /// Whether the person has the level that the command on this change needs, whether the change is on the desk or
-    /// not. Nobody is a delegate of a change yet.
+    fn need_of_retry(&self, change: ChangeNo) -> Level
+        ensures { result ≡ rules.need (look self.now) change Command.Retry }
+    {
+        let Some(change) = self.change(change) else {
+            return Level::Member;
+        };
+        match &change.last {
+            Some(Repeat::Approve | Repeat::ApproveFor(_)) => Level::ReviewerOrDelegate,
+            Some(Repeat::Try) => Level::MemberOrDelegate,
+            None => Level::Member,
+        }
+    }
+
+    fn is_delegate(&self, person: &Name, change: ChangeNo) -> bool
+        ensures { result ≡ rules.is_delegate (look self.now) change person.now }
+    {
+        match self.change(change) {
+            Some(change) => change.delegates.contains(person),
+            None => false,
+        }
+    }
+
+    /// Whether the person has the level that the command on this change needs. Nobody is a delegate of a change that
+    /// isn't on the desk.
     pub fn permits(&self, person: &Name, change: ChangeNo, command: &Command) -> bool
         ensures value { result ≡ rules.permits (look self.now) person.now change command.now }
     {
-        self.need(change, command).admits(self.role(person), false)
+        let level = self.need(change, command);
+        level.admits(self.role(person), self.is_delegate(person, change))
     }
 
     /// Whether the change of this number is on the desk and open.
@@ -148,10 +178,11 @@ impl Desk {
             return Some(Rule::UnknownChange);
         }
         match spoken {
-            Spoken::Unknown => Some(Rule::NotACommand),
             Spoken::Known(Command::Ping) => None,
             Spoken::Known(Command::Approve) => self.approve_rule(person, change),
             Spoken::Known(Command::Withdraw) => self.withdraw_rule(person, change),
+            // The rules of the other commands are still to come.
+            Spoken::Known(_) | Spoken::Unknown => Some(Rule::NotACommand),
         }
     }
 

@@ -8,7 +8,7 @@ mod rule;
 #[cfg(test)]
 mod tests;
 
-pub use change::{Change, Phase};
+pub use change::{Change, Phase, Repeat};
 pub use desk::Desk;
 pub use role::{Level, Role};
 pub use rule::Rule;

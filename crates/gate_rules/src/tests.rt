@@ -1,5 +1,7 @@
+mod levels;
+
 use crate::{Change, Desk, Level, Phase, Role, Rule};
-use gate_text::{ChangeNo, Command, Commit, Name, Names, Spoken};
+use gate_text::{ChangeNo, Command, Commit, Name, NameSet, Names, Spoken};
 use std::alloc::Global;
 use std::test::Fail;
 
@@ -16,7 +18,9 @@ fn change(alloc: Global, phase: Phase, is_approved: bool) -> Result<Change, Fail
         author: Name::read(alloc, "carol")?,
         head: Commit::read(HEAD)?,
         phase,
+        delegates: NameSet::new(alloc),
         approved,
+        last: None,
     })
 }
 

@@ -1,5 +1,5 @@
 -- The functions that read a comment and its grammar agree, both ways.
-use Rattle.std.proofs.Common.{◌≡◌, ℕ, Bool, true, false, cond, ◌||◌, ◌⊎◌, inl, inr, List, [], ◌∷◌, ◌++◌, map, length, take, drop, Option, Some, None, refl, sym, ◌∙◌, ap, subst, codes}
+use Rattle.std.proofs.Common.{◌≡◌, ℕ, Bool, true, false, cond, inl, inr, List, [], ◌∷◌, ◌++◌, map, length, take, drop, Option, Some, None, refl, sym, ◌∙◌, ap, subst, codes}
 use Rattle.std.proofs.lemmas.List.{take-append-drop, length-map}
 use Rattle.std.proofs.lemmas.Slice.Eq.{bytes_eq-Decides}
 use Rattle.std.proofs.Math.Seq.{take-append_seam, drop-append_seam}
@@ -7,64 +7,29 @@ use Rattle.std.specs.Char.{to_ascii_lowercase}
 use Rattle.std.specs.List.{flat_map}
 use Rattle.std.specs.Str.{bytes_eq}
 use Rattle.std.specs.Str.Lines.{strip_carriage_return}
-use Rattle.gate_text.specs.Grammar.{Form, a_ping, an_approval, a_withdrawal, BodySays, IsTrigger, LineSays, a_command_line, a_remark, LinesSay, CommentSays}
-use Rattle.gate_text.specs.Reading.{is_trigger, body_of, command_of, spoken_in, spoken_by, known, line_says, comment_says}
+use Rattle.gate_text.specs.Grammar.{Form, BodySays, IsTrigger, LineSays, a_command_line, a_remark, LinesSay, CommentSays}
+use Rattle.gate_text.specs.Reading.{commands_of, spoken_as, body_says, is_trigger, body_of, spoken_by, line_says, comment_says}
 use Rattle.gate_text.specs.Spaces.{trim}
 use Rattle.gate_text.specs.declared.command.Command.{Command}
-use Rattle.gate_text.specs.declared.command.Command.TheVariants.{Ping, Approve, Withdraw}
 use Rattle.gate_text.specs.declared.command.Spoken.{Spoken}
-use Rattle.gate_text.specs.declared.command.Spoken.TheVariants.{Known, Unknown}
-
--- what a test chose
-chosen : {X : Type 0} (b : Bool) {x y z : X} → cond b x y ≡ z → ((b ≡ true) × (x ≡ z)) ⊎ ((b ≡ false) × (y ≡ z))
-chosen true is = inl (refl, is)
-chosen false is = inr (refl, is)
+use Rattle.gate_text.specs.declared.command.Spoken.TheVariants.{Unknown}
+use Rattle.gate_text.proofs.Forms.{commands_taken, commands_again}
+use Rattle.gate_text.proofs.Tools.{either}
 
 -- BODIES
-formed : (literal : List ℕ) (said : Command) → Form literal (said ∷ []) → (body : List ℕ) (command : Command)
-    → (bytes_eq body literal ≡ true) × (Some said ≡ Some command) → Form body (command ∷ [])
-formed literal said form body command is =
-    let body_is : body ≡ literal = (bytes_eq-Decides body literal).0 is.0 in
-    let said_is : said ≡ command = cc is.1 in
-    rw (body_is, ← said_is) form
+body_said : (body : List ℕ) (read : Option (List Command)) → commands_of body ≡ read → BodySays body (spoken_as read)
+body_said body None is = inr (λ commands form. cc (is, commands_again body commands form), refl)
+body_said body (Some commands) is = inl (commands, commands_taken body commands is, refl)
 
-form_takes : (body : List ℕ) (command : Command) → command_of body ≡ Some command → Form body (command ∷ [])
-form_takes body command is = elim (chosen (bytes_eq body (codes "ping")) is) [
-  | inl ping ↦ formed _ Ping a_ping body command ping
-  | inr other ↦ elim (chosen (bytes_eq body (codes "r+")) other.1) [
-    | inl approval ↦ formed _ Approve an_approval body command approval
-    | inr another ↦ elim (chosen (bytes_eq body (codes "r-")) another.1) [
-      | inl withdrawal ↦ formed _ Withdraw a_withdrawal body command withdrawal
-      | inr none ↦ cc none.1
-    ]
-  ]
-]
-
-form_again : (body : List ℕ) (commands : List Command) → Form body commands
-    → (command : Command) × (command_of body ≡ Some command) × (commands ≡ command ∷ [])
-form_again body commands a_ping = (Ping, refl, refl)
-form_again body commands an_approval = (Approve, refl, refl)
-form_again body commands a_withdrawal = (Withdraw, refl, refl)
-
-body_said : (body : List ℕ) (read : Option Command) → command_of body ≡ read → BodySays body (known read ∷ [])
-body_said body None is = inr (λ commands form. let again = form_again body commands form in cc (is, again.1), refl)
-body_said body (Some command) is = inl (command ∷ [], form_takes body command is, refl)
-
-only_known : (body : List ℕ) (read : Option Command) → command_of body ≡ read → ((commands : List Command) → Form body commands → ⊥) → Unknown ∷ [] ≡ known read ∷ []
+only_known : (body : List ℕ) (read : Option (List Command)) → commands_of body ≡ read → ((commands : List Command) → Form body commands → ⊥) → Unknown ∷ [] ≡ spoken_as read
 only_known body None is none = refl
-only_known body (Some command) is none = absurd (none (command ∷ []) (form_takes body command is))
+only_known body (Some commands) is none = absurd (none commands (commands_taken body commands is))
 
-body_only : (body : List ℕ) (spoken : List Spoken) → BodySays body spoken → spoken ≡ spoken_in body ∷ []
-body_only body spoken (inl said) =
-    let again = form_again body said.0 said.1 in
-    said.2 ∙ ap (map Known) again.2 ∙ ap (λ (read : Option Command). known read ∷ []) (sym again.1)
+body_only : (body : List ℕ) (spoken : List Spoken) → BodySays body spoken → spoken ≡ body_says body
+body_only body spoken (inl said) = said.2 ∙ ap spoken_as (sym (commands_again body said.0 said.1))
 body_only body spoken (inr unknown) = unknown.1 ∙ only_known body _ refl unknown.0
 
 -- LINES
-either : (b c : Bool) → b || c ≡ true → (b ≡ true) ⊎ (c ≡ true)
-either true c is = inl refl
-either false c is = inr is
-
 trigger_takes : (word : List ℕ) → is_trigger word ≡ true → IsTrigger word
 trigger_takes word is =
     let lower = map to_ascii_lowercase word in
@@ -96,7 +61,7 @@ commanded trigger rest is = rw (begins trigger rest is, goes_on trigger rest is,
 
 line_said : (line : List ℕ) (triggered : Bool) → is_trigger (take 5 line) ≡ triggered → LineSays line (spoken_by (cond triggered (Some (trim (drop 5 line))) None))
 line_said line true is =
-    subst (λ whole. LineSays whole (spoken_in (trim (drop 5 line)) ∷ [])) (take-append-drop 5 line)
+    subst (λ whole. LineSays whole (body_says (trim (drop 5 line)))) (take-append-drop 5 line)
     (a_command_line (take 5 line) (drop 5 line) _ (trigger_takes (take 5 line) is) (body_said (trim (drop 5 line)) _ refl))
 line_said line false is =
     a_remark line (λ trigger rest triggers whole. let

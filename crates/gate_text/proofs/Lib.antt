@@ -1,6 +1,12 @@
 pub mod Digits
+pub mod Forms
 pub mod GoodBytes
 pub mod Grammars
+pub mod LastSpace
+pub mod Limits
 pub mod Lines
+pub mod Lists
+pub mod Numbers
 pub mod Refusals
+pub mod Tools
 pub mod Trims

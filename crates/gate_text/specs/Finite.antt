@@ -1,15 +1,20 @@
--- Maps of the code as finite maps: what the clauses of `BTreeMap` say in the words of `FinMap`. For proofs of this
--- crate and of those above it.
-use Rattle.std.specs.Prelude.{◌≡◌, Bool, cond, List, [], ◌∷◌, Option, Some, None}
+-- Maps and sets of the code as finite maps and sets: what the clauses of `BTreeMap` and `BTreeSet` say in the words of
+-- `FinMap` and `FinSet`. For proofs of this crate and of those above it.
+use Rattle.std.specs.Prelude.{◌≡◌, Bool, true, false, cond, ◌&&◌, ◌||◌, List, [], ◌∷◌, Option, Some, None}
 use Rattle.std.proofs.Common.{refl, sym, ◌∙◌, ap}
-use Rattle.std.specs.Ordering.{eq_by_cmp, is_eq}
+use Rattle.std.specs.Ordering.{eq_by_cmp, is_eq, nat_cmp}
 use Rattle.std.specs.declared.cmp.Ordering.{Ordering}
 use Rattle.std.specs.BTreeMap as tree
 use Rattle.std.specs.BTreeMap.{BTreeMap}
-use Rattle.std.specs.Cmp.{IsTotalOrder, eq_by_cmp_equiv}
+use Rattle.std.specs.Cmp.{IsEquivalence, IsTotalOrder, eq_by_cmp_equiv, first_so, second_so}
 use Rattle.std.specs.FinMap.{IsAntisymmetric, from_entries, get, insert, remove, find, get-from_entries, get-insert, get-remove, same_map}
+use Rattle.std.specs.Cmp.Lexicographic.{slice_cmp, nat_list_cmp_total}
 use Rattle.std.specs.FinMap as map
 use Rattle.std.specs.FinSet as set
+use Rattle.std.specs.FinSet.{slice_cmp-IsAntisymmetric, nat_cmp-IsAntisymmetric}
+use Rattle.std.specs.BTreeSet as tree_set
+use Rattle.std.specs.BTreeSet.{BTreeSet}
+use Rattle.std.specs.List.{fold, list_any}
 use Rattle.std.specs.Map.{lookup}
 
 -- the codes of finite maps and sets, by which a record that has them as fields is a model's value
@@ -40,3 +45,84 @@ module _ {K X : Type 0} {R : K → K → Ordering} (total : IsTotalOrder R) wher
   pub removed : IsAntisymmetric R → (old new : BTreeMap K X) (k : K) → tree.Updates R old new k None
       → from_entries {R = R} new.entries ≡ remove (from_entries old.entries) k
   removed same old new k updates = same_map total same _ _ (λ q. gets-updated old new k None updates q ∙ sym (get-remove total _ k q))
+
+-- SETS
+true_or : (b c : Bool) → cond b true c ≡ (b || c)
+true_or true c = refl
+true_or false c = refl
+
+-- whether two sets have the same keys
+abbrev pub is_same : {K : Type 0} {R : K → K → Ordering} → set.FinSet R → set.FinSet R → Bool
+is_same s t = set.is_subset s t && set.is_subset t s
+
+same_bits : (a b : Bool) → (a ≡ true → b ≡ true) → (b ≡ true → a ≡ true) → a ≡ b
+same_bits true b there back = sym (there refl)
+same_bits false true there back = back refl
+same_bits false false there back = refl
+
+either_way : (a b : Bool) → (a && b) ≡ (b && a)
+either_way true true = refl
+either_way true false = refl
+either_way false true = refl
+either_way false false = refl
+
+or_later : (a b c : Bool) → ((a || b) || c) ≡ (b || (a || c))
+or_later true true c = refl
+or_later true false c = refl
+or_later false b c = refl
+
+or_nothing : (b : Bool) → b ≡ (b || false)
+or_nothing true = refl
+or_nothing false = refl
+
+module _ {K : Type 0} {R : K → K → Ordering} (total : IsTotalOrder R) where
+  -- a test in a set of the code is one in its finite set
+  pub contains-keys : (s : BTreeSet K) (q : K) → set.contains (set.from_list {R = R} s.keys) q ≡ tree_set.contains R s q
+  contains-keys s q = set.contains-from_list total s.keys q
+
+  pub added : IsAntisymmetric R → (old new : BTreeSet K) (k : K) → tree_set.Updates R old new k true
+      → set.from_list {R = R} new.keys ≡ set.insert (set.from_list old.keys) k
+  added same old new k updates = set.same_set total same _ _ (λ q.
+      contains-keys new q ∙ updates.0 q ∙ true_or (eq_by_cmp R k q) _
+      ∙ ap (λ (b : Bool). b || tree_set.contains R old q) ((eq_by_cmp_equiv total).symm k q)
+      ∙ ap (λ (b : Bool). eq_by_cmp R q k || b) (sym (contains-keys old q))
+      ∙ sym (set.contains-insert total _ k q))
+
+  contains-each : (s : set.FinSet R) (ks : List K) (q : K) → set.contains (fold set.insert s ks) q ≡ (set.contains s q || list_any (eq_by_cmp R q) ks)
+  contains-each s [] q = or_nothing _
+  contains-each s (k ∷ ks) q =
+      contains-each (set.insert s k) ks q
+      ∙ ap (λ (b : Bool). b || list_any (eq_by_cmp R q) ks) (set.contains-insert total s k q)
+      ∙ or_later (eq_by_cmp R q k) (set.contains s q) _
+
+  -- keys that are added one after the other
+  pub added-each : IsAntisymmetric R → (ks : List K) → fold set.insert (set.empty {R = R}) ks ≡ set.from_list ks
+  added-each same ks = set.same_set total same _ _ (λ q.
+      contains-each set.empty ks q
+      ∙ ap (λ (b : Bool). b || list_any (eq_by_cmp R q) ks) (set.contains-empty R q)
+      ∙ sym (set.contains-from_list total ks q))
+
+  subsets_same : IsAntisymmetric R → (s t : set.FinSet R) → is_same s t ≡ true → s ≡ t
+  subsets_same same s t both = set.same_set total same s t (λ q. same_bits _ _
+      (λ there. set.is_subset-contains total s t (first_so (set.is_subset s t) (set.is_subset t s) both) q there)
+      (λ back. set.is_subset-contains total t s (second_so (set.is_subset s t) (set.is_subset t s) both) q back))
+
+  same_itself : (s : set.FinSet R) → is_same s s ≡ true
+  same_itself s = rw (set.contains-is_subset total s s (λ q there. there)) refl
+
+  pub is_same-equiv : IsAntisymmetric R → IsEquivalence (is_same {R = R})
+  is_same-equiv same = record {
+    refl = same_itself;
+    symm = λ s t. either_way (set.is_subset s t) (set.is_subset t s);
+    congr = λ s t u is. ap (λ (v : set.FinSet R). is_same v u) (subsets_same same s t is);
+  }
+
+  -- `is_subset` in sets of the code and in their finite sets
+  pub subset-keys : (s t : BTreeSet K) (b : Bool) → (b ≡ true → tree_set.IsSubset R s t) → (tree_set.IsSubset R s t → b ≡ true)
+      → b ≡ set.is_subset (set.from_list {R = R} s.keys) (set.from_list t.keys)
+  subset-keys s t b there back = same_bits _ _
+      (λ yes. set.contains-is_subset total _ _ (λ q in_s. contains-keys t q ∙ there yes q (sym (contains-keys s q) ∙ in_s)))
+      (λ yes. back (λ q in_s. sym (contains-keys t q) ∙ set.is_subset-contains total _ _ yes q (contains-keys s q ∙ in_s)))
+
+pub is_same_names-equiv : IsEquivalence (is_same {R = slice_cmp nat_cmp})
+is_same_names-equiv = is_same-equiv nat_list_cmp_total (slice_cmp-IsAntisymmetric nat_cmp-IsAntisymmetric)

@@ -1,10 +1,15 @@
 -- What the contracts of this crate cite. For a reader, in this order:
 --     SmallTexts    names, commits, change numbers, delivery identifiers: which texts each takes, and the first check that fails
---     Grammar       what a comment says: a relation of whole texts
 --     Spaces        what it is to drop the spaces at either end
--- For the code and the crates above: Reading, the grammar's one reading as a function from bytes.
+--     Arguments     the numbers and the lists of names that commands take
+--     Grammar       what a comment says: a relation of whole texts
+--     Limits        what everything keeps that a comment says
+-- For the code and the crates above: Reading, the grammar's one reading as a function from bytes; Finite, maps and sets of
+-- the code as finite maps and sets.
+pub mod Arguments
 pub mod Finite
 pub mod Grammar
+pub mod Limits
 pub mod Reading
 pub mod SmallTexts
 pub mod Spaces

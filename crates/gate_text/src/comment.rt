@@ -1,10 +1,13 @@
 ghost use Rattle.std.specs.Prelude.{◌≡◌, ◌++◌, ℕ, List, IfOk, OnOk};
+ghost use Rattle.std.specs.List.{All};
 ghost use Rattle.std.specs.Option.{option_copied};
 ghost use Rattle.std.specs.Str.Lines.{strip_carriage_return};
 ghost use Rattle.gate_text.specs.Reading as reading;
 ghost use Rattle.gate_text.specs.Grammar.{CommentSays};
+ghost use Rattle.gate_text.specs.Limits.{KeepsLimits};
 
-use crate::command::{Command, Spoken};
+use crate::body::push_body;
+use crate::command::Spoken;
 use crate::spaces::trim;
 use std::alloc::{AllocError, Global};
 
@@ -42,34 +45,14 @@ fn body_of(line: &[u8]) -> Option<&[u8]>
     }
 }
 
-fn command_of(body: &[u8]) -> Option<Command>
-    ensures { result ≡ reading.command_of body.now }
-{
-    match body {
-        b"ping" => Some(Command::Ping),
-        b"r+" => Some(Command::Approve),
-        b"r-" => Some(Command::Withdraw),
-        _ => None,
-    }
-}
-
-fn spoken_in(body: &[u8]) -> Spoken
-    ensures { result ≡ reading.spoken_in body.now }
-{
-    match command_of(body) {
-        Some(command) => Spoken::Known(command),
-        None => Spoken::Unknown,
-    }
-}
-
 // Adds what one line says.
-fn push_line(spoken: &mut Vec<Spoken>, line: &[u8]) -> Result<(), AllocError>
+fn push_line(alloc: Global, spoken: &mut Vec<Spoken>, line: &[u8]) -> Result<(), AllocError>
     ensures { OnOk result (spoken.new.items ≡ spoken.old.items ++ reading.line_says line.now) }
 {
-    if let Some(body) = body_of(without_return(line)) {
-        spoken.push(spoken_in(body))?;
+    match body_of(without_return(line)) {
+        Some(body) => push_body(alloc, spoken, body),
+        None => Ok(()),
     }
-    Ok(())
 }
 
 // What the lines of the comment say, one after the other.
@@ -79,21 +62,25 @@ fn spoken_lines(alloc: Global, text: &str) -> Result<Vec<Spoken>, AllocError>
 {
     let mut spoken = Vec::new(alloc);
     for line in text.split('\n') {
-        push_line(&mut spoken, line.as_bytes())?;
+        push_line(alloc, &mut spoken, line.as_bytes())?;
     }
     Ok(spoken)
 }
 
 /// Reads a comment: what its command lines say, in their order, or `AllocError` where there is no memory for it. Lines
 /// end at a line feed, and one carriage return before it is dropped. A command line begins with `bors`, each letter in
-/// either case, and one space or colon; what follows, without spaces at its ends, is a command or one `Unknown`. All
-/// other lines say nothing. The commands are those of the bors-ng reference documentation.
+/// either case, and one space or colon; what follows, without spaces at its ends, is a command, an approval with a
+/// priority before it, or one `Unknown`. All other lines say nothing. Priorities are from -9,999 to 9,999, and lists have
+/// one or more names, no two the same. The commands are those of the bors-ng reference documentation.
 pub fn read_comment(alloc: Global, text: &str) -> Result<Vec<Spoken>, AllocError>
     // It says these commands.
     ensures said { IfOk result (λ spoken. CommentSays text.now spoken.items) }
 
     // It says no others.
     ensures only { IfOk result (λ spoken. (others : List Spoken) → CommentSays text.now others → others ≡ spoken.items) }
+
+    // Priorities and lists keep their limits.
+    ensures limits { IfOk result (λ spoken. All KeepsLimits spoken.items) }
 
     // The reading as a function of the text, for the contracts above this one.
     ensures value { IfOk result (λ spoken. spoken.items ≡ reading.comment_says text.now) }

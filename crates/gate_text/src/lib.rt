@@ -2,6 +2,8 @@
 //! identifiers, and what a comment says.
 #![tactic(auto)]
 
+mod argument;
+mod body;
 mod change_no;
 mod checks;
 mod command;
@@ -12,6 +14,7 @@ mod delivery_id;
 mod fault;
 mod label;
 mod name;
+mod name_set;
 mod names;
 mod plain;
 mod spaces;
@@ -28,5 +31,6 @@ pub use delivery_id::DeliveryId;
 pub use fault::TextFault;
 pub use label::Label;
 pub use name::Name;
+pub use name_set::NameSet;
 pub use names::Names;
 pub use text::Text;

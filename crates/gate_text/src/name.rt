@@ -60,11 +60,17 @@ impl Name {
     /// Reads a name: 1 to 64 ASCII letters, digits, `-`, `_`, `.`, `[`, `]`. One leading `@` is dropped, and capitals
     /// become small letters. Refusals, in their order: `Empty`, `TooLong` (more than 64 bytes without the `@`), `BadByte`
     /// (another byte; its place counts the `@`), `Memory`.
-    #[tactic(auto, using(crate::proofs::Refusals::refused), unfolding(crate::specs::SmallTexts::name_of))]
     pub fn read(alloc: Global, text: &str) -> Result<Name, TextFault>
         ensures value { Reads result (name_of text.now) }
     {
-        let text = text.as_bytes();
+        Name::from_bytes(alloc, text.as_bytes())
+    }
+
+    // The same of bytes that may be any.
+    #[tactic(auto, using(crate::proofs::Refusals::refused), unfolding(crate::specs::SmallTexts::name_of))]
+    pub(crate) fn from_bytes(alloc: Global, text: &[u8]) -> Result<Name, TextFault>
+        ensures value { Reads result (name_of text.now) }
+    {
         let dropped = usize::from(text.starts_with(b"@".as_slice()));
         let body = &text[dropped..];
         let bad = first_bad_byte(body).map(|place| place + dropped);

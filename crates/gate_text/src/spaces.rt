@@ -1,4 +1,4 @@
-ghost use Rattle.std.specs.Prelude.{◌≡◌};
+ghost use Rattle.std.specs.Prelude.{◌≡◌, ◌<◌, length, IfSome};
 ghost use Rattle.gate_text.specs.Spaces as spaces;
 
 // The text without the spaces in front. No other byte counts as a space.
@@ -13,7 +13,7 @@ fn trim_start(text: &[u8]) -> &[u8]
 }
 
 // The text without the spaces at its end.
-fn trim_end(text: &[u8]) -> &[u8]
+pub fn trim_end(text: &[u8]) -> &[u8]
     ensures { result.now ≡ spaces.trim_end text.now }
 {
     let mut rest = text;
@@ -28,4 +28,18 @@ pub fn trim(text: &[u8]) -> &[u8]
     ensures { result.now ≡ spaces.trim text.now }
 {
     trim_end(trim_start(text))
+}
+
+// The place of the last space.
+pub fn last_space(text: &[u8]) -> Option<usize>
+    ensures value { result ≡ spaces.last_space text.now }
+    ensures within { IfSome result (λ place. place < length text.now) }
+{
+    let mut last = None;
+    for (place, byte) in text.iter().enumerate() {
+        if *byte == b' ' {
+            last = Some(place);
+        }
+    }
+    last
 }

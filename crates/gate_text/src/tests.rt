@@ -1,7 +1,10 @@
+mod bodies;
+mod comments;
+
 use crate::{
-    ChangeNo, Command, Commit, Context, DeliveryId, Label, Name, Names, Spoken, Text, TextFault,
-    read_comment,
+    ChangeNo, Command, Commit, Context, DeliveryId, Label, Name, NameSet, Names, Text, TextFault,
 };
+use std::alloc::Global;
 use std::test::Fail;
 
 const LETTERS_64: &str = "aaaaaaaaaaaaaaaaaaaaaaaaaaaaaaaaaaaaaaaaaaaaaaaaaaaaaaaaaaaaaaaa";
@@ -175,12 +178,15 @@ fn labels_and_names_of_statuses_that_are_refused(rt: HostRuntime) -> Result<(), 
     Ok(())
 }
 
+// The names zoe and al.
+fn zoe_and_al(alloc: Global) -> Result<Names, Fail> {
+    let names = vec![in alloc; Name::read(alloc, "zoe")?, Name::read(alloc, "al")?]?;
+    Ok(Names::from(names))
+}
+
 #[test]
 fn lists_of_names(rt: HostRuntime) -> Result<(), Fail> {
-    let names = Names::from(vec![in rt.alloc();
-        Name::read(rt.alloc(), "zoe")?,
-        Name::read(rt.alloc(), "al")?,
-    ]?);
+    let names = zoe_and_al(rt.alloc())?;
     let copy = names.copy(rt.alloc())?;
     assert_eq!(rt; copy, names);
     assert_eq!(rt; copy.as_slice().len(), 2);
@@ -191,52 +197,49 @@ fn lists_of_names(rt: HostRuntime) -> Result<(), Fail> {
 }
 
 #[test]
-fn comments_that_say_nothing(rt: HostRuntime) -> Result<(), Fail> {
-    for text in [
-        "",
-        "Thanks!",
-        " bors r+",
-        "borsalino",
-        "bors",
-        "bors\tr+",
-        "bor s r+",
-        "\nbors\n",
+fn sets_of_names(rt: HostRuntime) -> Result<(), Fail> {
+    let zoe = Name::read(rt.alloc(), "zoe")?;
+    let al = Name::read(rt.alloc(), "al")?;
+    let mut names = NameSet::new(rt.alloc());
+    assert_eq!(rt; names.contains(&zoe), false);
+    names.insert(zoe.copy(rt.alloc())?)?;
+    let mut same = names.copy(rt.alloc())?;
+    // A name that is there already adds nothing.
+    same.insert(Name::read(rt.alloc(), "@Zoe")?)?;
+    assert_eq!(rt; same, names);
+    let mut more = names.copy(rt.alloc())?;
+    more.insert(al.copy(rt.alloc())?)?;
+    for (set, has_zoe, has_al, is_within_more) in [
+        (&NameSet::new(rt.alloc()), false, false, true),
+        (&names, true, false, true),
+        (&more, true, true, true),
     ] {
-        assert_eq!(rt; read_comment(rt.alloc(), text)?.len(), 0, "{text:?}");
+        assert_eq!(rt; set.contains(&zoe), has_zoe);
+        assert_eq!(rt; set.contains(&al), has_al);
+        assert_eq!(rt; set.is_subset(&more), is_within_more);
     }
+    assert_eq!(rt; more.is_subset(&names), false);
+    assert!(rt; names != more);
     Ok(())
 }
 
 #[test]
-fn comments_that_say_one_thing(rt: HostRuntime) -> Result<(), Fail> {
-    for (text, said) in [
-        ("bors ping", Spoken::Known(Command::Ping)),
-        ("bors r+", Spoken::Known(Command::Approve)),
-        ("BoRs:r-", Spoken::Known(Command::Withdraw)),
-        ("bors:  r+  ", Spoken::Known(Command::Approve)),
-        ("Looks good.\nbors r+\r\n", Spoken::Known(Command::Approve)),
-        ("bors r+\r", Spoken::Known(Command::Approve)),
-        ("bors r+\r\r", Spoken::Unknown),
-        ("bors ", Spoken::Unknown),
-        ("bors:", Spoken::Unknown),
-        ("bors R+", Spoken::Unknown),
-        ("bors r+ please", Spoken::Unknown),
-        ("bors\u{20}\tr+", Spoken::Unknown),
+fn copies_of_commands(rt: HostRuntime) -> Result<(), Fail> {
+    for command in [
+        Command::Ping,
+        Command::Approve,
+        Command::ApproveFor(zoe_and_al(rt.alloc())?),
+        Command::Withdraw,
+        Command::Priority(-9999),
+        Command::Priority(9999),
+        Command::Try,
+        Command::TryCancel,
+        Command::DelegateAuthor,
+        Command::DelegateTo(zoe_and_al(rt.alloc())?),
+        Command::DelegateNone,
+        Command::Retry,
     ] {
-        let spoken = read_comment(rt.alloc(), text)?;
-        assert_eq!(rt; spoken.as_slice(), [said].as_slice(), "{text:?}");
+        assert_eq!(rt; command.copy(rt.alloc())?, command);
     }
-    Ok(())
-}
-
-#[test]
-fn a_comment_says_its_lines_in_order(rt: HostRuntime) -> Result<(), Fail> {
-    let spoken = read_comment(rt.alloc(), "bors r+\nsome words\nbors dance\nbors ping")?;
-    let want = [
-        Spoken::Known(Command::Approve),
-        Spoken::Unknown,
-        Spoken::Known(Command::Ping),
-    ];
-    assert_eq!(rt; spoken.as_slice(), want.as_slice());
     Ok(())
 }

@@ -82,10 +82,6 @@ fn values_at_their_limits(rt: HostRuntime) -> Result<(), Fail> {
             NO_SETTINGS,
         ),
         (
-            r#"{"id":"d","event":"comment","change":1,"person":"alice","text":""}"#,
-            "",
-        ),
-        (
             r#"{"id":"!~","event":"comment","change":1,"person":"alice","text":"é\u0000"}"#,
             "",
         ),
@@ -105,4 +101,15 @@ fn values_at_their_limits(rt: HostRuntime) -> Result<(), Fail> {
         r#"{{"id":"{id}{id}","event":"role","person":"{id}","role":"member"}}"#
     )?;
     check_answered(&rt, rt.alloc(), line.as_str(), DONE)
+}
+
+#[test]
+fn comments_without_commands(rt: HostRuntime) -> Result<(), Fail> {
+    for text in ["", "Thanks!", " bors r+", "borsalino", "bors"] {
+        let line = format!(in rt.alloc();
+            r#"{{"id":"d","event":"comment","change":1,"person":"alice","text":"{text}"}}"#
+        )?;
+        check_answered(&rt, rt.alloc(), line.as_str(), "")?;
+    }
+    Ok(())
 }
