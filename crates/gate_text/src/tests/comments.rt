@@ -261,7 +261,7 @@ fn many_command_lines(rt: HostRuntime) -> Result<(), Fail> {
     Ok(())
 }
 
-// The names 0, 1, 2 and so on, as many as a comment can hold: to read them takes no time that grows with their square.
+// The names 0, 1, 2 and so on, all different: none is dropped.
 #[test]
 fn many_names(rt: HostRuntime) -> Result<(), Fail> {
     let count = 12_000;
