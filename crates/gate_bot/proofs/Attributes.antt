@@ -1,6 +1,6 @@
 -- What the rules read after an act was done: of the desk, and of the history. Both are one function of what they read
 -- before.
-use Rattle.std.proofs.Common.{◌≡◌, ℕ, Bool, true, false, cond, List, ◌∷◌, Option, Some, None, refl, ◌∙◌, ap, eqb}
+use Rattle.std.proofs.Common.{◌≡◌, ℕ, Bool, true, false, cond, List, ◌∷◌, Option, Some, None, Result, Ok, Err, refl, ◌∙◌, ap, eqb}
 use Rattle.std.proofs.lemmas.Bool.Decides.{Decides-eqb}
 use Rattle.std.proofs.lemmas.Map.Text.{is_eq-slice_cmp}
 use Rattle.std.specs.Cmp.{nat_cmp_total, unsigned_ties}
@@ -10,9 +10,12 @@ use Rattle.std.specs.FinMap.{FinMap, get-insert, get-remove}
 use Rattle.std.specs.FinSet as set
 use Rattle.std.specs.Option.{option_map, option_or, unwrap_or}
 use Rattle.std.specs.Ordering.{nat_cmp}
+use Rattle.std.specs.Result.{result_ok}
 use Rattle.std.specs.Str.{bytes_eq}
 use Rattle.gate_text.specs.declared.command.Command.TheVariants.{Withdraw}
 use Rattle.gate_text.specs.declared.command.Spoken.TheVariants.{Known}
+use Rattle.gate_text.specs.Settings.{SettingsView, settings_of}
+use Rattle.gate_text.specs.declared.settings.fault.SettingsFault.{SettingsFault}
 use Rattle.gate_rules.specs.Rules.{Look, ChangeLook}
 use Rattle.gate_rules.specs.View.{DeskView, roles_with, change_look, look}
 use Rattle.gate_rules.specs.declared.change.Change.{Change}
@@ -21,9 +24,9 @@ use Rattle.gate_rules.specs.declared.change.Phase.TheVariants as phase
 use Rattle.gate_rules.specs.declared.role.Role.{Role as RoleOf}
 use Rattle.gate_rules.specs.declared.role.Role.TheVariants.{Nobody, Member, Reviewer}
 use Rattle.gate_bot.specs.History.{Entry, entry_of, last_of, role_set, author_back, head_back, phase_back, look_back}
-use Rattle.gate_bot.specs.Machine.{effect, just_opened, with_altered, withdrawn}
+use Rattle.gate_bot.specs.Machine.{effect, just_opened, with_altered, with_accepted, withdrawn}
 use Rattle.gate_bot.specs.declared.act.Act.{Act}
-use Rattle.gate_bot.specs.declared.act.Act.TheVariants.{Spoken, Role, Opened}
+use Rattle.gate_bot.specs.declared.act.Act.TheVariants.{Spoken, Role, Settings, Opened}
 use Rattle.gate_bot.specs.declared.reply.Reply.TheVariants.{Done}
 
 abbrev without_approvers : ChangeLook → ChangeLook
@@ -36,6 +39,7 @@ abbrev pub next_look : Look → Act → Look
 next_look s (Spoken change person (Known Withdraw)) = record s { change = λ c. cond (eqb c change) (without_approvers (s.change c)) (s.change c) }
 next_look s (Spoken change person _) = s
 next_look s (Role person role) = record s { role = λ p. cond (bytes_eq p person) role (s.role p) }
+next_look s (Settings text) = record s { settings = option_or (result_ok (settings_of text)) s.settings }
 next_look s (Opened change author head) = record s { change = λ c. cond (eqb c change) (opened_look author head) (s.change c) }
 
 -- THE DESK
@@ -81,12 +85,11 @@ withdrawn_some changes number c change true same some =
 
 withdraw_next : (desk : DeskView) (number : ℕ) (had : Option Change) → map.get desk.changes number ≡ had
     → look (with_altered desk number (option_map withdrawn had))
-    ≡ record { role = (look desk).role; change = λ c. cond (eqb c number) (without_approvers ((look desk).change c)) ((look desk).change c) }
+    ≡ record (look desk) { change = λ c. cond (eqb c number) (without_approvers ((look desk).change c)) ((look desk).change c) }
 withdraw_next desk number None is =
-    λ i. record { role = (look desk).role; change = λ c. withdrawn_none desk.changes number c (eqb c number) refl is i }
+    λ i. record (look desk) { change = λ c. withdrawn_none desk.changes number c (eqb c number) refl is i }
 withdraw_next desk number (Some change) is =
-    λ i. record {
-      role = (look desk).role;
+    λ i. record (look desk) {
       change = λ c. (changes_next desk.changes number (withdrawn change) c ∙ withdrawn_some desk.changes number c change (eqb c number) refl is) i;
     }
 
@@ -107,12 +110,18 @@ open_next : (desk : DeskView) (change : ℕ) (author head : List ℕ) (c : ℕ)
 open_next desk change author head c =
     changes_next desk.changes change (just_opened author head) c ∙ ap (λ opened. cond (eqb c change) opened ((look desk).change c)) (opened_looks author head)
 
+settings_next : (desk : DeskView) (read : Result SettingsView SettingsFault)
+    → look (with_accepted desk read) ≡ record (look desk) { settings = option_or (result_ok read) desk.settings }
+settings_next desk (Ok settings) = refl
+settings_next desk (Err fault) = refl
+
 pub machine_next : (desk : DeskView) (act : Act) → look (effect desk act) ≡ next_look (look desk) act
 machine_next desk (Spoken change person (Known Withdraw)) = withdraw_next desk change _ refl
 machine_next desk (Spoken change person _) = refl
-machine_next desk (Role person role) = λ i. record { role = λ p. roles_next desk.roles person role p i; change = (look desk).change }
+machine_next desk (Role person role) = λ i. record (look desk) { role = λ p. roles_next desk.roles person role p i }
+machine_next desk (Settings text) = settings_next desk (settings_of text)
 machine_next desk (Opened change author head) =
-    λ i. record { role = (look desk).role; change = λ c. open_next desk change author head c i }
+    λ i. record (look desk) { change = λ c. open_next desk change author head c i }
 
 -- THE HISTORY
 role_said : (b : Bool) (role : RoleOf) (had : Option RoleOf) → unwrap_or (option_or (cond b (Some role) None) had) Nobody ≡ cond b role (unwrap_or had Nobody)
@@ -138,9 +147,10 @@ withdrawal_said false change is = refl
 
 pub history_next : (history : List Entry) (act : Act) → look_back (entry_of act Done ∷ history) ≡ next_look (look_back history) act
 history_next history (Spoken change person (Known Withdraw)) =
-    λ i. record { role = (look_back history).role; change = λ c. withdrawal_said (eqb c change) ((look_back history).change c) refl i }
+    λ i. record (look_back history) { change = λ c. withdrawal_said (eqb c change) ((look_back history).change c) refl i }
 history_next history (Spoken change person _) = refl
 history_next history (Role person role) =
-    λ i. record { role = λ p. role_said (bytes_eq p person) role (last_of (role_set p) history) i; change = (look_back history).change }
+    λ i. record (look_back history) { role = λ p. role_said (bytes_eq p person) role (last_of (role_set p) history) i }
+history_next history (Settings text) = refl
 history_next history (Opened change author head) =
-    λ i. record { role = (look_back history).role; change = λ c. opening_said (eqb c change) author head (author_back history c) (head_back history c) (phase_back history c) i }
+    λ i. record (look_back history) { change = λ c. opening_said (eqb c change) author head (author_back history c) (head_back history c) (phase_back history c) i }

@@ -19,6 +19,7 @@ empty_look : look empty_desk ≡ look_back []
 empty_look = λ i. record {
   role = λ person. unwrap_or (get-empty (slice_cmp nat_cmp) person i) Nobody;
   change = λ change. change_look (get-empty nat_cmp change i);
+  settings = None;
 }
 
 -- one more entry, by whether a rule denied its act
@@ -46,6 +47,7 @@ entry_tells history old act legal =
       roles = λ person. ap (λ (s : Look). s.role person) next;
       authors = λ change. ap (λ (s : Look). (s.change change).author) next;
       heads = λ change. ap (λ (s : Look). (s.change change).head) next;
+      settings = ap (λ (s : Look). s.settings) next;
       by_rule = ap (λ (s : Look). answered (broken s act)) (same_look history old legal);
       denied = λ rule denied. unchanged old _ _ rule denied;
       legal = (old, legal, (refl, refl));

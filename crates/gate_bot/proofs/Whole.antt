@@ -2,7 +2,7 @@
 use Rattle.std.proofs.Common.{◌≡◌, false, List, [], ◌∷◌, map, refl}
 use Rattle.serde_json.specs.View.{items_of}
 use Rattle.serde_json.specs.Written.{has_float, items_have_float}
-use Rattle.gate_rules.specs.declared.rule.Rule.TheVariants.{UnknownChange, NotACommand, NotPermitted, NotOpen, NoSettings, NotApproved, AlreadyOpen}
+use Rattle.gate_rules.specs.declared.rule.Rule.TheVariants.{UnknownChange, NotACommand, NotPermitted, NotOpen, NoSettings, NoBase, NotApproved, AlreadyOpen, BadSettings}
 use Rattle.gate_bot.specs.Answers.{reply_data, answer_data, error_data}
 use Rattle.gate_bot.specs.declared.reading.DeliveryFault.{DeliveryFault}
 use Rattle.gate_bot.specs.declared.reading.DeliveryFault.TheVariants.{NotJson, BadField, UnknownEvent, Memory}
@@ -16,8 +16,10 @@ reply_whole (Denied NotACommand) = refl
 reply_whole (Denied (NotPermitted level)) = refl
 reply_whole (Denied NotOpen) = refl
 reply_whole (Denied NoSettings) = refl
+reply_whole (Denied NoBase) = refl
 reply_whole (Denied NotApproved) = refl
 reply_whole (Denied AlreadyOpen) = refl
+reply_whole (Denied (BadSettings refusal)) = refl
 
 replies_whole : (replies : List Reply) → items_have_float (items_of (map reply_data replies)) ≡ false
 replies_whole [] = refl

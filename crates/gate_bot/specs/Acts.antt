@@ -4,7 +4,7 @@ use Rattle.gate_text.specs.Reading.{comment_says}
 use Rattle.gate_bot.specs.declared.act.Act.{Act}
 use Rattle.gate_bot.specs.declared.act.Act.TheVariants as act
 use Rattle.gate_bot.specs.declared.delivery.Event.{Event}
-use Rattle.gate_bot.specs.declared.delivery.Event.TheVariants.{Comment, Role, Opened}
+use Rattle.gate_bot.specs.declared.delivery.Event.TheVariants.{Comment, Role, Settings, Opened}
 
 -- one act for each command line of a comment, in order
 abbrev pub spoken_acts_of : ℕ → List ℕ → List ℕ → List Act
@@ -14,4 +14,5 @@ spoken_acts_of change person text = map (λ spoken. act.Spoken change person spo
 abbrev pub acts_of_event : Event → List Act
 acts_of_event (Comment change person text) = spoken_acts_of change person text
 acts_of_event (Role person role) = act.Role person role ∷ []
+acts_of_event (Settings text) = act.Settings text ∷ []
 acts_of_event (Opened change author head) = act.Opened change author head ∷ []

@@ -6,7 +6,7 @@ use Rattle.serde_json.specs.View.{items_of}
 use Rattle.serde_json.specs.Written.{compact_text}
 use Rattle.gate_rules.specs.Words.{number_of, word_of, level_word_of}
 use Rattle.gate_rules.specs.declared.rule.Rule.{Rule}
-use Rattle.gate_rules.specs.declared.rule.Rule.TheVariants.{UnknownChange, NotACommand, NotPermitted, NotOpen, NoSettings, NotApproved, AlreadyOpen}
+use Rattle.gate_rules.specs.declared.rule.Rule.TheVariants.{UnknownChange, NotACommand, NotPermitted, NotOpen, NoSettings, NoBase, NotApproved, AlreadyOpen, BadSettings}
 use Rattle.gate_bot.specs.Deliveries.{field_name}
 use Rattle.gate_bot.specs.declared.reading.DeliveryFault.{DeliveryFault}
 use Rattle.gate_bot.specs.declared.reading.DeliveryFault.TheVariants.{NotJson, BadField, UnknownEvent, Memory}
@@ -27,8 +27,10 @@ detail_of NotACommand = None
 detail_of (NotPermitted level) = Some (string (level_word_of level))
 detail_of NotOpen = None
 detail_of NoSettings = None
+detail_of NoBase = None
 detail_of NotApproved = None
 detail_of AlreadyOpen = None
+detail_of (BadSettings refusal) = Some (number (unsigned refusal))
 
 abbrev with_detail : Option Data → Members → Members
 with_detail None members = members

@@ -1,10 +1,11 @@
 -- DELIVERIES: the delivery that a text is, as JSON (RFC 8259), or why it is none.
-use Rattle.std.specs.Prelude.{◌≡◌, ℕ, List, Option, Some, None, Result, Ok, Err, option_and_then, codes, if◌then◌else◌}
+use Rattle.std.specs.Prelude.{◌≡◌, ℕ, List, Option, Some, None, Result, Ok, Err, option_and_then, ok_or, codes, if◌then◌else◌}
 use Rattle.std.specs.Result.{result_ok}
 use Rattle.std.specs.Str.{bytes_eq, is_utf8}
 use Rattle.serde_json.specs.Data.{Data, object}
 use Rattle.serde_json.specs.Find.{get, as_str, as_u64, as_number}
 use Rattle.serde_json.specs.Read.{read}
+use Rattle.gate_text.specs.Steps.{◌>>=◌}
 use Rattle.gate_text.specs.SmallTexts.{name_of, commit_of, delivery_id_of, change_no_from}
 use Rattle.gate_text.specs.declared.fault.TextFault.{TextFault}
 use Rattle.gate_text.specs.declared.fault.TextFault.TheVariants as text_fault
@@ -15,17 +16,11 @@ use Rattle.gate_rules.specs.declared.role.Role.{Role as RoleOf}
 use Rattle.gate_rules.specs.declared.role.Role.TheVariants.{Nobody, Member, Reviewer}
 use Rattle.gate_bot.specs.declared.delivery.Delivery.{Delivery}
 use Rattle.gate_bot.specs.declared.delivery.Event.{Event}
-use Rattle.gate_bot.specs.declared.delivery.Event.TheVariants.{Comment, Role, Opened}
+use Rattle.gate_bot.specs.declared.delivery.Event.TheVariants.{Comment, Role, Settings, Opened}
 use Rattle.gate_bot.specs.declared.reading.Field.{Field}
 use Rattle.gate_bot.specs.declared.reading.Field.TheVariants as field
 use Rattle.gate_bot.specs.declared.reading.DeliveryFault.{DeliveryFault}
 use Rattle.gate_bot.specs.declared.reading.DeliveryFault.TheVariants.{NotJson, BadField, UnknownEvent, Memory}
-
--- a step that may refuse, and what follows it
-infixl 10 ◌>>=◌
-abbrev pub ◌>>=◌ : {A B : Type 0} → Result A DeliveryFault → (A → Result B DeliveryFault) → Result B DeliveryFault
-Ok x >>= f = f x
-Err fault >>= f = Err fault
 
 -- What `read_delivery` answers where `reading` is what the text says. Want of memory is `serde_json`'s to meet.
 abbrev pub Reads : {X : Type 0} → Result X DeliveryFault → Result X DeliveryFault → Type 0
@@ -48,8 +43,7 @@ field_name field.Head = codes "head"
 
 -- a value that has to be there, or the refusal that names its field
 abbrev pub required : {X : Type 0} → Field → Option X → Result X DeliveryFault
-required name None = Err (BadField name)
-required name (Some value) = Ok value
+required name value = ok_or value (BadField name)
 
 abbrev pub text_at : Field → Data → Result (List ℕ) DeliveryFault
 text_at name d = required name (option_and_then as_str (get (field_name name) d))
@@ -99,6 +93,11 @@ role_in d = do
   role ← role_at d
   Ok (Role person role)
 
+abbrev pub settings_in : Data → Result Event DeliveryFault
+settings_in d = do
+  text ← text_at field.Text d
+  Ok (Settings text)
+
 abbrev pub opened_in : Data → Result Event DeliveryFault
 opened_in d = do
   change ← change_at d
@@ -110,8 +109,9 @@ abbrev pub event_called : List ℕ → Data → Result Event DeliveryFault
 event_called kind d =
     if bytes_eq kind (codes "comment") then comment_in d
     else (if bytes_eq kind (codes "role") then role_in d
+    else (if bytes_eq kind (codes "settings") then settings_in d
     else (if bytes_eq kind (codes "opened") then opened_in d
-    else Err UnknownEvent))
+    else Err UnknownEvent)))
 
 -- DELIVERIES: the identifier first, then the event and its fields
 abbrev pub delivery_in : Data → Result Delivery DeliveryFault

@@ -2,6 +2,8 @@
 use Rattle.std.specs.Prelude.{◌≡◌, ℕ, ◌==◌, false, List, [], ◌∷◌, Option, Some, None, if◌then◌else◌}
 use Rattle.std.specs.Option.{unwrap_or, option_or, option_and_then}
 use Rattle.std.specs.Str.{bytes_eq}
+use Rattle.std.specs.Result.{result_ok}
+use Rattle.gate_text.specs.Settings.{SettingsView, settings_of}
 use Rattle.gate_rules.specs.Rules.{Look}
 use Rattle.gate_rules.specs.View.{DeskView, empty_desk, role_on, look}
 use Rattle.gate_rules.specs.declared.change.Phase.{Phase}
@@ -10,7 +12,7 @@ use Rattle.gate_rules.specs.declared.role.Role.TheVariants.{Nobody}
 use Rattle.gate_rules.specs.declared.role.Role.{Role as RoleOf}
 use Rattle.gate_rules.specs.declared.rule.Rule.{Rule}
 use Rattle.gate_bot.specs.declared.act.Act.{Act}
-use Rattle.gate_bot.specs.declared.act.Act.TheVariants.{Spoken, Role, Opened}
+use Rattle.gate_bot.specs.declared.act.Act.TheVariants.{Spoken, Role, Settings, Opened}
 use Rattle.gate_bot.specs.declared.reply.Reply.{Reply}
 use Rattle.gate_bot.specs.declared.reply.Reply.TheVariants.{Done, Denied}
 use Rattle.gate_bot.specs.Machine.{broken, answered, Step}
@@ -37,6 +39,7 @@ last_of said (entry ∷ history) = option_or (option_and_then said (acted entry)
 abbrev pub role_set : List ℕ → Act → Option RoleOf
 role_set person (Role other role) = if bytes_eq person other then Some role else None
 role_set person (Spoken change writer spoken) = None
+role_set person (Settings text) = None
 role_set person (Opened change author head) = None
 
 abbrev pub role_back : List Entry → List ℕ → RoleOf
@@ -47,6 +50,7 @@ abbrev pub author_set : ℕ → Act → Option (List ℕ)
 author_set change (Opened other author head) = if change == other then Some author else None
 author_set change (Spoken other writer spoken) = None
 author_set change (Role person role) = None
+author_set change (Settings text) = None
 
 abbrev pub author_back : List Entry → ℕ → Option (List ℕ)
 author_back history change = last_of (author_set change) history
@@ -55,6 +59,7 @@ abbrev pub head_set : ℕ → Act → Option (List ℕ)
 head_set change (Opened other author head) = if change == other then Some head else None
 head_set change (Spoken other writer spoken) = None
 head_set change (Role person role) = None
+head_set change (Settings text) = None
 
 abbrev pub head_back : List Entry → ℕ → Option (List ℕ)
 head_back history change = last_of (head_set change) history
@@ -63,12 +68,23 @@ abbrev pub phase_set : ℕ → Act → Option Phase
 phase_set change (Opened other author head) = if change == other then Some phase.Opened else None
 phase_set change (Spoken other writer spoken) = None
 phase_set change (Role person role) = None
+phase_set change (Settings text) = None
 
 abbrev pub phase_back : List Entry → ℕ → Option Phase
 phase_back history change = last_of (phase_set change) history
 
--- What the rules read of a history. No approval, delegation or try has acted in one yet: no settings can be accepted, and
--- the rules of the delegations and of the tries are still to come.
+-- settings: by the last text that was accepted
+abbrev pub settings_set : Act → Option SettingsView
+settings_set (Settings text) = result_ok (settings_of text)
+settings_set (Spoken change writer spoken) = None
+settings_set (Role person role) = None
+settings_set (Opened change author head) = None
+
+abbrev pub settings_back : List Entry → Option SettingsView
+settings_back history = last_of settings_set history
+
+-- What the rules read of a history. No approval, delegation or try has acted in one yet: no base can be known, and the
+-- rules of the delegations and of the tries are still to come.
 abbrev pub look_back : List Entry → Look
 look_back history = record {
   role = role_back history;
@@ -80,6 +96,7 @@ look_back history = record {
     approvers = None;
     last = None;
   };
+  settings = settings_back history;
 }
 
 -- the rule that denies an act, read on the history
@@ -93,10 +110,11 @@ Legal (entry ∷ history) desk = (before : DeskView) × Legal history before × 
 
 -- WHAT ONE MORE ENTRY TELLS, after a history that led from an empty desk to `old`.
 pub record EntryTells (history : List Entry) (old : DeskView) (entry : Entry) (new : DeskView) : Type 0 where
-  -- attributes: roles, authors and heads on the desk are those of the history with the entry
+  -- attributes: roles, authors, heads and settings on the desk are those of the history with the entry
   pub roles : (person : List ℕ) → role_on new person ≡ role_back (entry ∷ history) person
   pub authors : (change : ℕ) → ((look new).change change).author ≡ author_back (entry ∷ history) change
   pub heads : (change : ℕ) → ((look new).change change).head ≡ head_back (entry ∷ history) change
+  pub settings : new.settings ≡ settings_back (entry ∷ history)
   -- acts exactly by rule: done where no rule fails on the history before, and else denied by the first that does
   pub by_rule : entry.reply ≡ answered (rule_back history entry.act)
   -- a denied act changes nothing

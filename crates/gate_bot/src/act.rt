@@ -1,5 +1,5 @@
 use gate_rules::Role;
-use gate_text::{ChangeNo, Commit, Name, Spoken};
+use gate_text::{ChangeNo, Commit, Name, Spoken, Text};
 
 /// One thing that may change the desk: a command of a comment, or a fact that the host hands in.
 #[derive(Debug, Drop, PartialEq, Eq)]
@@ -19,6 +19,11 @@ pub enum Act {
         person: Name,
         /// The role from now on.
         role: Role,
+    },
+    /// The fact `settings`: the team's settings have changed.
+    Settings {
+        /// The whole `bors.toml`.
+        text: Text,
     },
     /// The fact `opened`: a change is opened, for the first time or again.
     Opened {

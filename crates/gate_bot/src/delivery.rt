@@ -25,6 +25,11 @@ pub enum Event {
         /// The role from now on.
         role: Role,
     },
+    /// The team's settings have changed.
+    Settings {
+        /// The whole `bors.toml`.
+        text: Text,
+    },
     /// A change was opened, for the first time or again.
     Opened {
         /// The change.
@@ -59,6 +64,9 @@ pub fn acts_of(alloc: Global, delivery: &Delivery) -> Result<Vec<Act>, AllocErro
         Event::Role { person, role } => Act::Role {
             person: person.copy(alloc)?,
             role: *role,
+        },
+        Event::Settings { text } => Act::Settings {
+            text: text.copy(alloc)?,
         },
         Event::Opened {
             change,

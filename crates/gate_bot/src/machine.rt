@@ -1,13 +1,14 @@
 ghost use Rattle.std.specs.Prelude.{◌≡◌, IfOk, OnOk, IsNone};
 ghost use Rattle.std.specs.FinMap as map;
 ghost use Rattle.std.specs.Option.{option_map};
+ghost use Rattle.gate_text.specs.Settings.{settings_of};
 ghost use Rattle.gate_rules.specs.View.{look};
-ghost use Rattle.gate_bot.specs.Machine.{broken, effect, with_altered, withdrawn, reply_to, after, replies_to, after_all};
+ghost use Rattle.gate_bot.specs.Machine.{broken, bad_settings, effect, with_accepted, with_altered, withdrawn, reply_to, after, replies_to, after_all};
 
 use crate::act::Act;
 use crate::reply::{Answer, Reply};
 use gate_rules::{Change, Desk, Phase, Rule};
-use gate_text::{ChangeNo, Command, NameSet, Spoken};
+use gate_text::{ChangeNo, Command, NameSet, SettingsFault, Spoken, Text, read_settings};
 use std::alloc::{AllocError, Global};
 
 /// Lets acts step on the desk in order, and answers their replies. After `AllocError` any number of them,
@@ -48,8 +49,20 @@ fn rule_of(desk: &Desk, alloc: Global, act: &Act) -> Result<Option<Rule>, AllocE
             spoken,
         } => desk.rule(alloc, person, *change, spoken),
         Act::Role { .. } => Ok(None),
+        Act::Settings { text } => settings_rule(alloc, text),
         Act::Opened { change, .. } if desk.is_open(*change) => Ok(Some(Rule::AlreadyOpen)),
         Act::Opened { .. } => Ok(None),
+    }
+}
+
+// The rule that denies a text of settings, if one does.
+fn settings_rule(alloc: Global, text: &Text) -> Result<Option<Rule>, AllocError>
+    ensures { IfOk result (λ rule. rule ≡ bad_settings (settings_of text.now)) }
+{
+    match read_settings(alloc, text.as_str()) {
+        Ok(_) => Ok(None),
+        Err(SettingsFault::Memory) => Err(AllocError),
+        Err(fault) => Ok(Some(Rule::BadSettings(fault.number()))),
     }
 }
 
@@ -65,6 +78,7 @@ fn perform(desk: &mut Desk, alloc: Global, act: &Act) -> Result<(), AllocError>
             Spoken::Known(_) | Spoken::Unknown => Ok(()),
         },
         Act::Role { person, role } => desk.set_role(alloc, person, *role),
+        Act::Settings { text } => accept_settings(desk, alloc, text),
         Act::Opened {
             change,
             author,
@@ -80,6 +94,20 @@ fn perform(desk: &mut Desk, alloc: Global, act: &Act) -> Result<(), AllocError>
             };
             desk.put_change(alloc, *change, &opened)
         }
+    }
+}
+
+// The settings of the text are taken, in place of those that there were.
+fn accept_settings(desk: &mut Desk, alloc: Global, text: &Text) -> Result<(), AllocError>
+    ensures { OnOk result (desk.new ≡ with_accepted desk.old (settings_of text.now)) }
+{
+    match read_settings(alloc, text.as_str()) {
+        Ok(settings) => {
+            desk.set_settings(settings);
+            Ok(())
+        }
+        Err(SettingsFault::Memory) => Err(AllocError),
+        Err(_) => Ok(()),
     }
 }
 

@@ -164,6 +164,13 @@ fn role_in(alloc: Global, value: &Value) -> Result<Event, DeliveryFault>
     Ok(Event::Role { person, role })
 }
 
+fn settings_in(alloc: Global, value: &Value) -> Result<Event, DeliveryFault>
+    ensures { Reads result (deliveries.settings_in (view value.now)) }
+{
+    let text = Text::from_str(alloc, text_at(Field::Text, value)?)?;
+    Ok(Event::Settings { text })
+}
+
 fn opened_in(alloc: Global, value: &Value) -> Result<Event, DeliveryFault>
     ensures { Reads result (deliveries.opened_in (view value.now)) }
 {
@@ -183,6 +190,7 @@ fn event_called(alloc: Global, kind: &str, value: &Value) -> Result<Event, Deliv
     match kind {
         "comment" => comment_in(alloc, value),
         "role" => role_in(alloc, value),
+        "settings" => settings_in(alloc, value),
         "opened" => opened_in(alloc, value),
         _ => Err(DeliveryFault::UnknownEvent),
     }

@@ -3,6 +3,7 @@ mod failing;
 mod fakes;
 mod good_input;
 mod long_lines;
+mod settings;
 mod story;
 mod texts;
 
@@ -10,6 +11,7 @@ use crate::bench::Bench;
 use crate::fault::Fault;
 use crate::lines::{HookFault, serve_lines};
 use std::alloc::Global;
+use std::process::Abort;
 use std::test::Fail;
 
 const INPUT: &str = concat!(
@@ -50,6 +52,21 @@ fn served(alloc: Global, input: &[u8]) -> Result<(u64, String), Fail> {
     let mut written = Vec::new(alloc);
     let count = serve_lines(alloc, &mut bench, &mut reader, &mut written)?;
     Ok((count, String::from_utf8(written)?))
+}
+
+// Serves the lines on a new bench, and compares the answer to each.
+fn check_lines(rt: &impl Abort, alloc: Global, lines: &[(&str, &str)]) -> Result<(), Fail> {
+    let mut input = String::new(alloc);
+    let mut answers = String::new(alloc);
+    for (line, answer) in lines {
+        input.push_str(line)?;
+        input.push('\n')?;
+        answers.push_str(answer)?;
+        answers.push('\n')?;
+    }
+    let (_, written) = served(alloc, input.as_bytes())?;
+    assert_eq!(rt; written.as_str(), answers.as_str());
+    Ok(())
 }
 
 #[test]

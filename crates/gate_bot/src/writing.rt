@@ -21,6 +21,9 @@ fn denied_value(alloc: Global, rule: &Rule) -> Result<Value, AllocError>
         Rule::NotPermitted(level) => {
             json!(in alloc; {"detail": level.word(), "number": number, "rule": word, "verdict": "denied"})
         }
+        Rule::BadSettings(refusal) => {
+            json!(in alloc; {"detail": *refusal, "number": number, "rule": word, "verdict": "denied"})
+        }
         _ => json!(in alloc; {"number": number, "rule": word, "verdict": "denied"}),
     }
 }

@@ -4,6 +4,7 @@ use Rattle.gate_text.specs.declared.command.Command.{Command}
 use Rattle.gate_text.specs.declared.command.Command.TheVariants.{Ping, Approve, ApproveFor, Withdraw, Priority, Try, TryCancel, DelegateAuthor, DelegateTo, DelegateNone, Retry}
 use Rattle.gate_text.specs.declared.command.Spoken.{Spoken}
 use Rattle.gate_text.specs.declared.command.Spoken.TheVariants.{Known}
+use Rattle.gate_text.specs.Settings.{SettingsView}
 use Rattle.gate_rules.specs.declared.change.Phase.{Phase}
 use Rattle.gate_rules.specs.declared.change.Phase.TheVariants.{Opened, Closed, Landed}
 use Rattle.gate_rules.specs.declared.change.Repeat.{Repeat}
@@ -13,7 +14,7 @@ use Rattle.gate_rules.specs.declared.role.Role.TheVariants as role
 use Rattle.gate_rules.specs.declared.role.Level.{Level}
 use Rattle.gate_rules.specs.declared.role.Level.TheVariants as level
 use Rattle.gate_rules.specs.declared.rule.Rule.{Rule}
-use Rattle.gate_rules.specs.declared.rule.Rule.TheVariants.{UnknownChange, NotACommand, NotPermitted, NotOpen, NoSettings, NotApproved}
+use Rattle.gate_rules.specs.declared.rule.Rule.TheVariants.{UnknownChange, NotACommand, NotPermitted, NotOpen, NoSettings, NoBase, NotApproved}
 
 -- WHAT THE RULES READ
 -- of a change: nothing in any field, and no delegate, where the change was never opened
@@ -29,6 +30,7 @@ pub record ChangeLook : Type 0 where
 pub record Look : Type 0 where
   pub role : List ℕ → Role
   pub change : ℕ → ChangeLook
+  pub settings : Option SettingsView
 
 -- LEVELS
 abbrev pub is_member : Role → Bool
@@ -92,9 +94,12 @@ is_open s change = is_opened ((s.change change).phase)
 abbrev pub is_approved : Look → ℕ → Bool
 is_approved s change = is_some ((s.change change).approvers)
 
--- No settings can be accepted yet: they are still to come.
 abbrev pub has_settings : Look → Bool
-has_settings s = false
+has_settings s = is_some s.settings
+
+-- No base can be known yet: it is still to come.
+abbrev pub has_base : Look → Bool
+has_base s = false
 
 -- THE ROWS
 -- the rule where its test fails, and nothing where it holds
@@ -112,6 +117,7 @@ row s person change (Known Approve) =
     ∷ unless (permits s person change Approve) (NotPermitted (need s change Approve))
     ∷ unless (is_open s change) NotOpen
     ∷ unless (has_settings s) NoSettings
+    ∷ unless (has_base s) NoBase
     ∷ []
 row s person change (Known Withdraw) =
     unless (is_known s change) UnknownChange

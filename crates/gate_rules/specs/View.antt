@@ -1,11 +1,12 @@
 -- THE DESK as finite maps, what each setter does to it, and how the rules see it.
-use Rattle.std.specs.Prelude.{ℕ, false, List, Option, if◌then◌else◌}
+use Rattle.std.specs.Prelude.{ℕ, false, List, Option, Some, None, if◌then◌else◌}
 use Rattle.std.specs.Ordering.{nat_cmp}
 use Rattle.std.specs.Cmp.Lexicographic.{slice_cmp}
 use Rattle.std.specs.FinMap as map
 use Rattle.std.specs.FinMap.{FinMap}
 use Rattle.std.specs.FinSet as set
 use Rattle.std.specs.Option.{unwrap_or, option_map, option_map_or, option_and_then}
+use Rattle.gate_text.specs.Settings.{SettingsView}
 use Rattle.gate_rules.specs.declared.change.Change.{Change}
 use Rattle.gate_rules.specs.declared.role.Role.{Role}
 use Rattle.gate_rules.specs.declared.role.Role.TheVariants.{Nobody}
@@ -15,9 +16,10 @@ use Rattle.gate_rules.specs.Rules.{Look, ChangeLook, is_member}
 pub record DeskView : Type 0 where
   pub roles : FinMap (slice_cmp nat_cmp) Role
   pub changes : FinMap nat_cmp Change
+  pub settings : Option SettingsView
 
 abbrev pub empty_desk : DeskView
-empty_desk = record { roles = map.empty; changes = map.empty }
+empty_desk = record { roles = map.empty; changes = map.empty; settings = None }
 
 abbrev pub role_on : DeskView → List ℕ → Role
 role_on desk person = unwrap_or (map.get desk.roles person) Nobody
@@ -32,6 +34,9 @@ with_role desk person role = record desk { roles = roles_with desk.roles person 
 abbrev pub with_change : DeskView → ℕ → Change → DeskView
 with_change desk number change = record desk { changes = map.insert desk.changes number change }
 
+abbrev pub with_settings : DeskView → SettingsView → DeskView
+with_settings desk settings = record desk { settings = Some settings }
+
 -- what the rules read of a change, if there is one
 abbrev pub change_look : Option Change → ChangeLook
 change_look change = record {
@@ -44,4 +49,4 @@ change_look change = record {
 }
 
 abbrev pub look : DeskView → Look
-look desk = record { role = role_on desk; change = λ number. change_look (map.get desk.changes number) }
+look desk = record { role = role_on desk; change = λ number. change_look (map.get desk.changes number); settings = desk.settings }

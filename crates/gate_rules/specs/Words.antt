@@ -3,7 +3,7 @@ use Rattle.std.specs.Prelude.{ℕ, List, codes}
 use Rattle.gate_rules.specs.declared.role.Level.{Level}
 use Rattle.gate_rules.specs.declared.role.Level.TheVariants.{Anyone, Member, MemberOrDelegate, ReviewerOrDelegate, Reviewer}
 use Rattle.gate_rules.specs.declared.rule.Rule.{Rule}
-use Rattle.gate_rules.specs.declared.rule.Rule.TheVariants.{UnknownChange, NotACommand, NotPermitted, NotOpen, NoSettings, NotApproved, AlreadyOpen}
+use Rattle.gate_rules.specs.declared.rule.Rule.TheVariants.{UnknownChange, NotACommand, NotPermitted, NotOpen, NoSettings, NoBase, NotApproved, AlreadyOpen, BadSettings}
 
 abbrev pub number_of : Rule → ℕ
 number_of UnknownChange = 1
@@ -11,8 +11,10 @@ number_of NotACommand = 2
 number_of (NotPermitted level) = 3
 number_of NotOpen = 4
 number_of NoSettings = 7
+number_of NoBase = 8
 number_of NotApproved = 9
 number_of AlreadyOpen = 12
+number_of (BadSettings refusal) = 17
 
 abbrev pub word_of : Rule → List ℕ
 word_of UnknownChange = codes "UnknownChange"
@@ -20,8 +22,10 @@ word_of NotACommand = codes "NotACommand"
 word_of (NotPermitted level) = codes "NotPermitted"
 word_of NotOpen = codes "NotOpen"
 word_of NoSettings = codes "NoSettings"
+word_of NoBase = codes "NoBase"
 word_of NotApproved = codes "NotApproved"
 word_of AlreadyOpen = codes "AlreadyOpen"
+word_of (BadSettings refusal) = codes "BadSettings"
 
 abbrev pub level_word_of : Level → List ℕ
 level_word_of Anyone = codes "Anyone"

@@ -2,22 +2,24 @@ ghost use Rattle.std.specs.Prelude.{◌≡◌, IfOk, IfErr, IsOk, OnOk, OnErr, I
 ghost use Rattle.std.specs.Option.{option_copied};
 ghost use Rattle.std.specs.FinMap as map;
 ghost use Rattle.gate_rules.specs.Rules as rules;
-ghost use Rattle.gate_rules.specs.View.{empty_desk, with_role, with_change, role_on, look};
+ghost use Rattle.gate_rules.specs.View.{empty_desk, with_role, with_change, with_settings, role_on, look};
 ghost use Rattle.gate_rules.specs.declared.role.Role.TheVariants.{Nobody};
 
 use crate::change::{Change, Phase, Repeat};
 use crate::role::{Level, Role};
 use crate::rule::Rule;
-use gate_text::{ChangeNo, Command, Name, Spoken};
+use gate_text::{ChangeNo, Command, Name, Settings, Spoken};
 use std::alloc::{AllocError, Global};
 use std::collections::BTreeMap;
 use std::marker::Model;
 
-/// What the rules look at: the roles of people, and the changes. A contract sees it as two finite maps.
+/// What the rules look at: the roles of people, the changes, and the settings. A contract sees it as a record of two
+/// finite maps and the settings, if there are any.
 #[derive(Drop)]
 pub struct Desk {
     roles: BTreeMap<Name, Role>,
     changes: BTreeMap<ChangeNo, Change>,
+    settings: Option<Settings>,
 }
 
 impl Model for Desk {
@@ -30,17 +32,18 @@ impl Model for Desk {
 
     ghost coded = { Prim.hlevel (codes, finite_codes) };
 
-    ghost view = { λ desk. record { roles = map.from_entries desk.roles.entries; changes = map.from_entries desk.changes.entries } };
+    ghost view = { λ desk. record { roles = map.from_entries desk.roles.entries; changes = map.from_entries desk.changes.entries; settings = desk.settings } };
 }
 
 impl Desk {
-    /// A desk with no roles and no changes. It takes no memory; its maps keep the allocator.
+    /// A desk with no roles, no changes and no settings. It takes no memory; its maps keep the allocator.
     pub fn new(alloc: Global) -> Desk
         ensures value { result ≡ empty_desk }
     {
         Desk {
             roles: BTreeMap::new(alloc),
             changes: BTreeMap::new(alloc),
+            settings: None,
         }
     }
 
@@ -56,6 +59,13 @@ impl Desk {
         ensures value { option_copied result ≡ map.get self.now.changes number }
     {
         self.changes.get(&number)
+    }
+
+    /// The settings that were set last, if any were.
+    pub fn settings(&self) -> Option<&Settings>
+        ensures value { option_copied result ≡ self.now.settings }
+    {
+        self.settings.as_ref()
     }
 
     /// Sets the role of a person. Where there is no memory for it, the desk stays as it was; to set `Nobody` takes none.
@@ -85,6 +95,13 @@ impl Desk {
     {
         self.changes.insert(number, change.copy(alloc)?)?;
         Ok(())
+    }
+
+    /// Sets the settings, in place of those that there were. It takes no memory.
+    pub fn set_settings(&mut self, settings: Settings)
+        ensures value { self.new ≡ with_settings self.old settings }
+    {
+        self.settings = Some(settings);
     }
 
     /// The level that a command on this change needs: for `retry` that of the command which it would repeat, and `Member`
@@ -197,7 +214,11 @@ impl Desk {
         if !self.is_open(change) {
             return Some(Rule::NotOpen);
         }
-        Some(Rule::NoSettings)
+        if self.settings.is_none() {
+            return Some(Rule::NoSettings);
+        }
+        // The base is still to come.
+        Some(Rule::NoBase)
     }
 
     // The first rule that fails of the withdrawal of an approval of a known change.

@@ -16,10 +16,14 @@ pub enum Rule {
     NotOpen,
     /// No settings are accepted yet.
     NoSettings,
+    /// No base is known yet, the commit that the main branch stands at.
+    NoBase,
     /// The change isn't approved.
     NotApproved,
     /// The change is open already.
     AlreadyOpen,
+    /// The text is refused as settings, under this number of `SettingsFault`: 1 to 3.
+    BadSettings(u8),
 }
 
 impl Rule {
@@ -33,8 +37,10 @@ impl Rule {
             Rule::NotPermitted(_) => 3,
             Rule::NotOpen => 4,
             Rule::NoSettings => 7,
+            Rule::NoBase => 8,
             Rule::NotApproved => 9,
             Rule::AlreadyOpen => 12,
+            Rule::BadSettings(_) => 17,
         }
     }
 
@@ -48,8 +54,10 @@ impl Rule {
             Rule::NotPermitted(_) => "NotPermitted",
             Rule::NotOpen => "NotOpen",
             Rule::NoSettings => "NoSettings",
+            Rule::NoBase => "NoBase",
             Rule::NotApproved => "NotApproved",
             Rule::AlreadyOpen => "AlreadyOpen",
+            Rule::BadSettings(_) => "BadSettings",
         }
     }
 }

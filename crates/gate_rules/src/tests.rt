@@ -1,7 +1,8 @@
 mod levels;
+mod settings;
 
 use crate::{Change, Desk, Level, Phase, Role, Rule};
-use gate_text::{ChangeNo, Command, Commit, Name, NameSet, Names, Spoken};
+use gate_text::{ChangeNo, Command, Commit, Name, NameSet, Names, Spoken, read_comment};
 use std::alloc::Global;
 use std::test::Fail;
 
@@ -52,74 +53,53 @@ fn desk(alloc: Global) -> Result<Desk, Fail> {
     Ok(desk)
 }
 
+// What a line says.
+fn spoken(alloc: Global, line: &str) -> Result<Spoken, Fail> {
+    Ok(read_comment(alloc, line)?.pop().ok_or("a command line")?)
+}
+
+// The number of the rule that denies the line, and 0 where none does.
+fn denial(alloc: Global, desk: &Desk, person: &str, number: &str, line: &str) -> Result<u8, Fail> {
+    let name = Name::read(alloc, person)?;
+    let line = spoken(alloc, line)?;
+    match desk.rule(alloc, &name, ChangeNo::read(number)?, &line)? {
+        Some(rule) => Ok(rule.number()),
+        None => Ok(0),
+    }
+}
+
 #[test]
 fn the_first_rule_that_fails(rt: HostRuntime) -> Result<(), Fail> {
     let desk = desk(rt.alloc())?;
-    for (person, number, spoken, rule) in [
-        ("eve", "1", Spoken::Known(Command::Ping), None),
-        ("eve", "4", Spoken::Known(Command::Ping), None),
-        (
-            "alice",
-            "9",
-            Spoken::Known(Command::Ping),
-            Some(Rule::UnknownChange),
-        ),
-        ("alice", "9", Spoken::Unknown, Some(Rule::UnknownChange)),
-        ("eve", "1", Spoken::Unknown, Some(Rule::NotACommand)),
-        (
-            "eve",
-            "9",
-            Spoken::Known(Command::Approve),
-            Some(Rule::UnknownChange),
-        ),
-        (
-            "eve",
-            "3",
-            Spoken::Known(Command::Approve),
-            Some(Rule::NotPermitted(Level::ReviewerOrDelegate)),
-        ),
-        (
-            "mia",
-            "1",
-            Spoken::Known(Command::Approve),
-            Some(Rule::NotPermitted(Level::ReviewerOrDelegate)),
-        ),
-        (
-            "carol",
-            "1",
-            Spoken::Known(Command::Withdraw),
-            Some(Rule::NotPermitted(Level::ReviewerOrDelegate)),
-        ),
-        (
-            "alice",
-            "3",
-            Spoken::Known(Command::Approve),
-            Some(Rule::NotOpen),
-        ),
-        (
-            "alice",
-            "4",
-            Spoken::Known(Command::Withdraw),
-            Some(Rule::NotOpen),
-        ),
-        (
-            "alice",
-            "1",
-            Spoken::Known(Command::Approve),
-            Some(Rule::NoSettings),
-        ),
-        (
-            "alice",
-            "1",
-            Spoken::Known(Command::Withdraw),
-            Some(Rule::NotApproved),
-        ),
-        ("alice", "2", Spoken::Known(Command::Withdraw), None),
+    for (person, number, line, rule) in [
+        ("eve", "1", "bors ping", 0),
+        ("eve", "4", "bors ping", 0),
+        ("alice", "9", "bors ping", 1),
+        ("alice", "9", "bors hello", 1),
+        ("eve", "1", "bors hello", 2),
+        ("eve", "9", "bors r+", 1),
+        ("eve", "3", "bors r+", 3),
+        ("mia", "1", "bors r+", 3),
+        ("carol", "1", "bors r-", 3),
+        ("alice", "3", "bors r+", 4),
+        ("alice", "4", "bors r-", 4),
+        ("alice", "1", "bors r+", 7),
+        ("alice", "1", "bors r-", 9),
+        ("alice", "2", "bors r-", 0),
     ] {
-        let name = Name::read(rt.alloc(), person)?;
-        let found = desk.rule(rt.alloc(), &name, ChangeNo::read(number)?, &spoken)?;
-        assert_eq!(rt; found, rule, "{person} on {number}: {spoken:?}");
+        let found = denial(rt.alloc(), &desk, person, number, line)?;
+        assert_eq!(rt; found, rule, "{person} on {number}: {line}");
     }
+    Ok(())
+}
+
+#[test]
+fn the_level_that_is_named(rt: HostRuntime) -> Result<(), Fail> {
+    let desk = desk(rt.alloc())?;
+    let eve = Name::read(rt.alloc(), "eve")?;
+    let line = Spoken::Known(Command::Approve);
+    let found = desk.rule(rt.alloc(), &eve, ChangeNo::read("1")?, &line)?;
+    assert_eq!(rt; found, Some(Rule::NotPermitted(Level::ReviewerOrDelegate)));
     Ok(())
 }
 
@@ -131,8 +111,10 @@ fn numbers_and_words(rt: HostRuntime) {
         (Rule::NotPermitted(Level::Reviewer), 3, "NotPermitted"),
         (Rule::NotOpen, 4, "NotOpen"),
         (Rule::NoSettings, 7, "NoSettings"),
+        (Rule::NoBase, 8, "NoBase"),
         (Rule::NotApproved, 9, "NotApproved"),
         (Rule::AlreadyOpen, 12, "AlreadyOpen"),
+        (Rule::BadSettings(2), 17, "BadSettings"),
     ] {
         assert_eq!(rt; rule.number(), number);
         assert_eq!(rt; rule.word(), word);

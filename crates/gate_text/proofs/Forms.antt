@@ -1,8 +1,9 @@
 -- The functions that read a body and the forms of bodies agree, both ways.
-use Rattle.std.proofs.Common.{◌≡◌, ℕ, suc, ◌+◌, ℤ, Bool, true, false, cond, ◌&&◌, inl, inr, List, [], ◌∷◌, ◌++◌, length, take, drop, Option, Some, None, eqb, refl, sym, ◌∙◌, ap, subst, codes, add-one, append_assoc, arith}
+use Rattle.std.proofs.Common.{◌≡◌, ℕ, suc, ◌+◌, ℤ, true, false, inl, inr, List, [], ◌∷◌, ◌++◌, length, take, drop, Option, Some, None, eqb, refl, sym, ◌∙◌, ap, subst, codes, add-one, append_assoc, arith}
 use Rattle.std.proofs.lemmas.Bool.Decides.{nat_tests}
 use Rattle.std.proofs.lemmas.List.{take-append-drop}
 use Rattle.std.proofs.lemmas.Slice.Eq.{bytes_eq-Decides}
+use Rattle.std.proofs.Math.Bool.{and-false}
 use Rattle.std.proofs.Math.Seq.{take-append_seam}
 use Rattle.std.specs.Char.{is_ascii_digit}
 use Rattle.std.specs.Cmp.{first_so, second_so}
@@ -18,6 +19,7 @@ use Rattle.gate_text.specs.declared.command.Command.{Command}
 use Rattle.gate_text.specs.declared.command.Command.TheVariants.{Ping, Approve, ApproveFor, Withdraw, Priority, Try, TryCancel, DelegateAuthor, DelegateTo, DelegateNone, Retry}
 use Rattle.gate_text.proofs.LastSpace.{last_space-cut, last_space-behind, not_space}
 use Rattle.gate_text.proofs.Numbers.{digits_in}
+use Rattle.gate_text.proofs.Trims.{trim_end-rest}
 use Rattle.gate_text.proofs.Tools.{chosen, either, first_given, mapped, bound}
 
 same_bytes : (x y : List ℕ) → bytes_eq x y ≡ true → x ≡ y
@@ -212,20 +214,6 @@ commands_taken body commands is = commands_read body _ commands refl is
 no_cut : (body : List ℕ) (cut : Option (List ℕ × ℤ)) → cut_priority body ≡ cut → ((front : List ℕ) (priority : ℤ) → EndsInPriority body front priority → ⊥) → cut_priority body ≡ None
 no_cut body (Some (front, priority)) is none = absurd (none front priority (cut_takes body front priority is))
 no_cut body None is none = is
-
--- what is dropped from the end of a text
-trimmed : (b : ℕ) (bs rest : List ℕ) (drops : Bool) → bs ≡ trim_end bs ++ rest → (eqb b 32 && eqb (length (trim_end bs)) 0) ≡ drops
-    → (end : List ℕ) × (b ∷ bs ≡ cond drops [] (b ∷ trim_end bs) ++ end)
-trimmed b bs rest true is drops = (b ∷ bs, refl)
-trimmed b bs rest false is drops = (rest, ap (λ (tail : List ℕ). b ∷ tail) is)
-
-trim_end-rest : (text : List ℕ) → (end : List ℕ) × (text ≡ trim_end text ++ end)
-trim_end-rest [] = ([], refl)
-trim_end-rest (b ∷ bs) = let rest = trim_end-rest bs in trimmed b bs rest.0 _ rest.1 refl
-
-and-false : (a : Bool) → a && false ≡ false
-and-false true = refl
-and-false false = refl
 
 longer : (bs rest : List ℕ) → bytes_eq (bs ++ 32 ∷ rest) [] ≡ false
 longer [] rest = refl

@@ -10,3 +10,4 @@ pub mod Numbers
 pub mod Refusals
 pub mod Tools
 pub mod Trims
+pub mod Values

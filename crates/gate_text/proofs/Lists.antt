@@ -1,4 +1,4 @@
--- A list of names that is read item by item, as a loop over the items goes.
+-- A list that is read item by item, as a loop over the items goes.
 use Rattle.std.proofs.Common.{◌≡◌, ℕ, ◌+◌, ◌<◌, true, false, ◌||◌, List, [], ◌∷◌, ◌++◌, map, length, drop, get_or, Option, Some, None, refl, sym, ◌∙◌, ap, add-one, arith}
 use Rattle.std.proofs.Math.Seq.{drop-cons}
 use Rattle.std.proofs.lemmas.Iterator.{YieldsList}
@@ -9,11 +9,11 @@ use Rattle.std.proofs.lemmas.Map.Text.{is_eq-slice_cmp}
 use Rattle.std.specs.Cmp.Lexicographic.{slice_cmp, nat_list_cmp_total, nat_list_eq_equiv}
 use Rattle.std.specs.FinSet as set
 use Rattle.std.specs.FinSet.{slice_cmp-IsAntisymmetric, nat_cmp-IsAntisymmetric}
-use Rattle.std.specs.List.{fold, list_any}
+use Rattle.std.specs.List.{list_any}
 use Rattle.std.specs.Ordering.{eq_by_cmp, nat_cmp}
 use Rattle.std.specs.Str.{bytes_eq}
 use Rattle.std.specs.Option.{option_map}
-use Rattle.gate_text.specs.Arguments.{all_of, name_in, with_name}
+use Rattle.gate_text.specs.Arguments.{all_of, with_name}
 
 -- `YieldsList-turn` and `YieldsList-end` with the list last, when its iterator is known
 module _ {S A B : Type 0} {steps : S → Option A → S → Type 0} {v : A → B} {s : S} {all : List B} (xs : List A) (t : S) (yielded : Yields steps s xs t) (r : Option A) (u : S) where
@@ -23,31 +23,33 @@ module _ {S A B : Type 0} {steps : S → Option A → S → Type 0} {v : A → B
   pub end_of : r ≡ None → steps t r u → YieldsList steps v s all → length xs ≡ length all
   end_of is step items = (YieldsList-end items xs t yielded r u is step).1
 
--- what is left to read of a list, added to the names that were read
-abbrev pub rest_added : List (List ℕ) → List (Option (List ℕ)) → Option (List (List ℕ))
-rest_added names rest = option_map (fold with_name names) (all_of rest)
+-- what is left to read, behind what was read; nothing where one of the items can't be read
+abbrev pub rest_read : {V X F Y : Type 0} → (V → Option X) → (F → List X → Y) → F → List V → Option Y
+rest_read read joined front rest = option_map (joined front) (all_of (map read rest))
 
-named : (names : List (List ℕ)) (name : List ℕ) (rest : Option (List (List ℕ)))
-    → option_map (fold with_name (with_name names name)) rest ≡ option_map (fold with_name names) (option_map (λ others. name ∷ others) rest)
-named names name None = refl
-named names name (Some others) = refl
+moved : {X F Y : Type 0} (joined : F → List X → Y) (front next : F) (x : X) (rest : Option (List X))
+    → ((xs : List X) → joined next xs ≡ joined front (x ∷ xs))
+    → option_map (joined next) rest ≡ option_map (joined front) (option_map (λ others. x ∷ others) rest)
+moved joined front next x None law = refl
+moved joined front next x (Some others) law = ap Some (law others)
 
-module _ (names : List (List ℕ)) (items : List (List ℕ)) (n : ℕ) (item : List ℕ) where
+module _ {V X F Y : Type 0} (read : V → Option X) (joined : F → List X → Y) (front : F) (items : List V) (n : ℕ) (item : V) where
   next_item : n < length items → item ≡ get_or items n item → drop n items ≡ item ∷ drop (n + 1) items
   next_item within is = drop-cons items n item within ∙ rw (← is, add-one) refl
 
-  -- one more item that is a name
-  pub item_named : (name : List ℕ) → n < length items → item ≡ get_or items n item → Some name ≡ name_in item
-      → rest_added (with_name names name) (map name_in (drop (n + 1) items)) ≡ rest_added names (map name_in (drop n items))
-  item_named name within is read = rw (next_item within is, ← read) (named names name (all_of (map name_in (drop (n + 1) items))))
+  -- one more item that can be read
+  pub item_read : (next : F) (x : X) → ((xs : List X) → joined next xs ≡ joined front (x ∷ xs)) → n < length items → item ≡ get_or items n item → Some x ≡ read item
+      → rest_read read joined next (drop (n + 1) items) ≡ rest_read read joined front (drop n items)
+  item_read next x law within is found = rw (next_item within is, ← found) (moved joined front next x (all_of (map read (drop (n + 1) items))) law)
 
-  -- one that is none
-  pub item_refused : n < length items → item ≡ get_or items n item → None ≡ name_in item → None ≡ rest_added names (map name_in (drop n items))
-  item_refused within is read = rw (next_item within is, ← read) refl
+  -- one that can't
+  pub item_refused : n < length items → item ≡ get_or items n item → None ≡ read item → None ≡ rest_read read joined front (drop n items)
+  item_refused within is found = rw (next_item within is, ← found) refl
 
 -- the end: nothing is left
-pub items_end : (names : List (List ℕ)) (items : List (List ℕ)) (n : ℕ) → n ≡ length items → Some names ≡ rest_added names (map name_in (drop n items))
-items_end names items n is = rw (drop_all n items (omega arith)) refl
+pub items_end : {V X F Y : Type 0} (read : V → Option X) (joined : F → List X → Y) (front : F) (items : List V) (n : ℕ)
+    → n ≡ length items → Some (joined front []) ≡ rest_read read joined front (drop n items)
+items_end read joined front items n is = rw (drop_all n items (omega arith)) refl
 
 -- NAMES THAT ARE KNOWN
 pub same_either_way : (name : List ℕ) (names : List (List ℕ)) → list_any (bytes_eq name) names ≡ list_any (λ other. bytes_eq other name) names

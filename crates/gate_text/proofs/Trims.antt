@@ -26,3 +26,13 @@ trim_end-kept [] none = refl
 trim_end-kept (x ∷ xs) none =
     ap (λ (rest : List ℕ). cond ((eqb x 32) && (eqb (length rest) 0)) [] (x ∷ rest)) (trim_end-kept xs (λ front e. none (x ∷ front) (ap (λ (t : List ℕ). x ∷ t) e)))
     ∙ kept x xs none
+
+-- what was dropped at the end
+trimmed : (b : ℕ) (bs rest : List ℕ) (drops : Bool) → bs ≡ trim_end bs ++ rest → (eqb b 32 && eqb (length (trim_end bs)) 0) ≡ drops
+    → (end : List ℕ) × (b ∷ bs ≡ cond drops [] (b ∷ trim_end bs) ++ end)
+trimmed b bs rest true is drops = (b ∷ bs, refl)
+trimmed b bs rest false is drops = (rest, ap (λ (tail : List ℕ). b ∷ tail) is)
+
+pub trim_end-rest : (text : List ℕ) → (end : List ℕ) × (text ≡ trim_end text ++ end)
+trim_end-rest [] = ([], refl)
+trim_end-rest (b ∷ bs) = let rest = trim_end-rest bs in trimmed b bs rest.0 _ rest.1 refl

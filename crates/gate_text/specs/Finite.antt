@@ -6,7 +6,8 @@ use Rattle.std.specs.Ordering.{eq_by_cmp, is_eq, nat_cmp}
 use Rattle.std.specs.declared.cmp.Ordering.{Ordering}
 use Rattle.std.specs.BTreeMap as tree
 use Rattle.std.specs.BTreeMap.{BTreeMap}
-use Rattle.std.specs.Cmp.{IsEquivalence, IsTotalOrder, eq_by_cmp_equiv, first_so, second_so}
+use Rattle.std.specs.Cmp.{IsEquivalence, IsTotalOrder, eq_by_cmp_equiv, first_so, second_so, both_ways}
+use Rattle.std.proofs.Math.Bool.{and_comm, or-false}
 use Rattle.std.specs.FinMap.{IsAntisymmetric, from_entries, get, insert, remove, find, get-from_entries, get-insert, get-remove, same_map}
 use Rattle.std.specs.Cmp.Lexicographic.{slice_cmp, nat_list_cmp_total}
 use Rattle.std.specs.FinMap as map
@@ -55,25 +56,10 @@ true_or false c = refl
 abbrev pub is_same : {K : Type 0} {R : K → K → Ordering} → set.FinSet R → set.FinSet R → Bool
 is_same s t = set.is_subset s t && set.is_subset t s
 
-same_bits : (a b : Bool) → (a ≡ true → b ≡ true) → (b ≡ true → a ≡ true) → a ≡ b
-same_bits true b there back = sym (there refl)
-same_bits false true there back = back refl
-same_bits false false there back = refl
-
-either_way : (a b : Bool) → (a && b) ≡ (b && a)
-either_way true true = refl
-either_way true false = refl
-either_way false true = refl
-either_way false false = refl
-
 or_later : (a b c : Bool) → ((a || b) || c) ≡ (b || (a || c))
 or_later true true c = refl
 or_later true false c = refl
 or_later false b c = refl
-
-or_nothing : (b : Bool) → b ≡ (b || false)
-or_nothing true = refl
-or_nothing false = refl
 
 module _ {K : Type 0} {R : K → K → Ordering} (total : IsTotalOrder R) where
   -- a test in a set of the code is one in its finite set
@@ -89,7 +75,7 @@ module _ {K : Type 0} {R : K → K → Ordering} (total : IsTotalOrder R) where
       ∙ sym (set.contains-insert total _ k q))
 
   contains-each : (s : set.FinSet R) (ks : List K) (q : K) → set.contains (fold set.insert s ks) q ≡ (set.contains s q || list_any (eq_by_cmp R q) ks)
-  contains-each s [] q = or_nothing _
+  contains-each s [] q = sym (or-false _)
   contains-each s (k ∷ ks) q =
       contains-each (set.insert s k) ks q
       ∙ ap (λ (b : Bool). b || list_any (eq_by_cmp R q) ks) (set.contains-insert total s k q)
@@ -103,7 +89,7 @@ module _ {K : Type 0} {R : K → K → Ordering} (total : IsTotalOrder R) where
       ∙ sym (set.contains-from_list total ks q))
 
   subsets_same : IsAntisymmetric R → (s t : set.FinSet R) → is_same s t ≡ true → s ≡ t
-  subsets_same same s t both = set.same_set total same s t (λ q. same_bits _ _
+  subsets_same same s t both = set.same_set total same s t (λ q. both_ways _ _
       (λ there. set.is_subset-contains total s t (first_so (set.is_subset s t) (set.is_subset t s) both) q there)
       (λ back. set.is_subset-contains total t s (second_so (set.is_subset s t) (set.is_subset t s) both) q back))
 
@@ -113,14 +99,14 @@ module _ {K : Type 0} {R : K → K → Ordering} (total : IsTotalOrder R) where
   pub is_same-equiv : IsAntisymmetric R → IsEquivalence (is_same {R = R})
   is_same-equiv same = record {
     refl = same_itself;
-    symm = λ s t. either_way (set.is_subset s t) (set.is_subset t s);
+    symm = λ s t. and_comm (set.is_subset s t) (set.is_subset t s);
     congr = λ s t u is. ap (λ (v : set.FinSet R). is_same v u) (subsets_same same s t is);
   }
 
   -- `is_subset` in sets of the code and in their finite sets
   pub subset-keys : (s t : BTreeSet K) (b : Bool) → (b ≡ true → tree_set.IsSubset R s t) → (tree_set.IsSubset R s t → b ≡ true)
       → b ≡ set.is_subset (set.from_list {R = R} s.keys) (set.from_list t.keys)
-  subset-keys s t b there back = same_bits _ _
+  subset-keys s t b there back = both_ways _ _
       (λ yes. set.contains-is_subset total _ _ (λ q in_s. contains-keys t q ∙ there yes q (sym (contains-keys s q) ∙ in_s)))
       (λ yes. back (λ q in_s. sym (contains-keys t q) ∙ set.is_subset-contains total _ _ yes q (contains-keys s q ∙ in_s)))
 

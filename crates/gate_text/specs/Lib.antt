@@ -4,12 +4,15 @@
 --     Arguments     the numbers and the lists of names that commands take
 --     Grammar       what a comment says: a relation of whole texts
 --     Limits        what everything keeps that a comment says
--- For the code and the crates above: Reading, the grammar's one reading as a function from bytes; Finite, maps and sets of
--- the code as finite maps and sets.
+--     Settings      what the text of a `bors.toml` says, or why it is refused
+-- For the code and the crates above: Reading, the grammar's one reading as a function from bytes; Steps, steps in order;
+-- Finite, maps and sets of the code as finite maps and sets.
 pub mod Arguments
 pub mod Finite
 pub mod Grammar
 pub mod Limits
 pub mod Reading
+pub mod Settings
 pub mod SmallTexts
 pub mod Spaces
+pub mod Steps

@@ -2,6 +2,7 @@ ghost use Rattle.std.specs.Prelude.{◌≡◌, IfOk};
 ghost use Rattle.gate_text.specs.SmallTexts.{Reads, plain_of};
 
 use crate::fault::TextFault;
+use crate::list::TryCopy;
 use crate::plain::read_plain;
 use crate::text::Text;
 use std::alloc::{AllocError, Global};
@@ -49,5 +50,11 @@ impl Label {
         Ok(Label {
             text: self.text.copy(alloc)?,
         })
+    }
+}
+
+impl TryCopy for Label {
+    fn try_copy(&self, alloc: Global) -> Result<Label, AllocError> {
+        self.copy(alloc)
     }
 }

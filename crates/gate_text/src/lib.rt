@@ -1,5 +1,5 @@
 //! The words of the merge bot's users: names, labels, names of statuses, commits, change numbers, delivery
-//! identifiers, and what a comment says.
+//! identifiers, what a comment says, and the settings of a `bors.toml`.
 #![tactic(auto)]
 
 mod argument;
@@ -13,10 +13,12 @@ mod context;
 mod delivery_id;
 mod fault;
 mod label;
+mod list;
 mod name;
 mod name_set;
 mod names;
 mod plain;
+mod settings;
 mod spaces;
 #[cfg(test)]
 mod tests;
@@ -30,7 +32,9 @@ pub use context::Context;
 pub use delivery_id::DeliveryId;
 pub use fault::TextFault;
 pub use label::Label;
+pub use list::{List, TryCopy};
 pub use name::Name;
 pub use name_set::NameSet;
-pub use names::Names;
+pub use names::{Contexts, Labels, Names};
+pub use settings::{Key, Settings, SettingsFault, read_settings};
 pub use text::Text;

@@ -7,6 +7,7 @@ ghost use Rattle.gate_text.specs.SmallTexts.{Reads, name_of, is_name_byte};
 
 use crate::checks::first_fault;
 use crate::fault::TextFault;
+use crate::list::TryCopy;
 use crate::text::Text;
 use std::alloc::{AllocError, Global};
 use std::marker::Model;
@@ -96,5 +97,11 @@ impl Name {
         Ok(Name {
             text: self.text.copy(alloc)?,
         })
+    }
+}
+
+impl TryCopy for Name {
+    fn try_copy(&self, alloc: Global) -> Result<Name, AllocError> {
+        self.copy(alloc)
     }
 }

@@ -1,5 +1,6 @@
 mod bodies;
 mod comments;
+mod settings;
 
 use crate::{
     ChangeNo, Command, Commit, Context, DeliveryId, Label, Name, NameSet, Names, Text, TextFault,

@@ -71,12 +71,20 @@ fn texts_of_single_replies(rt: HostRuntime) -> Result<(), Fail> {
             r#"[{"number":7,"rule":"NoSettings","verdict":"denied"}]"#,
         ),
         (
+            Reply::Denied(Rule::NoBase),
+            r#"[{"number":8,"rule":"NoBase","verdict":"denied"}]"#,
+        ),
+        (
             Reply::Denied(Rule::NotApproved),
             r#"[{"number":9,"rule":"NotApproved","verdict":"denied"}]"#,
         ),
         (
             Reply::Denied(Rule::AlreadyOpen),
             r#"[{"number":12,"rule":"AlreadyOpen","verdict":"denied"}]"#,
+        ),
+        (
+            Reply::Denied(Rule::BadSettings(255)),
+            r#"[{"detail":255,"number":17,"rule":"BadSettings","verdict":"denied"}]"#,
         ),
     ] {
         let written = answer_text(rt.alloc(), [reply].as_slice())?;

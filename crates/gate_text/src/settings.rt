@@ -1,0 +1,111 @@
+ghost use Rattle.std.specs.Prelude.{◌≡◌, IfOk};
+ghost use Rattle.gate_text.specs.Settings.{Gives, settings_of};
+
+mod fault;
+mod reading;
+mod values;
+
+use crate::context::Context;
+use crate::label::Label;
+use crate::names::{Contexts, Labels};
+pub use fault::{Key, SettingsFault};
+use reading::settings_in;
+use std::alloc::{AllocError, Global};
+use std::marker::Model;
+
+/// What a team asks of its merge queue, as its `bors.toml` says it. The keys are those of the bors-ng reference
+/// documentation. A contract sees the settings as a record of their five values.
+#[derive(Debug, Drop, PartialEq, Eq)]
+pub struct Settings {
+    status: Contexts,
+    timeout_sec: u32,
+    block_labels: Labels,
+    required_approvals: u32,
+    max_batch_size: Option<u32>,
+}
+
+impl Model for Settings {
+    ghost use Rattle.gate_text.specs.Settings.{SettingsView};
+
+    ghost Value = { SettingsView };
+
+    ghost view = { λ s. record {
+      status = s.status;
+      timeout_sec = s.timeout_sec;
+      block_labels = s.block_labels;
+      required_approvals = s.required_approvals;
+      max_batch_size = s.max_batch_size;
+    } };
+
+    ghost inverse = { λ s. record {
+      status = s.status;
+      timeout_sec = s.timeout_sec;
+      block_labels = s.block_labels;
+      required_approvals = s.required_approvals;
+      max_batch_size = s.max_batch_size;
+    } };
+}
+
+impl Settings {
+    /// The statuses that have to succeed before a batch lands, in the order of the text: 1 to 64, no two the same.
+    pub fn status(&self) -> &[Context]
+        ensures value { result.now ≡ self.now.status }
+    {
+        self.status.as_slice()
+    }
+
+    /// After how many seconds a batch is given up: 1 to 2,147,483,647, and 3,600 where the text doesn't say it.
+    pub fn timeout_sec(&self) -> u32
+        ensures value { result ≡ self.now.timeout_sec }
+    {
+        self.timeout_sec
+    }
+
+    /// The labels that keep a change from being approved, in the order of the text: at most 64, no two the same, and none
+    /// where the text doesn't say it.
+    pub fn block_labels(&self) -> &[Label]
+        ensures value { result.now ≡ self.now.block_labels }
+    {
+        self.block_labels.as_slice()
+    }
+
+    /// How many reviews a change needs before it can be approved: 0 to 100, and 0 where the text doesn't say it.
+    pub fn required_approvals(&self) -> u32
+        ensures value { result ≡ self.now.required_approvals }
+    {
+        self.required_approvals
+    }
+
+    /// How many changes a batch has at most: 1 to 1,000, or no limit where the text doesn't say it.
+    pub fn max_batch_size(&self) -> Option<u32>
+        ensures value { result ≡ self.now.max_batch_size }
+    {
+        self.max_batch_size
+    }
+
+    /// A copy, or `AllocError` where there is no memory for it.
+    pub fn copy(&self, alloc: Global) -> Result<Settings, AllocError>
+        ensures value { IfOk result (λ copy. copy ≡ self.now) }
+    {
+        Ok(Settings {
+            status: self.status.copy(alloc)?,
+            timeout_sec: self.timeout_sec,
+            block_labels: self.block_labels.copy(alloc)?,
+            required_approvals: self.required_approvals,
+            max_batch_size: self.max_batch_size,
+        })
+    }
+}
+
+/// Reads the text of a `bors.toml` (TOML 1.1). Refusals, in their order: `NotToml`; `NoStatus`; `BadKey` with the first
+/// bad key, in the order of `Key`. `Memory` can come in place of any of them, since `toml` takes memory while it reads.
+/// Keys that the bot doesn't read are ignored, whatever their value.
+pub fn read_settings(alloc: Global, text: &str) -> Result<Settings, SettingsFault>
+    ensures value { Gives result (settings_of text.now) }
+{
+    match toml::table_from_str(alloc, text) {
+        Ok(table) => settings_in(alloc, &table),
+        Err(error) if error.is_memory() => Err(SettingsFault::Memory),
+        Err(_) => Err(SettingsFault::NotToml),
+    }
+}

@@ -1,0 +1,138 @@
+ghost use Rattle.std.specs.Prelude.{◌≡◌, [], map, IfOk, OnOk};
+ghost use Rattle.std.specs.List.{fold};
+ghost use Rattle.std.specs.Option.{option_map};
+ghost use Rattle.toml.specs.View.{view};
+ghost use Rattle.gate_text.specs.Arguments.{all_of, with_name};
+ghost use Rattle.gate_text.specs.Settings as settings;
+
+use crate::context::Context;
+use crate::fault::TextFault;
+use crate::label::Label;
+use crate::names::{Contexts, Labels};
+use std::alloc::{AllocError, Global};
+use toml::Value;
+
+// The most items of a list.
+const MAX_ITEMS: usize = 64;
+
+// A whole number from the least to the most, and nothing for another value.
+pub fn number_in(value: &Value, least: u32, most: u32) -> Option<u32>
+    ensures { result ≡ settings.whole_in least most (view value.now) }
+{
+    let number = u32::try_from(value.as_integer()?).ok()?;
+    if (least..=most).contains(&number) {
+        Some(number)
+    } else {
+        None
+    }
+}
+
+// The items of an array that has so many, and nothing for another value.
+fn items_in(value: &Value, least: usize, most: usize) -> Option<&[Value]>
+    ensures { option_map (λ items. map view items.now) result ≡ settings.items_in least most (view value.now) }
+{
+    let items = value.as_array()?.as_slice();
+    if (least..=most).contains(&items.len()) {
+        Some(items)
+    } else {
+        None
+    }
+}
+
+// The name of a status that a value is, and nothing for another value.
+fn context_in(alloc: Global, value: &Value) -> Result<Option<Context>, AllocError>
+    ensures { IfOk result (λ context. context ≡ settings.plain_in (view value.now)) }
+{
+    let Some(text) = value.as_str() else {
+        return Ok(None);
+    };
+    match Context::read(alloc, text) {
+        Ok(context) => Ok(Some(context)),
+        Err(TextFault::Memory) => Err(AllocError),
+        Err(_) => Ok(None),
+    }
+}
+
+// The label that a value is, and nothing for another value.
+fn label_in(alloc: Global, value: &Value) -> Result<Option<Label>, AllocError>
+    ensures { IfOk result (λ label. label ≡ settings.plain_in (view value.now)) }
+{
+    let Some(text) = value.as_str() else {
+        return Ok(None);
+    };
+    match Label::read(alloc, text) {
+        Ok(label) => Ok(Some(label)),
+        Err(TextFault::Memory) => Err(AllocError),
+        Err(_) => Ok(None),
+    }
+}
+
+fn are_distinct(contexts: &[Context]) -> bool
+    ensures { result ≡ settings.are_distinct contexts.now }
+{
+    match contexts.split_first() {
+        Some((first, others)) => !others.contains(first) && are_distinct(others),
+        None => true,
+    }
+}
+
+// The names of statuses that an array lists, and nothing for another value.
+fn contexts_of(alloc: Global, items: &[Value]) -> Result<Option<Contexts>, AllocError>
+    ensures { IfOk result (λ contexts. contexts ≡ all_of (map settings.plain_in (map view items.now))) }
+{
+    let mut contexts = Vec::new(alloc);
+    for value in items {
+        match context_in(alloc, value)? {
+            Some(context) => contexts.push(context)?,
+            None => return Ok(None),
+        }
+    }
+    Ok(Some(Contexts::from(contexts)))
+}
+
+// Adds a label, unless it is there. There are few.
+fn add_label(labels: &mut Vec<Label>, label: Label) -> Result<(), AllocError>
+    ensures { OnOk result (labels.new.items ≡ with_name labels.old.items label) }
+{
+    if !labels.contains(&label) {
+        labels.push(label)?;
+    }
+    Ok(())
+}
+
+// The labels that an array lists, without later repeats, and nothing for another value.
+fn labels_of(alloc: Global, items: &[Value]) -> Result<Option<Labels>, AllocError>
+    ensures { IfOk result (λ labels. labels ≡ option_map (fold with_name []) (all_of (map settings.plain_in (map view items.now)))) }
+{
+    let mut labels = Vec::new(alloc);
+    for value in items {
+        match label_in(alloc, value)? {
+            Some(label) => add_label(&mut labels, label)?,
+            None => return Ok(None),
+        }
+    }
+    Ok(Some(Labels::from(labels)))
+}
+
+// The required statuses that a value lists: 1 to 64, no two the same, and nothing for another value.
+pub fn statuses_in(alloc: Global, value: &Value) -> Result<Option<Contexts>, AllocError>
+    ensures { IfOk result (λ contexts. contexts ≡ settings.statuses_in (view value.now)) }
+{
+    let Some(items) = items_in(value, 1, MAX_ITEMS) else {
+        return Ok(None);
+    };
+    match contexts_of(alloc, items)? {
+        Some(contexts) if are_distinct(contexts.as_slice()) => Ok(Some(contexts)),
+        _ => Ok(None),
+    }
+}
+
+// The blocking labels that a value lists: at most 64, of which later repeats are dropped, and nothing for another value.
+pub fn labels_in(alloc: Global, value: &Value) -> Result<Option<Labels>, AllocError>
+    ensures { IfOk result (λ labels. labels ≡ settings.labels_in (view value.now)) }
+{
+    match items_in(value, 0, MAX_ITEMS) {
+        Some(items) => labels_of(alloc, items),
+        None => Ok(None),
+    }
+}
