@@ -6,7 +6,7 @@ use Rattle.std.specs.Io.KnownBytes.{IsAtEnd}
 use Rattle.gate_bot.specs.Bench.{BenchView}
 use Rattle.gate_bot.specs.Lines.{ended_lines, open_line, last_line, lines_of, AreComplete, IsServed, IsWithinLimit}
 use Rattle.gate_bot.specs.Serving.{IsAnswered, IsUpTo, StopsBehind, StopsWithin, kept_of}
-use Rattle.gate_bot.specs.declared.fault.Fault.TheVariants as fault
+use Rattle.gate_queue.specs.declared.fault.Fault.TheVariants as fault
 use Rattle.gate_bot.specs.declared.lines.HookFault.{HookFault}
 use Rattle.gate_bot.specs.declared.lines.HookFault.TheVariants.{Gate, Read, Write, TooMuch}
 use Rattle.gate_bot.proofs.Splitting.{ended_at, ended_lines-feed}

@@ -1,8 +1,8 @@
-pub mod Attributes
+pub mod ActLimits
 pub mod Ending
 pub mod Kept
-pub mod Law
 pub mod Progress
 pub mod Splitting
 pub mod Taking
+pub mod Telling
 pub mod Whole

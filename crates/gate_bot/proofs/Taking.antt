@@ -8,7 +8,7 @@ use Rattle.gate_bot.specs.Bench.{BenchView}
 use Rattle.gate_bot.specs.Deliveries.{delivery_of}
 use Rattle.gate_bot.specs.Lines.{ended_lines, open_line, line_text, too_long_text, text_answered, after_line, is_delivery, after_reading, text_for, after_lines, StopsForMemory}
 use Rattle.gate_bot.specs.Serving.{IsAnswered, IsUpTo, StopsBehind, kept_of}
-use Rattle.gate_bot.specs.declared.fault.Fault.TheVariants as fault
+use Rattle.gate_queue.specs.declared.fault.Fault.TheVariants as fault
 use Rattle.gate_bot.specs.declared.lines.HookFault.{HookFault}
 use Rattle.gate_bot.specs.declared.lines.HookFault.TheVariants.{Gate, Read, Write, TooMuch}
 use Rattle.gate_bot.proofs.Kept.{kept-push, kept-says}

@@ -2,24 +2,37 @@
 use Rattle.std.proofs.Common.{◌≡◌, false, List, [], ◌∷◌, map, refl}
 use Rattle.serde_json.specs.View.{items_of}
 use Rattle.serde_json.specs.Written.{has_float, items_have_float}
-use Rattle.gate_rules.specs.declared.rule.Rule.TheVariants.{UnknownChange, NotACommand, NotPermitted, NotOpen, NoSettings, NoBase, NotApproved, AlreadyOpen, BadSettings}
-use Rattle.gate_bot.specs.Answers.{reply_data, answer_data, error_data}
+use Rattle.gate_rules.specs.declared.rule.Rule.TheVariants.{UnknownChange, NotACommand, NotPermitted, NotOpen, NoSettings, NoBase, AlreadyApproved, NotApproved, Blocked, TooFewReviews, AlreadyOpen, StaleHead, NotMember, OwnChange, BadSettings, SameAsBase}
+use Rattle.gate_bot.specs.Answers.{order_data, reply_data, answer_data, error_data}
 use Rattle.gate_bot.specs.declared.reading.DeliveryFault.{DeliveryFault}
 use Rattle.gate_bot.specs.declared.reading.DeliveryFault.TheVariants.{NotJson, BadField, UnknownEvent, Memory}
-use Rattle.gate_bot.specs.declared.reply.Reply.{Reply}
-use Rattle.gate_bot.specs.declared.reply.Reply.TheVariants.{Done, Denied}
+use Rattle.gate_queue.specs.declared.reply.Order.{Order}
+use Rattle.gate_queue.specs.declared.reply.Order.TheVariants.{Notice}
+use Rattle.gate_queue.specs.declared.reply.Reply.{Reply}
+use Rattle.gate_queue.specs.declared.reply.Reply.TheVariants.{Done, Denied}
+
+orders_whole : (orders : List Order) → items_have_float (items_of (map order_data orders)) ≡ false
+orders_whole [] = refl
+orders_whole (Notice change why ∷ orders) = orders_whole orders
 
 reply_whole : (reply : Reply) → has_float (reply_data reply) ≡ false
-reply_whole Done = refl
+reply_whole (Done orders) = rw (orders_whole orders) refl
 reply_whole (Denied UnknownChange) = refl
 reply_whole (Denied NotACommand) = refl
 reply_whole (Denied (NotPermitted level)) = refl
 reply_whole (Denied NotOpen) = refl
 reply_whole (Denied NoSettings) = refl
 reply_whole (Denied NoBase) = refl
+reply_whole (Denied AlreadyApproved) = refl
 reply_whole (Denied NotApproved) = refl
+reply_whole (Denied (Blocked label)) = refl
+reply_whole (Denied (TooFewReviews have need)) = refl
 reply_whole (Denied AlreadyOpen) = refl
+reply_whole (Denied StaleHead) = refl
+reply_whole (Denied NotMember) = refl
+reply_whole (Denied OwnChange) = refl
 reply_whole (Denied (BadSettings refusal)) = refl
+reply_whole (Denied SameAsBase) = refl
 
 replies_whole : (replies : List Reply) → items_have_float (items_of (map reply_data replies)) ≡ false
 replies_whole [] = refl

@@ -1,10 +1,11 @@
 -- THE ACTS OF AN EVENT.
-use Rattle.std.specs.Prelude.{ℕ, List, [], ◌∷◌, map}
+use Rattle.std.specs.Prelude.{ℕ, ⊤, List, [], ◌∷◌, map}
+use Rattle.gate_text.specs.Limits.{KeepsLimits}
 use Rattle.gate_text.specs.Reading.{comment_says}
-use Rattle.gate_bot.specs.declared.act.Act.{Act}
-use Rattle.gate_bot.specs.declared.act.Act.TheVariants as act
+use Rattle.gate_queue.specs.declared.act.Act.{Act}
+use Rattle.gate_queue.specs.declared.act.Act.TheVariants as act
 use Rattle.gate_bot.specs.declared.delivery.Event.{Event}
-use Rattle.gate_bot.specs.declared.delivery.Event.TheVariants.{Comment, Role, Settings, Opened}
+use Rattle.gate_bot.specs.declared.delivery.Event.TheVariants.{Comment, Role, Settings, Base, Opened, Pushed, Closed, Labeled, Unlabeled, Review}
 
 -- one act for each command line of a comment, in order
 abbrev pub spoken_acts_of : ℕ → List ℕ → List ℕ → List Act
@@ -15,4 +16,15 @@ abbrev pub acts_of_event : Event → List Act
 acts_of_event (Comment change person text) = spoken_acts_of change person text
 acts_of_event (Role person role) = act.Role person role ∷ []
 acts_of_event (Settings text) = act.Settings text ∷ []
+acts_of_event (Base commit) = act.Base commit ∷ []
 acts_of_event (Opened change author head) = act.Opened change author head ∷ []
+acts_of_event (Pushed change head) = act.Pushed change head ∷ []
+acts_of_event (Closed change) = act.Closed change ∷ []
+acts_of_event (Labeled change label) = act.Labeled change label ∷ []
+acts_of_event (Unlabeled change label) = act.Unlabeled change label ∷ []
+acts_of_event (Review change person head approves) = act.Review change person head approves ∷ []
+
+-- what a comment says keeps its limits in its acts
+abbrev pub ActKeepsLimits : Act → Type 0
+ActKeepsLimits (act.Spoken change person spoken) = KeepsLimits spoken
+ActKeepsLimits _ = ⊤

@@ -1,17 +1,21 @@
 -- WRITTEN TEXTS: the JSON of an answer and of an error (RFC 8259), compact, the names of an object in the order of
 -- their bytes.
-use Rattle.std.specs.Prelude.{ℕ, List, map, Option, Some, None, codes}
-use Rattle.serde_json.specs.Data.{Data, number, unsigned, string, array, object, no_items, Members, no_members, member}
+use Rattle.std.specs.Prelude.{ℕ, List, [], ◌∷◌, map, Option, Some, None, codes}
+use Rattle.serde_json.specs.Data.{Data, number, unsigned, string, array, object, Members, no_members, member}
 use Rattle.serde_json.specs.View.{items_of}
 use Rattle.serde_json.specs.Written.{compact_text}
 use Rattle.gate_rules.specs.Words.{number_of, word_of, level_word_of}
 use Rattle.gate_rules.specs.declared.rule.Rule.{Rule}
-use Rattle.gate_rules.specs.declared.rule.Rule.TheVariants.{UnknownChange, NotACommand, NotPermitted, NotOpen, NoSettings, NoBase, NotApproved, AlreadyOpen, BadSettings}
+use Rattle.gate_rules.specs.declared.rule.Rule.TheVariants.{UnknownChange, NotACommand, NotPermitted, NotOpen, NoSettings, NoBase, AlreadyApproved, NotApproved, Blocked, TooFewReviews, AlreadyOpen, StaleHead, NotMember, OwnChange, BadSettings, SameAsBase}
 use Rattle.gate_bot.specs.Deliveries.{field_name}
 use Rattle.gate_bot.specs.declared.reading.DeliveryFault.{DeliveryFault}
 use Rattle.gate_bot.specs.declared.reading.DeliveryFault.TheVariants.{NotJson, BadField, UnknownEvent, Memory}
-use Rattle.gate_bot.specs.declared.reply.Reply.{Reply}
-use Rattle.gate_bot.specs.declared.reply.Reply.TheVariants.{Done, Denied}
+use Rattle.gate_queue.specs.declared.reply.Order.{Order}
+use Rattle.gate_queue.specs.declared.reply.Order.TheVariants.{Notice}
+use Rattle.gate_queue.specs.declared.reply.Why.{Why}
+use Rattle.gate_queue.specs.declared.reply.Why.TheVariants as why
+use Rattle.gate_queue.specs.declared.reply.Reply.{Reply}
+use Rattle.gate_queue.specs.declared.reply.Reply.TheVariants.{Done, Denied}
 
 -- ANSWERS
 abbrev denial : Rule → Members
@@ -28,17 +32,40 @@ detail_of (NotPermitted level) = Some (string (level_word_of level))
 detail_of NotOpen = None
 detail_of NoSettings = None
 detail_of NoBase = None
+detail_of AlreadyApproved = None
 detail_of NotApproved = None
+detail_of (Blocked label) = Some (string label)
+detail_of (TooFewReviews have need) = Some (array (items_of (number (unsigned have) ∷ number (unsigned need) ∷ [])))
 detail_of AlreadyOpen = None
+detail_of StaleHead = None
+detail_of NotMember = None
+detail_of OwnChange = None
 detail_of (BadSettings refusal) = Some (number (unsigned refusal))
+detail_of SameAsBase = None
 
 abbrev with_detail : Option Data → Members → Members
 with_detail None members = members
 with_detail (Some detail) members = member (codes "detail") detail members
 
+abbrev pub why_word_of : Why → List ℕ
+why_word_of why.Pushed = codes "Pushed"
+why_word_of why.Closed = codes "Closed"
+why_word_of why.Labeled = codes "Labeled"
+why_word_of why.Reviews = codes "Reviews"
+why_word_of why.Settings = codes "Settings"
+
+abbrev pub order_data : Order → Data
+order_data (Notice change why) =
+    object (member (codes "change") (number (unsigned change))
+    (member (codes "order") (string (codes "notice"))
+    (member (codes "why") (string (why_word_of why)) no_members)))
+
+abbrev pub orders_data : List Order → Data
+orders_data orders = array (items_of (map order_data orders))
+
 abbrev pub reply_data : Reply → Data
-reply_data Done =
-    object (member (codes "orders") (array no_items)
+reply_data (Done orders) =
+    object (member (codes "orders") (orders_data orders)
     (member (codes "verdict") (string (codes "done")) no_members))
 reply_data (Denied rule) = object (with_detail (detail_of rule) (denial rule))
 

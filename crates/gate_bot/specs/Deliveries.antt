@@ -1,12 +1,12 @@
 -- DELIVERIES: the delivery that a text is, as JSON (RFC 8259), or why it is none.
-use Rattle.std.specs.Prelude.{◌≡◌, ℕ, List, Option, Some, None, Result, Ok, Err, option_and_then, ok_or, codes, if◌then◌else◌}
+use Rattle.std.specs.Prelude.{◌≡◌, ℕ, Bool, List, Option, Some, None, Result, Ok, Err, option_and_then, ok_or, codes, if◌then◌else◌}
 use Rattle.std.specs.Result.{result_ok}
 use Rattle.std.specs.Str.{bytes_eq, is_utf8}
 use Rattle.serde_json.specs.Data.{Data, object}
-use Rattle.serde_json.specs.Find.{get, as_str, as_u64, as_number}
+use Rattle.serde_json.specs.Find.{get, as_str, as_bool, as_u64, as_number}
 use Rattle.serde_json.specs.Read.{read}
 use Rattle.gate_text.specs.Steps.{◌>>=◌}
-use Rattle.gate_text.specs.SmallTexts.{name_of, commit_of, delivery_id_of, change_no_from}
+use Rattle.gate_text.specs.SmallTexts.{name_of, plain_of, commit_of, delivery_id_of, change_no_from}
 use Rattle.gate_text.specs.declared.fault.TextFault.{TextFault}
 use Rattle.gate_text.specs.declared.fault.TextFault.TheVariants as text_fault
 use Rattle.serde_json.specs.View.{view}
@@ -16,7 +16,7 @@ use Rattle.gate_rules.specs.declared.role.Role.{Role as RoleOf}
 use Rattle.gate_rules.specs.declared.role.Role.TheVariants.{Nobody, Member, Reviewer}
 use Rattle.gate_bot.specs.declared.delivery.Delivery.{Delivery}
 use Rattle.gate_bot.specs.declared.delivery.Event.{Event}
-use Rattle.gate_bot.specs.declared.delivery.Event.TheVariants.{Comment, Role, Settings, Opened}
+use Rattle.gate_bot.specs.declared.delivery.Event.TheVariants.{Comment, Role, Settings, Base, Opened, Pushed, Closed, Labeled, Unlabeled, Review}
 use Rattle.gate_bot.specs.declared.reading.Field.{Field}
 use Rattle.gate_bot.specs.declared.reading.Field.TheVariants as field
 use Rattle.gate_bot.specs.declared.reading.DeliveryFault.{DeliveryFault}
@@ -40,6 +40,9 @@ field_name field.Text = codes "text"
 field_name field.Role = codes "role"
 field_name field.Author = codes "author"
 field_name field.Head = codes "head"
+field_name field.Commit = codes "commit"
+field_name field.Label = codes "label"
+field_name field.Approves = codes "approves"
 
 -- a value that has to be there, or the refusal that names its field
 abbrev pub required : {X : Type 0} → Field → Option X → Result X DeliveryFault
@@ -62,10 +65,18 @@ name_at name d = do
   text ← text_at name d
   required name (result_ok (name_of text))
 
-abbrev pub head_at : Data → Result (List ℕ) DeliveryFault
-head_at d = do
-  text ← text_at field.Head d
-  required field.Head (result_ok (commit_of text))
+abbrev pub commit_at : Field → Data → Result (List ℕ) DeliveryFault
+commit_at name d = do
+  text ← text_at name d
+  required name (result_ok (commit_of text))
+
+abbrev pub label_at : Data → Result (List ℕ) DeliveryFault
+label_at d = do
+  text ← text_at field.Label d
+  required field.Label (result_ok (plain_of text))
+
+abbrev pub approves_at : Data → Result Bool DeliveryFault
+approves_at d = required field.Approves (option_and_then as_bool (get (field_name field.Approves) d))
 
 abbrev pub role_called : List ℕ → Option RoleOf
 role_called text =
@@ -102,16 +113,58 @@ abbrev pub opened_in : Data → Result Event DeliveryFault
 opened_in d = do
   change ← change_at d
   author ← name_at field.Author d
-  head ← head_at d
+  head ← commit_at field.Head d
   Ok (Opened change author head)
+
+abbrev pub base_in : Data → Result Event DeliveryFault
+base_in d = do
+  commit ← commit_at field.Commit d
+  Ok (Base commit)
+
+abbrev pub pushed_in : Data → Result Event DeliveryFault
+pushed_in d = do
+  change ← change_at d
+  head ← commit_at field.Head d
+  Ok (Pushed change head)
+
+abbrev pub closed_in : Data → Result Event DeliveryFault
+closed_in d = do
+  change ← change_at d
+  Ok (Closed change)
+
+abbrev pub labeled_in : Data → Result Event DeliveryFault
+labeled_in d = do
+  change ← change_at d
+  label ← label_at d
+  Ok (Labeled change label)
+
+abbrev pub unlabeled_in : Data → Result Event DeliveryFault
+unlabeled_in d = do
+  change ← change_at d
+  label ← label_at d
+  Ok (Unlabeled change label)
+
+abbrev pub review_in : Data → Result Event DeliveryFault
+review_in d = do
+  change ← change_at d
+  person ← name_at field.Person d
+  head ← commit_at field.Head d
+  approves ← approves_at d
+  Ok (Review change person head approves)
 
 abbrev pub event_called : List ℕ → Data → Result Event DeliveryFault
 event_called kind d =
     if bytes_eq kind (codes "comment") then comment_in d
     else (if bytes_eq kind (codes "role") then role_in d
     else (if bytes_eq kind (codes "settings") then settings_in d
+    else (if bytes_eq kind (codes "base") then base_in d
     else (if bytes_eq kind (codes "opened") then opened_in d
-    else Err UnknownEvent)))
+    else (if bytes_eq kind (codes "pushed") then pushed_in d
+    else (if bytes_eq kind (codes "closed") then closed_in d
+    else (if bytes_eq kind (codes "labeled") then labeled_in d
+    else (if bytes_eq kind (codes "unlabeled") then unlabeled_in d
+    else (if bytes_eq kind (codes "review") then review_in d
+    else Err UnknownEvent)))))))))
 
 -- DELIVERIES: the identifier first, then the event and its fields
 abbrev pub delivery_in : Data → Result Delivery DeliveryFault

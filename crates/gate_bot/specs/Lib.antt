@@ -2,15 +2,13 @@
 --     Deliveries   the delivery that a text is, or why it is none
 --     Acts         the acts of a delivery
 --     Answers      the texts of an answer and of an error
---     Machine      what an act is answered, and what it does
---     History      all acts so far with their replies, what they say of people and changes, and what each entry tells
+--     Run          the replies to acts in order, and what their entries tell, by the machine and the history of gate_queue
 --     Lines        the lines of a text, and what is written for them
 pub mod Acts
 pub mod Answers
 pub mod Bench
 pub mod Deliveries
-pub mod History
 pub mod Lines
-pub mod Machine
+pub mod Run
 pub mod Sending
 pub mod Serving

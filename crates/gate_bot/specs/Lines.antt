@@ -5,9 +5,9 @@ use Rattle.gate_bot.specs.Acts.{acts_of_event}
 use Rattle.gate_bot.specs.Answers.{answer_text_of, error_text_of}
 use Rattle.gate_bot.specs.Bench.{BenchView}
 use Rattle.gate_bot.specs.Deliveries.{delivery_of}
-use Rattle.gate_bot.specs.Machine.{replies_to, after_all}
+use Rattle.gate_bot.specs.Run.{replies_to, after_all}
 use Rattle.gate_bot.specs.declared.delivery.Delivery.{Delivery}
-use Rattle.gate_bot.specs.declared.fault.Fault.TheVariants as fault
+use Rattle.gate_queue.specs.declared.fault.Fault.TheVariants as fault
 use Rattle.gate_bot.specs.declared.lines.HookFault.{HookFault}
 use Rattle.gate_bot.specs.declared.lines.HookFault.TheVariants.{Gate, Read, Write, TooMuch}
 use Rattle.gate_bot.specs.declared.reading.DeliveryFault.{DeliveryFault}
@@ -51,7 +51,7 @@ too_long_text = codes "{\"error\":\"LineTooLong\",\"number\":5}"
 
 -- by what the line was read as: a delivery by its answer, and a line that is none by its error
 abbrev pub text_answered : BenchView → Result Delivery DeliveryFault → List ℕ
-text_answered bench (Ok delivery) = answer_text_of (replies_to bench.desk (acts_of_event delivery.event))
+text_answered bench (Ok delivery) = answer_text_of (replies_to bench.state (acts_of_event delivery.event))
 text_answered bench (Err fault) = error_text_of fault
 
 abbrev pub line_text : BenchView → List ℕ → List ℕ
@@ -62,7 +62,7 @@ is_delivery line = if is_too_long line then false else is_ok (delivery_of line)
 
 -- the bench after it: a line that is no delivery changes nothing
 abbrev pub after_reading : BenchView → Result Delivery DeliveryFault → BenchView
-after_reading bench (Ok delivery) = record bench { desk = after_all bench.desk (acts_of_event delivery.event) }
+after_reading bench (Ok delivery) = record bench { state = after_all bench.state (acts_of_event delivery.event) }
 after_reading bench (Err fault) = bench
 
 abbrev pub after_line : BenchView → List ℕ → BenchView

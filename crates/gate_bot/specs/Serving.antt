@@ -3,7 +3,7 @@ use Rattle.std.specs.Prelude.{◌≡◌, ◌≤◌, ◌<◌, ℕ, List, [], ◌�
 use Rattle.std.specs.Io.KnownBytes.{Appends, Consumes, Keeps, IsAtEnd}
 use Rattle.gate_bot.specs.Bench.{BenchView}
 use Rattle.gate_bot.specs.Lines.{ended_lines, open_line, line_text, after_line, text_for, after_lines, StopsForMemory, max_kept}
-use Rattle.gate_bot.specs.declared.fault.Fault.TheVariants as fault
+use Rattle.gate_queue.specs.declared.fault.Fault.TheVariants as fault
 use Rattle.gate_bot.specs.declared.lines.HookFault.{HookFault}
 use Rattle.gate_bot.specs.declared.lines.HookFault.TheVariants.{Gate, Read, Write, TooMuch}
 

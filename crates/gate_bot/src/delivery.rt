@@ -1,9 +1,10 @@
 ghost use Rattle.std.specs.Prelude.{◌≡◌, IfOk};
-ghost use Rattle.gate_bot.specs.Acts.{acts_of_event, spoken_acts_of};
+ghost use Rattle.std.specs.List.{All};
+ghost use Rattle.gate_bot.specs.Acts.{ActKeepsLimits, acts_of_event, spoken_acts_of};
 
-use crate::act::Act;
+use gate_queue::Act;
 use gate_rules::Role;
-use gate_text::{ChangeNo, Commit, DeliveryId, Name, Text, read_comment};
+use gate_text::{ChangeNo, Commit, DeliveryId, Label, Name, Text, read_comment};
 use std::alloc::{AllocError, Global};
 
 /// What happened, as a host hands it in.
@@ -39,6 +40,48 @@ pub enum Event {
         /// The commit that is to be merged.
         head: Commit,
     },
+    /// The main branch stands at a commit.
+    Base {
+        /// The commit.
+        commit: Commit,
+    },
+    /// A change has a head, another one or the same.
+    Pushed {
+        /// The change.
+        change: ChangeNo,
+        /// Its head from now on.
+        head: Commit,
+    },
+    /// A change was closed.
+    Closed {
+        /// The change.
+        change: ChangeNo,
+    },
+    /// A change was given a label.
+    Labeled {
+        /// The change.
+        change: ChangeNo,
+        /// The label.
+        label: Label,
+    },
+    /// A label was taken from a change.
+    Unlabeled {
+        /// The change.
+        change: ChangeNo,
+        /// The label.
+        label: Label,
+    },
+    /// A person reviewed a change.
+    Review {
+        /// The change.
+        change: ChangeNo,
+        /// Who reviewed it.
+        person: Name,
+        /// The head that was reviewed.
+        head: Commit,
+        /// Whether the person approves of it.
+        approves: bool,
+    },
 }
 
 /// One hand-in of the host, with its identifier.
@@ -51,8 +94,15 @@ pub struct Delivery {
 }
 
 /// The acts of a delivery: one for each command line of a comment, in order, and one for a fact. A comment without
-/// command lines has none.
+/// command lines has none. `AllocError` where there is no memory for them. What a comment says keeps its limits.
 pub fn acts_of(alloc: Global, delivery: &Delivery) -> Result<Vec<Act>, AllocError>
+    ensures value { IfOk result (λ acts. acts.items ≡ acts_of_event delivery.now.event) }
+    ensures limits { IfOk result (λ acts. All ActKeepsLimits acts.items) }
+{
+    acts_in(alloc, delivery)
+}
+
+fn acts_in(alloc: Global, delivery: &Delivery) -> Result<Vec<Act>, AllocError>
     ensures { IfOk result (λ acts. acts.items ≡ acts_of_event delivery.now.event) }
 {
     let fact = match &delivery.event {
@@ -76,6 +126,31 @@ pub fn acts_of(alloc: Global, delivery: &Delivery) -> Result<Vec<Act>, AllocErro
             change: *change,
             author: author.copy(alloc)?,
             head: *head,
+        },
+        Event::Base { commit } => Act::Base { commit: *commit },
+        Event::Pushed { change, head } => Act::Pushed {
+            change: *change,
+            head: *head,
+        },
+        Event::Closed { change } => Act::Closed { change: *change },
+        Event::Labeled { change, label } => Act::Labeled {
+            change: *change,
+            label: label.copy(alloc)?,
+        },
+        Event::Unlabeled { change, label } => Act::Unlabeled {
+            change: *change,
+            label: label.copy(alloc)?,
+        },
+        Event::Review {
+            change,
+            person,
+            head,
+            approves,
+        } => Act::Review {
+            change: *change,
+            person: person.copy(alloc)?,
+            head: *head,
+            approves: *approves,
         },
     };
     Ok(vec![in alloc; fact]?)

@@ -7,11 +7,11 @@ ghost use Rattle.gate_bot.specs.Serving.{IsAnswered, IsUpTo, IsRead, TakesByte, 
 
 use crate::bench::Bench;
 use crate::delivery::Delivery;
-use crate::fault::Fault;
 use crate::line::Line;
 use crate::reading::{DeliveryFault, read_delivery};
 use crate::sending::send;
 use crate::writing::{answer_text, error_text};
+use gate_queue::Fault;
 use std::alloc::{AllocError, Global};
 use std::io::{Read, Write};
 use thiserror::Error;

@@ -1,10 +1,8 @@
 //! The program `gate`: the merge bot, from the bytes that come in to the bytes that go out.
 #![tactic(auto)]
 
-mod act;
 mod bench;
 mod delivery;
-mod fault;
 mod line;
 mod lines;
 mod machine;

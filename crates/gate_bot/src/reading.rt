@@ -6,7 +6,7 @@ ghost use Rattle.gate_bot.specs.Deliveries.{Reads, delivery_of};
 
 use crate::delivery::{Delivery, Event};
 use gate_rules::Role;
-use gate_text::{ChangeNo, Commit, DeliveryId, Name, Text, TextFault};
+use gate_text::{ChangeNo, Commit, DeliveryId, Label, Name, Text, TextFault};
 use serde_json::Value;
 use std::alloc::{AllocError, Global};
 use thiserror::Error;
@@ -30,12 +30,18 @@ pub enum Field {
     Author,
     /// `head`
     Head,
+    /// `commit`
+    Commit,
+    /// `label`
+    Label,
+    /// `approves`
+    Approves,
 }
 
 impl Field {
     /// The name of the field, as deliveries write it.
     pub fn name(self) -> &'static str
-        ensures { result.now ≡ deliveries.field_name self }
+        ensures value { result.now ≡ deliveries.field_name self }
     {
         match self {
             Field::Id => "id",
@@ -46,6 +52,9 @@ impl Field {
             Field::Role => "role",
             Field::Author => "author",
             Field::Head => "head",
+            Field::Commit => "commit",
+            Field::Label => "label",
+            Field::Approves => "approves",
         }
     }
 }
@@ -112,11 +121,27 @@ fn name_at(alloc: Global, field: Field, value: &Value) -> Result<Name, DeliveryF
     at_field(field, Name::read(alloc, text))
 }
 
-fn head_at(value: &Value) -> Result<Commit, DeliveryFault>
-    ensures { Reads result (deliveries.head_at (view value.now)) }
+fn commit_at(field: Field, value: &Value) -> Result<Commit, DeliveryFault>
+    ensures { Reads result (deliveries.commit_at field (view value.now)) }
 {
-    let text = text_at(Field::Head, value)?;
-    at_field(Field::Head, Commit::read(text))
+    let text = text_at(field, value)?;
+    at_field(field, Commit::read(text))
+}
+
+fn label_at(alloc: Global, value: &Value) -> Result<Label, DeliveryFault>
+    ensures { Reads result (deliveries.label_at (view value.now)) }
+{
+    let text = text_at(Field::Label, value)?;
+    at_field(Field::Label, Label::read(alloc, text))
+}
+
+fn approves_at(value: &Value) -> Result<bool, DeliveryFault>
+    ensures { Reads result (deliveries.approves_at (view value.now)) }
+{
+    match value.get(Field::Approves.name()).and_then(Value::as_bool) {
+        Some(approves) => Ok(approves),
+        None => Err(DeliveryFault::BadField(Field::Approves)),
+    }
 }
 
 fn change_at(value: &Value) -> Result<ChangeNo, DeliveryFault>
@@ -176,11 +201,64 @@ fn opened_in(alloc: Global, value: &Value) -> Result<Event, DeliveryFault>
 {
     let change = change_at(value)?;
     let author = name_at(alloc, Field::Author, value)?;
-    let head = head_at(value)?;
+    let head = commit_at(Field::Head, value)?;
     Ok(Event::Opened {
         change,
         author,
         head,
+    })
+}
+
+fn base_in(value: &Value) -> Result<Event, DeliveryFault>
+    ensures { Reads result (deliveries.base_in (view value.now)) }
+{
+    let commit = commit_at(Field::Commit, value)?;
+    Ok(Event::Base { commit })
+}
+
+fn pushed_in(value: &Value) -> Result<Event, DeliveryFault>
+    ensures { Reads result (deliveries.pushed_in (view value.now)) }
+{
+    let change = change_at(value)?;
+    let head = commit_at(Field::Head, value)?;
+    Ok(Event::Pushed { change, head })
+}
+
+fn closed_in(value: &Value) -> Result<Event, DeliveryFault>
+    ensures { Reads result (deliveries.closed_in (view value.now)) }
+{
+    let change = change_at(value)?;
+    Ok(Event::Closed { change })
+}
+
+fn labeled_in(alloc: Global, value: &Value) -> Result<Event, DeliveryFault>
+    ensures { Reads result (deliveries.labeled_in (view value.now)) }
+{
+    let change = change_at(value)?;
+    let label = label_at(alloc, value)?;
+    Ok(Event::Labeled { change, label })
+}
+
+fn unlabeled_in(alloc: Global, value: &Value) -> Result<Event, DeliveryFault>
+    ensures { Reads result (deliveries.unlabeled_in (view value.now)) }
+{
+    let change = change_at(value)?;
+    let label = label_at(alloc, value)?;
+    Ok(Event::Unlabeled { change, label })
+}
+
+fn review_in(alloc: Global, value: &Value) -> Result<Event, DeliveryFault>
+    ensures { Reads result (deliveries.review_in (view value.now)) }
+{
+    let change = change_at(value)?;
+    let person = name_at(alloc, Field::Person, value)?;
+    let head = commit_at(Field::Head, value)?;
+    let approves = approves_at(value)?;
+    Ok(Event::Review {
+        change,
+        person,
+        head,
+        approves,
     })
 }
 
@@ -191,7 +269,13 @@ fn event_called(alloc: Global, kind: &str, value: &Value) -> Result<Event, Deliv
         "comment" => comment_in(alloc, value),
         "role" => role_in(alloc, value),
         "settings" => settings_in(alloc, value),
+        "base" => base_in(value),
         "opened" => opened_in(alloc, value),
+        "pushed" => pushed_in(value),
+        "closed" => closed_in(value),
+        "labeled" => labeled_in(alloc, value),
+        "unlabeled" => unlabeled_in(alloc, value),
+        "review" => review_in(alloc, value),
         _ => Err(DeliveryFault::UnknownEvent),
     }
 }

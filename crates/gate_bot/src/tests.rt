@@ -3,13 +3,14 @@ mod failing;
 mod fakes;
 mod good_input;
 mod long_lines;
+mod rows;
 mod settings;
 mod story;
 mod texts;
 
 use crate::bench::Bench;
-use crate::fault::Fault;
 use crate::lines::{HookFault, serve_lines};
+use gate_queue::Fault;
 use std::alloc::Global;
 use std::process::Abort;
 use std::test::Fail;

@@ -1,10 +1,14 @@
 -- THE RULES. They are stated once, over what a `Look` shows, and read on the desk and on the history alike.
-use Rattle.std.specs.Prelude.{ℕ, Bool, true, false, ◌||◌, List, [], ◌∷◌, Option, Some, None, is_some}
+use Rattle.std.specs.Prelude.{ℕ, nat_lt, Bool, true, false, not, ◌&&◌, ◌||◌, ⊤, List, [], ◌∷◌, Option, Some, None, is_some}
+use Rattle.std.specs.FinSet as set
+use Rattle.std.specs.List.{find}
+use Rattle.std.specs.Option.{option_map, option_map_or, option_and_then}
 use Rattle.gate_text.specs.declared.command.Command.{Command}
 use Rattle.gate_text.specs.declared.command.Command.TheVariants.{Ping, Approve, ApproveFor, Withdraw, Priority, Try, TryCancel, DelegateAuthor, DelegateTo, DelegateNone, Retry}
 use Rattle.gate_text.specs.declared.command.Spoken.{Spoken}
-use Rattle.gate_text.specs.declared.command.Spoken.TheVariants.{Known}
+use Rattle.gate_text.specs.declared.command.Spoken.TheVariants.{Known, Unknown}
 use Rattle.gate_text.specs.Settings.{SettingsView}
+use Rattle.gate_rules.specs.declared.change.Change.{Change}
 use Rattle.gate_rules.specs.declared.change.Phase.{Phase}
 use Rattle.gate_rules.specs.declared.change.Phase.TheVariants.{Opened, Closed, Landed}
 use Rattle.gate_rules.specs.declared.change.Repeat.{Repeat}
@@ -14,23 +18,15 @@ use Rattle.gate_rules.specs.declared.role.Role.TheVariants as role
 use Rattle.gate_rules.specs.declared.role.Level.{Level}
 use Rattle.gate_rules.specs.declared.role.Level.TheVariants as level
 use Rattle.gate_rules.specs.declared.rule.Rule.{Rule}
-use Rattle.gate_rules.specs.declared.rule.Rule.TheVariants.{UnknownChange, NotACommand, NotPermitted, NotOpen, NoSettings, NoBase, NotApproved}
+use Rattle.gate_rules.specs.declared.rule.Rule.TheVariants.{UnknownChange, NotACommand, NotPermitted, NotOpen, NoSettings, NoBase, AlreadyApproved, NotApproved, Blocked, TooFewReviews}
 
--- WHAT THE RULES READ
--- of a change: nothing in any field, and no delegate, where the change was never opened
-pub record ChangeLook : Type 0 where
-  pub author : Option (List ℕ)
-  pub head : Option (List ℕ)
-  pub phase : Option Phase
-  pub delegate : List ℕ → Bool
-  pub approvers : Option (List (List ℕ))
-  pub last : Option Repeat
-
--- of the whole
+-- WHAT THE RULES READ: roles, the changes that were opened, the settings and the base, where there are any, and the clock
 pub record Look : Type 0 where
   pub role : List ℕ → Role
-  pub change : ℕ → ChangeLook
+  pub change : ℕ → Option Change
   pub settings : Option SettingsView
+  pub base : Option (List ℕ)
+  pub clock : ℕ
 
 -- LEVELS
 abbrev pub is_member : Role → Bool
@@ -70,36 +66,52 @@ need s change TryCancel = level.MemberOrDelegate
 need s change DelegateAuthor = level.Reviewer
 need s change (DelegateTo names) = level.Reviewer
 need s change DelegateNone = level.Reviewer
-need s change Retry = need_of_retry (s.change change).last
+need s change Retry = need_of_retry (option_and_then (λ c. c.last) (s.change change))
 
 abbrev pub is_delegate : Look → ℕ → List ℕ → Bool
-is_delegate s change person = (s.change change).delegate person
+is_delegate s change person = option_map_or (λ c. set.contains c.delegates person) (s.change change) false
 
 abbrev pub permits : Look → List ℕ → ℕ → Command → Bool
 permits s person change command = admits (need s change command) (s.role person) (is_delegate s change person)
 
 -- THE TESTS OF THE RULES
 abbrev pub is_known : Look → ℕ → Bool
-is_known s change = is_some ((s.change change).phase)
+is_known s change = is_some (s.change change)
 
-abbrev is_opened : Option Phase → Bool
-is_opened (Some Opened) = true
-is_opened (Some Closed) = false
-is_opened (Some Landed) = false
-is_opened None = false
+abbrev pub is_opened : Phase → Bool
+is_opened Opened = true
+is_opened Closed = false
+is_opened Landed = false
 
 abbrev pub is_open : Look → ℕ → Bool
-is_open s change = is_opened ((s.change change).phase)
+is_open s change = option_map_or (λ c. is_opened c.phase) (s.change change) false
 
 abbrev pub is_approved : Look → ℕ → Bool
-is_approved s change = is_some ((s.change change).approvers)
+is_approved s change = option_map_or (λ c. is_some c.approved) (s.change change) false
 
 abbrev pub has_settings : Look → Bool
 has_settings s = is_some s.settings
 
--- No base can be known yet: it is still to come.
 abbrev pub has_base : Look → Bool
-has_base s = false
+has_base s = is_some s.base
+
+-- the first of the blocking labels, in the order of the settings, that a change has
+abbrev pub blocking_label : SettingsView → Change → Option (List ℕ)
+blocking_label settings change = find (λ label. set.contains change.labels label) settings.block_labels
+
+abbrev pub is_blocked : SettingsView → Change → Bool
+is_blocked settings change = is_some (blocking_label settings change)
+
+abbrev pub count_reviews : Change → ℕ
+count_reviews change = set.len change.reviews
+
+abbrev pub has_too_few_reviews : SettingsView → Change → Bool
+has_too_few_reviews settings change = nat_lt (count_reviews change) settings.required_approvals
+
+-- A change is fit where it is open, settings exist, none of its labels is blocking, and it has reviews enough.
+abbrev pub is_fit : Option SettingsView → Change → Bool
+is_fit None change = false
+is_fit (Some settings) change = is_opened change.phase && (not (is_blocked settings change) && not (has_too_few_reviews settings change))
 
 -- THE ROWS
 -- the rule where its test fails, and nothing where it holds
@@ -107,28 +119,59 @@ abbrev pub unless : Bool → Rule → Option Rule
 unless true rule = None
 unless false rule = Some rule
 
--- what a person's line about a change is judged by, in order; a command whose rules are still to come counts as no command
-abbrev pub row : Look → List ℕ → ℕ → Spoken → List (Option Rule)
-row s person change (Known Ping) =
+-- the rule on the labels of a change, and the rule on its reviews
+abbrev pub unless_blocked : SettingsView → Change → Option Rule
+unless_blocked settings change = option_map Blocked (blocking_label settings change)
+
+abbrev pub unless_too_few : SettingsView → Change → Option Rule
+unless_too_few settings change = unless (not (has_too_few_reviews settings change)) (TooFewReviews (count_reviews change) settings.required_approvals)
+
+-- the same, where there are settings and the change is known
+abbrev pub of_both : (SettingsView → Change → Option Rule) → Option SettingsView → Option Change → Option Rule
+of_both rule (Some settings) (Some change) = rule settings change
+of_both rule (Some settings) None = None
+of_both rule None change = None
+
+-- the rules that all commands but `ping` begin with
+abbrev pub begins_with_rules : Look → List ℕ → ℕ → Command → List (Option Rule) → List (Option Rule)
+begins_with_rules s person change command others =
     unless (is_known s change) UnknownChange
-    ∷ []
-row s person change (Known Approve) =
-    unless (is_known s change) UnknownChange
-    ∷ unless (permits s person change Approve) (NotPermitted (need s change Approve))
+    ∷ unless (permits s person change command) (NotPermitted (need s change command))
     ∷ unless (is_open s change) NotOpen
-    ∷ unless (has_settings s) NoSettings
+    ∷ others
+
+-- the rules of an approval, behind these
+abbrev pub approval_rules : Look → ℕ → List (Option Rule)
+approval_rules s change =
+    unless (has_settings s) NoSettings
     ∷ unless (has_base s) NoBase
+    ∷ unless (not (is_approved s change)) AlreadyApproved
+    ∷ of_both unless_blocked s.settings (s.change change)
+    ∷ of_both unless_too_few s.settings (s.change change)
     ∷ []
-row s person change (Known Withdraw) =
-    unless (is_known s change) UnknownChange
-    ∷ unless (permits s person change Withdraw) (NotPermitted (need s change Withdraw))
-    ∷ unless (is_open s change) NotOpen
-    ∷ unless (is_approved s change) NotApproved
-    ∷ []
-row s person change _ =
-    unless (is_known s change) UnknownChange
-    ∷ Some NotACommand
-    ∷ []
+
+-- the rules of a line that is no command
+abbrev pub no_command : Look → ℕ → List (Option Rule)
+no_command s change = unless (is_known s change) UnknownChange ∷ Some NotACommand ∷ []
+
+-- what a command on a change is judged by, in order; a command whose rules are still to come counts as no command
+abbrev pub command_row : Look → List ℕ → ℕ → Command → List (Option Rule)
+command_row s person change Ping = unless (is_known s change) UnknownChange ∷ []
+command_row s person change Approve = begins_with_rules s person change Approve (approval_rules s change)
+command_row s person change (ApproveFor names) = begins_with_rules s person change (ApproveFor names) (approval_rules s change)
+command_row s person change Withdraw = begins_with_rules s person change Withdraw (unless (is_approved s change) NotApproved ∷ [])
+command_row s person change (Priority priority) = begins_with_rules s person change (Priority priority) []
+command_row s person change DelegateAuthor = begins_with_rules s person change DelegateAuthor []
+command_row s person change (DelegateTo names) = begins_with_rules s person change (DelegateTo names) []
+command_row s person change DelegateNone = begins_with_rules s person change DelegateNone []
+command_row s person change Try = no_command s change
+command_row s person change TryCancel = no_command s change
+command_row s person change Retry = no_command s change
+
+-- what a person's line about a change is judged by
+abbrev pub row : Look → List ℕ → ℕ → Spoken → List (Option Rule)
+row s person change (Known command) = command_row s person change command
+row s person change Unknown = no_command s change
 
 -- the first rule that fails, if one does
 abbrev pub first_failing : List (Option Rule) → Option Rule
@@ -140,6 +183,7 @@ first_failing (None ∷ rules) = first_failing rules
 abbrev pub rule_of : Look → List ℕ → ℕ → Spoken → Option Rule
 rule_of s person change spoken = first_failing (row s person change spoken)
 
--- whether an answer of this rule copies what it names, for which memory may be wanting: no rule of today does
+-- whether an answer of this rule copies what it names, for which memory may be wanting
 abbrev pub MayWantMemory : Option Rule → Type 0
-MayWantMemory rule = ⊥
+MayWantMemory (Some (Blocked label)) = ⊤
+MayWantMemory _ = ⊥

@@ -1,25 +1,27 @@
 -- THE DESK as finite maps, what each setter does to it, and how the rules see it.
-use Rattle.std.specs.Prelude.{ℕ, false, List, Option, Some, None, if◌then◌else◌}
+use Rattle.std.specs.Prelude.{ℕ, Bool, ◌&&◌, ◌||◌, List, [], ◌∷◌, Option, Some, None, is_some, if◌then◌else◌}
 use Rattle.std.specs.Ordering.{nat_cmp}
 use Rattle.std.specs.Cmp.Lexicographic.{slice_cmp}
 use Rattle.std.specs.FinMap as map
 use Rattle.std.specs.FinMap.{FinMap}
-use Rattle.std.specs.FinSet as set
-use Rattle.std.specs.Option.{unwrap_or, option_map, option_map_or, option_and_then}
+use Rattle.std.specs.Option.{unwrap_or}
 use Rattle.gate_text.specs.Settings.{SettingsView}
 use Rattle.gate_rules.specs.declared.change.Change.{Change}
 use Rattle.gate_rules.specs.declared.role.Role.{Role}
 use Rattle.gate_rules.specs.declared.role.Role.TheVariants.{Nobody}
-use Rattle.gate_rules.specs.Rules.{Look, ChangeLook, is_member}
+use Rattle.gate_text.specs.Finite.{mapped_values}
+use Rattle.gate_rules.specs.Rules.{Look, is_member, is_blocked, has_too_few_reviews}
 
 -- A role `Nobody` is no entry.
 pub record DeskView : Type 0 where
   pub roles : FinMap (slice_cmp nat_cmp) Role
   pub changes : FinMap nat_cmp Change
   pub settings : Option SettingsView
+  pub base : Option (List ℕ)
+  pub clock : ℕ
 
 abbrev pub empty_desk : DeskView
-empty_desk = record { roles = map.empty; changes = map.empty; settings = None }
+empty_desk = record { roles = map.empty; changes = map.empty; settings = None; base = None; clock = 0 }
 
 abbrev pub role_on : DeskView → List ℕ → Role
 role_on desk person = unwrap_or (map.get desk.roles person) Nobody
@@ -37,16 +39,37 @@ with_change desk number change = record desk { changes = map.insert desk.changes
 abbrev pub with_settings : DeskView → SettingsView → DeskView
 with_settings desk settings = record desk { settings = Some settings }
 
--- what the rules read of a change, if there is one
-abbrev pub change_look : Option Change → ChangeLook
-change_look change = record {
-  author = option_map (λ c. c.author) change;
-  head = option_map (λ c. c.head) change;
-  phase = option_map (λ c. c.phase) change;
-  delegate = λ person. option_map_or (λ c. set.contains c.delegates person) change false;
-  approvers = option_and_then (λ c. c.approved) change;
-  last = option_and_then (λ c. c.last) change;
-}
+abbrev pub with_base : DeskView → List ℕ → DeskView
+with_base desk base = record desk { base = Some base }
 
+abbrev pub with_clock : DeskView → ℕ → DeskView
+with_clock desk now = record desk { clock = now }
+
+-- APPROVALS THAT NEW SETTINGS END: those of changes with a blocking label or too few reviews
+abbrev pub loses_approval : SettingsView → Change → Bool
+loses_approval settings change = is_some change.approved && (is_blocked settings change || has_too_few_reviews settings change)
+
+abbrev pub without_approval : Change → Change
+without_approval change = record change { approved = None }
+
+abbrev pub settled : SettingsView → Change → Change
+settled settings change = if loses_approval settings change then without_approval change else change
+
+-- the numbers of these changes, upwards
+abbrev pub losing : SettingsView → List (ℕ × Change) → List ℕ
+losing settings [] = []
+losing settings (entry ∷ entries) = if loses_approval settings entry.1 then entry.0 ∷ losing settings entries else losing settings entries
+
+abbrev pub losing_on : DeskView → SettingsView → List ℕ
+losing_on desk settings = losing settings (map.entries desk.changes)
+
+-- each change without such an approval
+abbrev pub settled_changes : SettingsView → FinMap nat_cmp Change → FinMap nat_cmp Change
+settled_changes settings changes = mapped_values (settled settings) changes
+
+abbrev pub with_settled : DeskView → SettingsView → DeskView
+with_settled desk settings = record desk { changes = settled_changes settings desk.changes }
+
+-- WHAT THE RULES READ of it
 abbrev pub look : DeskView → Look
-look desk = record { role = role_on desk; change = λ number. change_look (map.get desk.changes number); settings = desk.settings }
+look desk = record { role = role_on desk; change = λ number. map.get desk.changes number; settings = desk.settings; base = desk.base; clock = desk.clock }

@@ -1,6 +1,6 @@
 ghost use Rattle.std.specs.Prelude.{◌≡◌, IfOk};
 
-use gate_text::{Commit, Name, NameSet, Names};
+use gate_text::{Commit, LabelSet, Name, NameSet, Names};
 use std::alloc::{AllocError, Global};
 
 /// How far a change (a pull request) has come.
@@ -47,6 +47,12 @@ pub struct Change {
     pub head: Commit,
     /// How far it has come.
     pub phase: Phase,
+    /// Changes of a greater priority are tested first: -9,999 to 9,999.
+    pub priority: i32,
+    /// Its labels.
+    pub labels: LabelSet,
+    /// Who has approved of it in a review of its head.
+    pub reviews: NameSet,
     /// Who may approve and try it besides those whose role lets them.
     pub delegates: NameSet,
     /// The approvers, where the change is approved.
@@ -72,6 +78,9 @@ impl Change {
             author: self.author.copy(alloc)?,
             head: self.head,
             phase: self.phase,
+            priority: self.priority,
+            labels: self.labels.copy(alloc)?,
+            reviews: self.reviews.copy(alloc)?,
             delegates: self.delegates.copy(alloc)?,
             approved,
             last,

@@ -1,25 +1,33 @@
-ghost use Rattle.std.specs.Prelude.{◌≡◌, IfOk, IfErr, IsOk, OnOk, OnErr, IsTrue};
+ghost use Rattle.std.specs.Prelude.{◌≡◌, ◌≤◌, IfOk, IsOk, OnOk, OnErr};
 ghost use Rattle.std.specs.Option.{option_copied};
 ghost use Rattle.std.specs.FinMap as map;
+ghost use Rattle.std.specs.List.Sorted.{IsStrictlySortedBy};
+ghost use Rattle.std.specs.Map.{keys_of};
+ghost use Rattle.std.specs.Ordering.{nat_cmp};
 ghost use Rattle.gate_rules.specs.Rules as rules;
-ghost use Rattle.gate_rules.specs.View.{empty_desk, with_role, with_change, with_settings, role_on, look};
+ghost use Rattle.gate_rules.specs.View as view;
+ghost use Rattle.gate_rules.specs.View.{empty_desk, with_role, with_change, with_settings, with_base, with_clock, with_settled, losing_on, role_on, look};
 ghost use Rattle.gate_rules.specs.declared.role.Role.TheVariants.{Nobody};
 
-use crate::change::{Change, Phase, Repeat};
+mod rows;
+
+use crate::change::{Change, Repeat};
+use crate::fitness::loses_approval;
 use crate::role::{Level, Role};
-use crate::rule::Rule;
-use gate_text::{ChangeNo, Command, Name, Settings, Spoken};
+use gate_text::{ChangeNo, Command, Commit, Name, Settings};
 use std::alloc::{AllocError, Global};
 use std::collections::BTreeMap;
 use std::marker::Model;
 
-/// What the rules look at: the roles of people, the changes, and the settings. A contract sees it as a record of two
-/// finite maps and the settings, if there are any.
+/// What the rules look at: the roles of people, the changes, the settings, the base and the clock. A contract sees it
+/// as a record of two finite maps and these three.
 #[derive(Drop)]
 pub struct Desk {
     roles: BTreeMap<Name, Role>,
     changes: BTreeMap<ChangeNo, Change>,
     settings: Option<Settings>,
+    base: Option<Commit>,
+    clock: u64,
 }
 
 impl Model for Desk {
@@ -32,11 +40,11 @@ impl Model for Desk {
 
     ghost coded = { Prim.hlevel (codes, finite_codes) };
 
-    ghost view = { λ desk. record { roles = map.from_entries desk.roles.entries; changes = map.from_entries desk.changes.entries; settings = desk.settings } };
+    ghost view = { λ desk. record { roles = map.from_entries desk.roles.entries; changes = map.from_entries desk.changes.entries; settings = desk.settings; base = desk.base; clock = desk.clock } };
 }
 
 impl Desk {
-    /// A desk with no roles, no changes and no settings. It takes no memory; its maps keep the allocator.
+    /// A desk with no roles, no changes, no settings and no base, its clock at 0. It takes no memory; its maps keep the allocator.
     pub fn new(alloc: Global) -> Desk
         ensures value { result ≡ empty_desk }
     {
@@ -44,6 +52,8 @@ impl Desk {
             roles: BTreeMap::new(alloc),
             changes: BTreeMap::new(alloc),
             settings: None,
+            base: None,
+            clock: 0,
         }
     }
 
@@ -66,6 +76,20 @@ impl Desk {
         ensures value { option_copied result ≡ self.now.settings }
     {
         self.settings.as_ref()
+    }
+
+    /// The base that was set last, if one was: the commit that the main branch stands at.
+    pub fn base(&self) -> Option<Commit>
+        ensures value { result ≡ self.now.base }
+    {
+        self.base
+    }
+
+    /// The clock: the last reading, in seconds.
+    pub fn clock(&self) -> u64
+        ensures value { result ≡ self.now.clock }
+    {
+        self.clock
     }
 
     /// Sets the role of a person. Where there is no memory for it, the desk stays as it was; to set `Nobody` takes none.
@@ -93,8 +117,7 @@ impl Desk {
         ensures ok { OnOk result (self.new ≡ with_change self.old number change.now) }
         ensures err { OnErr result (self.new ≡ self.old) }
     {
-        self.changes.insert(number, change.copy(alloc)?)?;
-        Ok(())
+        self.keep_change(number, change.copy(alloc)?)
     }
 
     /// Sets the settings, in place of those that there were. It takes no memory.
@@ -102,6 +125,51 @@ impl Desk {
         ensures value { self.new ≡ with_settings self.old settings }
     {
         self.settings = Some(settings);
+    }
+
+    /// Sets the base. It takes no memory.
+    pub fn set_base(&mut self, base: Commit)
+        ensures value { self.new ≡ with_base self.old base }
+    {
+        self.base = Some(base);
+    }
+
+    /// Sets the clock, in seconds, up to 9,000,000,000,000,000; it doesn't go back. It takes no memory.
+    pub fn set_clock(&mut self, now: u64)
+        requires { self.old.clock ≤ now }
+        ensures value { self.new ≡ with_clock self.old now }
+    {
+        self.clock = now;
+    }
+
+    /// Puts the change on the desk, in place of the one that has the number, if there is one. Where there is no memory for
+    /// it, the desk stays as it was.
+    pub fn keep_change(&mut self, number: ChangeNo, change: Change) -> Result<(), AllocError>
+        ensures ok { OnOk result (self.new ≡ with_change self.old number change) }
+        ensures err { OnErr result (self.new ≡ self.old) }
+    {
+        self.changes.insert(number, change)?;
+        Ok(())
+    }
+
+    /// The approved changes that have, under these settings, a blocking label or too few reviews, by number upwards, or
+    /// `AllocError` where there is no memory for the list.
+    pub fn losing(&self, alloc: Global, settings: &Settings) -> Result<Vec<ChangeNo>, AllocError>
+        ensures value { IfOk result (λ numbers. numbers.items ≡ losing_on self.now settings.now) }
+    {
+        let numbers = losing_of(alloc, &self.changes, settings)?;
+        Ok(numbers)
+    }
+
+    /// Ends the approval of each change that has, under these settings, a blocking label or too few reviews. Nothing else
+    /// changes. It takes no memory.
+    pub fn end_losing(&mut self, settings: &Settings)
+        ensures value { self.new ≡ with_settled self.old settings.now }
+    {
+        self.changes.retain(|_, change| {
+            settle(change, settings);
+            true
+        });
     }
 
     /// The level that a command on this change needs: for `retry` that of the command which it would repeat, and `Member`
@@ -151,105 +219,31 @@ impl Desk {
         let level = self.need(change, command);
         level.admits(self.role(person), self.is_delegate(person, change))
     }
+}
 
-    /// Whether the change of this number is on the desk and open.
-    pub fn is_open(&self, change: ChangeNo) -> bool
-        ensures value { result ≡ rules.is_open (look self.now) change }
-    {
-        match self.change(change) {
-            Some(change) => change.phase == Phase::Opened,
-            None => false,
+// Ends the approval of a change that has, under these settings, a blocking label or too few reviews.
+fn settle(change: &mut Change, settings: &Settings)
+    ensures { change.new ≡ view.settled settings.now change.old }
+{
+    if loses_approval(settings, change) {
+        change.approved = None;
+    }
+}
+
+// The numbers of the changes whose approval would end.
+fn losing_of(
+    alloc: Global,
+    changes: &BTreeMap<ChangeNo, Change>,
+    settings: &Settings,
+) -> Result<Vec<ChangeNo>, AllocError>
+    ensures value { IfOk result (λ numbers. numbers.items ≡ view.losing settings.now changes.now.entries) }
+    ensures ordered { OnOk result (IsStrictlySortedBy nat_cmp (keys_of changes.now.entries)) }
+{
+    let mut numbers = Vec::new(alloc);
+    for (number, change) in changes {
+        if loses_approval(settings, change) {
+            numbers.push(*number)?;
         }
     }
-
-    fn is_known(&self, change: ChangeNo) -> bool
-        ensures { result ≡ rules.is_known (look self.now) change }
-    {
-        self.change(change).is_some()
-    }
-
-    fn is_approved(&self, change: ChangeNo) -> bool
-        ensures { result ≡ rules.is_approved (look self.now) change }
-    {
-        match self.change(change) {
-            Some(change) => change.approved.is_some(),
-            None => false,
-        }
-    }
-
-    // The rule on the person's level, where it fails.
-    fn not_permitted(&self, person: &Name, change: ChangeNo, command: &Command) -> Option<Rule>
-        ensures { result ≡ rules.unless (rules.permits (look self.now) person.now change command.now) (Rule.NotPermitted (rules.need (look self.now) change command.now)) }
-    {
-        if self.permits(person, change, command) {
-            return None;
-        }
-        Some(Rule::NotPermitted(self.need(change, command)))
-    }
-
-    // The first rule that fails, if one does.
-    fn rule_of(&self, person: &Name, change: ChangeNo, spoken: &Spoken) -> Option<Rule>
-        ensures { result ≡ rules.rule_of (look self.now) person.now change spoken.now }
-    {
-        if !self.is_known(change) {
-            return Some(Rule::UnknownChange);
-        }
-        match spoken {
-            Spoken::Known(Command::Ping) => None,
-            Spoken::Known(Command::Approve) => self.approve_rule(person, change),
-            Spoken::Known(Command::Withdraw) => self.withdraw_rule(person, change),
-            // The rules of the other commands are still to come.
-            Spoken::Known(_) | Spoken::Unknown => Some(Rule::NotACommand),
-        }
-    }
-
-    // The first rule that fails of an approval of a known change.
-    fn approve_rule(&self, person: &Name, change: ChangeNo) -> Option<Rule>
-        requires { IsTrue (rules.is_known (look self.now) change) }
-        ensures { result ≡ rules.rule_of (look self.now) person.now change (Spoken.Known Command.Approve) }
-    {
-        if let Some(rule) = self.not_permitted(person, change, &Command::Approve) {
-            return Some(rule);
-        }
-        if !self.is_open(change) {
-            return Some(Rule::NotOpen);
-        }
-        if self.settings.is_none() {
-            return Some(Rule::NoSettings);
-        }
-        // The base is still to come.
-        Some(Rule::NoBase)
-    }
-
-    // The first rule that fails of the withdrawal of an approval of a known change.
-    fn withdraw_rule(&self, person: &Name, change: ChangeNo) -> Option<Rule>
-        requires { IsTrue (rules.is_known (look self.now) change) }
-        ensures { result ≡ rules.rule_of (look self.now) person.now change (Spoken.Known Command.Withdraw) }
-    {
-        if let Some(rule) = self.not_permitted(person, change, &Command::Withdraw) {
-            return Some(rule);
-        }
-        if !self.is_open(change) {
-            return Some(Rule::NotOpen);
-        }
-        if !self.is_approved(change) {
-            return Some(Rule::NotApproved);
-        }
-        None
-    }
-
-    /// The rule that denies what a person's line about a change says: the first of its rules that fails, and nothing
-    /// where all hold. `AllocError` is for rules still to come, which copy what they name; none of today's does.
-    pub fn rule(
-        &self,
-        alloc: Global,
-        person: &Name,
-        change: ChangeNo,
-        spoken: &Spoken,
-    ) -> Result<Option<Rule>, AllocError>
-        ensures value { IfOk result (λ rule. rule ≡ rules.rule_of (look self.now) person.now change spoken.now) }
-        ensures cause { IfErr result (λ _. rules.MayWantMemory (rules.rule_of (look self.now) person.now change spoken.now)) }
-    {
-        Ok(self.rule_of(person, change, spoken))
-    }
+    Ok(numbers)
 }

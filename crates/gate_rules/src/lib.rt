@@ -3,6 +3,7 @@
 
 mod change;
 mod desk;
+mod fitness;
 mod role;
 mod rule;
 #[cfg(test)]
@@ -10,5 +11,6 @@ mod tests;
 
 pub use change::{Change, Phase, Repeat};
 pub use desk::Desk;
+pub use fitness::{blocking_label, has_too_few_reviews, is_blocked};
 pub use role::{Level, Role};
 pub use rule::Rule;

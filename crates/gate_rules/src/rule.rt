@@ -2,6 +2,7 @@ ghost use Rattle.std.specs.Prelude.{◌≡◌};
 ghost use Rattle.gate_rules.specs.Words.{number_of, word_of};
 
 use crate::role::Level;
+use gate_text::Label;
 
 /// A rule that an act has broken. Each act has a row of rules, and is answered the first of its row that fails.
 #[derive(Debug, Drop, PartialEq, Eq)]
@@ -18,12 +19,26 @@ pub enum Rule {
     NoSettings,
     /// No base is known yet, the commit that the main branch stands at.
     NoBase,
+    /// The change is approved already.
+    AlreadyApproved,
     /// The change isn't approved.
     NotApproved,
+    /// The change has this label, the first of those that the settings block.
+    Blocked(Label),
+    /// The change has fewer reviews, the first number, than the settings ask for, the second, which is 1 to 100.
+    TooFewReviews(u32, u32),
     /// The change is open already.
     AlreadyOpen,
+    /// The review is of another commit than the change's head.
+    StaleHead,
+    /// The person who reviews has no role.
+    NotMember,
+    /// The person who reviews is the author of the change.
+    OwnChange,
     /// The text is refused as settings, under this number of `SettingsFault`: 1 to 3.
     BadSettings(u8),
+    /// The commit is the present base.
+    SameAsBase,
 }
 
 impl Rule {
@@ -38,9 +53,15 @@ impl Rule {
             Rule::NotOpen => 4,
             Rule::NoSettings => 7,
             Rule::NoBase => 8,
-            Rule::NotApproved => 9,
+            Rule::AlreadyApproved | Rule::NotApproved => 9,
+            Rule::Blocked(_) => 10,
+            Rule::TooFewReviews(..) => 11,
             Rule::AlreadyOpen => 12,
+            Rule::StaleHead => 14,
+            Rule::NotMember => 15,
+            Rule::OwnChange => 16,
             Rule::BadSettings(_) => 17,
+            Rule::SameAsBase => 20,
         }
     }
 
@@ -55,9 +76,16 @@ impl Rule {
             Rule::NotOpen => "NotOpen",
             Rule::NoSettings => "NoSettings",
             Rule::NoBase => "NoBase",
+            Rule::AlreadyApproved => "AlreadyApproved",
             Rule::NotApproved => "NotApproved",
+            Rule::Blocked(_) => "Blocked",
+            Rule::TooFewReviews(..) => "TooFewReviews",
             Rule::AlreadyOpen => "AlreadyOpen",
+            Rule::StaleHead => "StaleHead",
+            Rule::NotMember => "NotMember",
+            Rule::OwnChange => "OwnChange",
             Rule::BadSettings(_) => "BadSettings",
+            Rule::SameAsBase => "SameAsBase",
         }
     }
 }

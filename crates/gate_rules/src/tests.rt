@@ -1,8 +1,12 @@
 mod levels;
+mod losing;
+mod rows;
 mod settings;
 
 use crate::{Change, Desk, Level, Phase, Role, Rule};
-use gate_text::{ChangeNo, Command, Commit, Name, NameSet, Names, Spoken, read_comment};
+use gate_text::{
+    ChangeNo, Command, Commit, Label, LabelSet, Name, NameSet, Names, Spoken, read_comment,
+};
 use std::alloc::Global;
 use std::test::Fail;
 
@@ -19,6 +23,9 @@ fn change(alloc: Global, phase: Phase, is_approved: bool) -> Result<Change, Fail
         author: Name::read(alloc, "carol")?,
         head: Commit::read(HEAD)?,
         phase,
+        priority: 0,
+        labels: LabelSet::new(alloc),
+        reviews: NameSet::new(alloc),
         delegates: NameSet::new(alloc),
         approved,
         last: None,
@@ -30,26 +37,15 @@ fn desk(alloc: Global) -> Result<Desk, Fail> {
     let mut desk = Desk::new(alloc);
     desk.set_role(alloc, &Name::read(alloc, "alice")?, Role::Reviewer)?;
     desk.set_role(alloc, &Name::read(alloc, "mia")?, Role::Member)?;
-    desk.put_change(
-        alloc,
-        ChangeNo::read("1")?,
-        &change(alloc, Phase::Opened, false)?,
-    )?;
-    desk.put_change(
-        alloc,
-        ChangeNo::read("2")?,
-        &change(alloc, Phase::Opened, true)?,
-    )?;
-    desk.put_change(
-        alloc,
-        ChangeNo::read("3")?,
-        &change(alloc, Phase::Closed, false)?,
-    )?;
-    desk.put_change(
-        alloc,
-        ChangeNo::read("4")?,
-        &change(alloc, Phase::Landed, false)?,
-    )?;
+    for (number, phase, is_approved) in [
+        ("1", Phase::Opened, false),
+        ("2", Phase::Opened, true),
+        ("3", Phase::Closed, false),
+        ("4", Phase::Landed, false),
+    ] {
+        let change = change(alloc, phase, is_approved)?;
+        desk.put_change(alloc, ChangeNo::read(number)?, &change)?;
+    }
     Ok(desk)
 }
 
@@ -74,6 +70,7 @@ fn the_first_rule_that_fails(rt: HostRuntime) -> Result<(), Fail> {
     for (person, number, line, rule) in [
         ("eve", "1", "bors ping", 0),
         ("eve", "4", "bors ping", 0),
+        ("eve", "9", "bors ping", 1),
         ("alice", "9", "bors ping", 1),
         ("alice", "9", "bors hello", 1),
         ("eve", "1", "bors hello", 2),
@@ -104,7 +101,10 @@ fn the_level_that_is_named(rt: HostRuntime) -> Result<(), Fail> {
 }
 
 #[test]
-fn numbers_and_words(rt: HostRuntime) {
+fn numbers_and_words(rt: HostRuntime) -> Result<(), Fail> {
+    let hold = Rule::Blocked(Label::read(rt.alloc(), "hold")?);
+    assert_eq!(rt; hold.number(), 10);
+    assert_eq!(rt; hold.word(), "Blocked");
     for (rule, number, word) in [
         (Rule::UnknownChange, 1, "UnknownChange"),
         (Rule::NotACommand, 2, "NotACommand"),
@@ -112,13 +112,20 @@ fn numbers_and_words(rt: HostRuntime) {
         (Rule::NotOpen, 4, "NotOpen"),
         (Rule::NoSettings, 7, "NoSettings"),
         (Rule::NoBase, 8, "NoBase"),
+        (Rule::AlreadyApproved, 9, "AlreadyApproved"),
         (Rule::NotApproved, 9, "NotApproved"),
+        (Rule::TooFewReviews(1, 2), 11, "TooFewReviews"),
         (Rule::AlreadyOpen, 12, "AlreadyOpen"),
+        (Rule::StaleHead, 14, "StaleHead"),
+        (Rule::NotMember, 15, "NotMember"),
+        (Rule::OwnChange, 16, "OwnChange"),
         (Rule::BadSettings(2), 17, "BadSettings"),
+        (Rule::SameAsBase, 20, "SameAsBase"),
     ] {
         assert_eq!(rt; rule.number(), number);
         assert_eq!(rt; rule.word(), word);
     }
+    Ok(())
 }
 
 #[test]

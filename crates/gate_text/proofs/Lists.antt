@@ -56,7 +56,7 @@ pub same_either_way : (name : List ℕ) (names : List (List ℕ)) → list_any (
 same_either_way name [] = refl
 same_either_way name (other ∷ names) = λ i. nat_list_eq_equiv.symm name other i || same_either_way name names i
 
-known_by_order : (name : List ℕ) (names : List (List ℕ)) → list_any (eq_by_cmp (slice_cmp nat_cmp) name) names ≡ list_any (bytes_eq name) names
+pub known_by_order : (name : List ℕ) (names : List (List ℕ)) → list_any (eq_by_cmp (slice_cmp nat_cmp) name) names ≡ list_any (bytes_eq name) names
 known_by_order name [] = refl
 known_by_order name (other ∷ names) = λ i. is_eq-slice_cmp name other i || known_by_order name names i
 

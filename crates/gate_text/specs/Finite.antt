@@ -1,7 +1,8 @@
 -- Maps and sets of the code as finite maps and sets: what the clauses of `BTreeMap` and `BTreeSet` say in the words of
 -- `FinMap` and `FinSet`. For proofs of this crate and of those above it.
-use Rattle.std.specs.Prelude.{◌≡◌, Bool, true, false, cond, ◌&&◌, ◌||◌, List, [], ◌∷◌, Option, Some, None}
-use Rattle.std.proofs.Common.{refl, sym, ◌∙◌, ap}
+use Rattle.std.specs.Prelude.{map as list_map, ◌≡◌, ℕ, ◌+◌, Bool, true, false, cond, not, ◌&&◌, ◌||◌, List, [], ◌∷◌, length, Option, Some, None}
+use Rattle.std.proofs.Common.{refl, sym, ◌∙◌, ap, add-one, Less}
+use Rattle.std.specs.List.Sorted.{IsStrictlySortedBy}
 use Rattle.std.specs.Ordering.{eq_by_cmp, is_eq, nat_cmp}
 use Rattle.std.specs.declared.cmp.Ordering.{Ordering}
 use Rattle.std.specs.BTreeMap as tree
@@ -15,8 +16,11 @@ use Rattle.std.specs.FinSet as set
 use Rattle.std.specs.FinSet.{slice_cmp-IsAntisymmetric, nat_cmp-IsAntisymmetric}
 use Rattle.std.specs.BTreeSet as tree_set
 use Rattle.std.specs.BTreeSet.{BTreeSet}
-use Rattle.std.specs.List.{fold, list_any}
-use Rattle.std.specs.Map.{lookup}
+use Rattle.std.specs.List.{AllByRecursion, fold, list_any}
+use Rattle.std.proofs.lemmas.Float.{T_from_true}
+use Rattle.std.specs.FinMap.Entries.{below_all}
+use Rattle.std.specs.Map.{keys_of, lookup}
+use Rattle.std.specs.Option.{option_map}
 
 -- the codes of finite maps and sets, by which a record that has them as fields is a model's value
 pub ruleset finite_codes = (map.code, set.code)
@@ -47,10 +51,56 @@ module _ {K X : Type 0} {R : K → K → Ordering} (total : IsTotalOrder R) wher
       → from_entries {R = R} new.entries ≡ remove (from_entries old.entries) k
   removed same old new k updates = same_map total same _ _ (λ q. gets-updated old new k None updates q ∙ sym (get-remove total _ k q))
 
+-- a finite map with each value changed
+abbrev pub values_mapped : {K X Y : Type 0} → (X → Y) → List (K × X) → List (K × Y)
+values_mapped f es = list_map (λ e. (e.0, f e.1)) es
+
+abbrev pub mapped_values : {K X Y : Type 0} {R : K → K → Ordering} → (X → Y) → map.FinMap R X → map.FinMap R Y
+mapped_values f m = from_entries (values_mapped f (map.entries m))
+
+found_mapped : {X Y : Type 0} (f : X → Y) (b : Bool) (x : X) (rest : Option X) → cond b (Some (f x)) (option_map f rest) ≡ option_map f (cond b (Some x) rest)
+found_mapped f true x rest = refl
+found_mapped f false x rest = refl
+
+module _ {K X Y : Type 0} (R : K → K → Ordering) (f : X → Y) where
+  find-mapped : (q : K) (es : List (K × X)) → find R q (values_mapped f es) ≡ option_map f (find R q es)
+  find-mapped q [] = refl
+  find-mapped q (e ∷ es) = ap (λ (rest : Option Y). cond (eq_by_cmp R q e.0) (Some (f e.1)) rest) (find-mapped q es) ∙ found_mapped f (eq_by_cmp R q e.0) e.1 (find R q es)
+
+  pub get-mapped : IsTotalOrder R → (m : map.FinMap R X) (q : K) → get (mapped_values f m) q ≡ option_map f (get m q)
+  get-mapped total m q = get-from_entries total (values_mapped f (map.entries m)) q ∙ find-mapped q (map.entries m) ∙ ap (option_map f) (sym (map.get-entries m q))
+
+  -- a map of the code whose values were changed
+  pub mapped : IsTotalOrder R → IsAntisymmetric R → (es : List (K × X)) → from_entries {R = R} (values_mapped f es) ≡ mapped_values f (from_entries es)
+  mapped total same es = same_map total same _ _ (λ q.
+      get-from_entries total (values_mapped f es) q ∙ find-mapped q es ∙ ap (option_map f) (sym (get-from_entries total es q))
+      ∙ sym (get-mapped total (from_entries es) q))
+
+module _ {K X : Type 0} (R : K → K → Ordering) where
+  below_each : (k : K) (es : List (K × X)) → AllByRecursion (λ other. R k other ≡ Less) (keys_of es) → below_all R k es ≡ true
+  below_each k [] before = refl
+  below_each k (e ∷ es) before = rw before.0 (below_each k es before.1)
+
+  rises : (es : List (K × X)) → IsStrictlySortedBy R (keys_of es) → map.is_sorted R es ≡ true
+  unfolding IsStrictlySortedBy
+  rises [] sorted = refl
+  rises (e ∷ es) sorted = rw (below_each e.0 es sorted.0) (rises es sorted.1)
+
+  -- the entries of a map of the code are those of its finite map
+  pub entries-from_entries : IsTotalOrder R → IsAntisymmetric R → (es : List (K × X)) → IsStrictlySortedBy R (keys_of es) → map.entries (from_entries {R = R} es) ≡ es
+  entries-from_entries total same es sorted =
+      let rise = T_from_true _ (rises es sorted) in
+      ap map.entries (same_map total same (from_entries es) (map.from_sorted es) (λ q. get-from_entries total es q ∙ sym (map.get-from_sorted R es q rise)))
+      ∙ map.entries-from_sorted R es rise
+
 -- SETS
 true_or : (b c : Bool) → cond b true c ≡ (b || c)
 true_or true c = refl
 true_or false c = refl
+
+false_unless : (b c : Bool) → cond b false c ≡ (not b && c)
+false_unless true c = refl
+false_unless false c = refl
 
 -- whether two sets have the same keys
 abbrev pub is_same : {K : Type 0} {R : K → K → Ordering} → set.FinSet R → set.FinSet R → Bool
@@ -74,7 +124,31 @@ module _ {K : Type 0} {R : K → K → Ordering} (total : IsTotalOrder R) where
       ∙ ap (λ (b : Bool). eq_by_cmp R q k || b) (sym (contains-keys old q))
       ∙ sym (set.contains-insert total _ k q))
 
-  contains-each : (s : set.FinSet R) (ks : List K) (q : K) → set.contains (fold set.insert s ks) q ≡ (set.contains s q || list_any (eq_by_cmp R q) ks)
+  pub taken : IsAntisymmetric R → (old new : BTreeSet K) (k : K) → tree_set.Updates R old new k false
+      → set.from_list {R = R} new.keys ≡ set.remove (set.from_list old.keys) k
+  taken same old new k updates = set.same_set total same _ _ (λ q.
+      contains-keys new q ∙ updates.0 q ∙ false_unless (eq_by_cmp R k q) _
+      ∙ ap (λ (b : Bool). not b && tree_set.contains R old q) ((eq_by_cmp_equiv total).symm k q)
+      ∙ ap (λ (b : Bool). not (eq_by_cmp R q k) && b) (sym (contains-keys old q))
+      ∙ sym (set.contains-remove total _ k q))
+
+  none_before : (k : K) (ks : List K) → AllByRecursion (λ other. R k other ≡ Less) ks → list_any (eq_by_cmp R k) ks ≡ false
+  none_before k [] before = refl
+  none_before k (other ∷ ks) before = rw before.0 (none_before k ks before.1)
+
+  -- how many keys a set of the code has
+  len-sorted : (ks : List K) → IsStrictlySortedBy R ks → set.len (set.from_list {R = R} ks) ≡ length ks
+  unfolding IsStrictlySortedBy
+  len-sorted [] sorted = set.len-empty R
+  len-sorted (k ∷ ks) sorted =
+      set.len-insert total (set.from_list ks) k
+      ∙ ap (λ (b : Bool). cond b (set.len (set.from_list {R = R} ks)) (set.len (set.from_list {R = R} ks) + 1)) (set.contains-from_list total ks k ∙ none_before k ks sorted.0)
+      ∙ ap (λ (n : ℕ). n + 1) (len-sorted ks sorted.1) ∙ add-one (length ks)
+
+  pub len-keys : (s : BTreeSet K) → tree_set.IsOrdered R s → set.len (set.from_list {R = R} s.keys) ≡ tree_set.btree_set_len s
+  len-keys s ordered = len-sorted s.keys ordered
+
+  pub contains-each : (s : set.FinSet R) (ks : List K) (q : K) → set.contains (fold set.insert s ks) q ≡ (set.contains s q || list_any (eq_by_cmp R q) ks)
   contains-each s [] q = sym (or-false _)
   contains-each s (k ∷ ks) q =
       contains-each (set.insert s k) ks q
@@ -110,5 +184,5 @@ module _ {K : Type 0} {R : K → K → Ordering} (total : IsTotalOrder R) where
       (λ yes. set.contains-is_subset total _ _ (λ q in_s. contains-keys t q ∙ there yes q (sym (contains-keys s q) ∙ in_s)))
       (λ yes. back (λ q in_s. sym (contains-keys t q) ∙ set.is_subset-contains total _ _ yes q (contains-keys s q ∙ in_s)))
 
-pub is_same_names-equiv : IsEquivalence (is_same {R = slice_cmp nat_cmp})
-is_same_names-equiv = is_same-equiv nat_list_cmp_total (slice_cmp-IsAntisymmetric nat_cmp-IsAntisymmetric)
+pub is_same_words-equiv : IsEquivalence (is_same {R = slice_cmp nat_cmp})
+is_same_words-equiv = is_same-equiv nat_list_cmp_total (slice_cmp-IsAntisymmetric nat_cmp-IsAntisymmetric)

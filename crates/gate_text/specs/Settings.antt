@@ -1,8 +1,9 @@
 -- SETTINGS: what the text of a `bors.toml` says (TOML 1.1), or why it is refused.
-use Rattle.std.specs.Prelude.{◌≡◌, ℕ, pos, Bool, true, not, ◌&&◌, List, [], ◌∷◌, length, map, Option, Some, None, Result, Ok, Err, codes, if◌then◌else◌}
+use Rattle.std.specs.Prelude.{◌≡◌, ℕ, nat_eq, ◌==◌, pos, Bool, true, not, ◌&&◌, List, [], ◌∷◌, length, map, Option, Some, None, Result, Ok, Err, codes, if◌then◌else◌}
 use Rattle.std.specs.Int.{is_in_range}
 use Rattle.std.specs.List.{fold, list_any}
-use Rattle.std.specs.Option.{option_map, option_and_then, unwrap_or, ok_or}
+use Rattle.std.specs.Cmp.Lexicographic.{pointwise}
+use Rattle.std.specs.Option.{option_map, option_and_then, option_eq, unwrap_or, ok_or}
 use Rattle.std.specs.Result.{result_ok}
 use Rattle.std.specs.Str.{bytes_eq}
 use Rattle.toml.specs.Data.{Data, integer, array, Items, no_items, item, Members, as_str, get_member}
@@ -22,6 +23,15 @@ pub record SettingsView : Type 0 where
   pub block_labels : List (List ℕ)
   pub required_approvals : ℕ
   pub max_batch_size : Option ℕ
+
+-- whether all five values are equal, lists in their order
+abbrev pub same_settings : SettingsView → SettingsView → Bool
+same_settings one other =
+    pointwise (pointwise nat_eq) one.status other.status
+    && ((one.timeout_sec == other.timeout_sec)
+    && (pointwise (pointwise nat_eq) one.block_labels other.block_labels
+    && ((one.required_approvals == other.required_approvals)
+    && option_eq nat_eq one.max_batch_size other.max_batch_size)))
 
 -- VALUES
 -- a whole number from the least to the most

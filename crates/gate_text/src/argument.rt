@@ -6,8 +6,7 @@ ghost use Rattle.gate_text.specs.Arguments as arguments;
 
 use crate::fault::TextFault;
 use crate::name::Name;
-use crate::name_set::NameSet;
-use crate::names::Names;
+use crate::names::{NameSet, Names};
 use crate::spaces::trim;
 use std::alloc::{AllocError, Global};
 

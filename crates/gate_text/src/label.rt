@@ -4,7 +4,7 @@ ghost use Rattle.gate_text.specs.SmallTexts.{Reads, plain_of};
 use crate::fault::TextFault;
 use crate::list::TryCopy;
 use crate::plain::read_plain;
-use crate::text::Text;
+use crate::text::{Text, Word};
 use std::alloc::{AllocError, Global};
 use std::marker::Model;
 
@@ -56,5 +56,18 @@ impl Label {
 impl TryCopy for Label {
     fn try_copy(&self, alloc: Global) -> Result<Label, AllocError> {
         self.copy(alloc)
+    }
+}
+
+impl Word for Label {
+    ghost bytes = { λ label. label };
+
+    fn as_text(&self) -> &Text {
+        &self.text
+    }
+
+    fn into_text(self) -> Text {
+        let Label { text } = self;
+        text
     }
 }

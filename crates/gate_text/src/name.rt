@@ -8,7 +8,7 @@ ghost use Rattle.gate_text.specs.SmallTexts.{Reads, name_of, is_name_byte};
 use crate::checks::first_fault;
 use crate::fault::TextFault;
 use crate::list::TryCopy;
-use crate::text::Text;
+use crate::text::{Text, Word};
 use std::alloc::{AllocError, Global};
 use std::marker::Model;
 
@@ -103,5 +103,18 @@ impl Name {
 impl TryCopy for Name {
     fn try_copy(&self, alloc: Global) -> Result<Name, AllocError> {
         self.copy(alloc)
+    }
+}
+
+impl Word for Name {
+    ghost bytes = { λ name. name };
+
+    fn as_text(&self) -> &Text {
+        &self.text
+    }
+
+    fn into_text(self) -> Text {
+        let Name { text } = self;
+        text
     }
 }

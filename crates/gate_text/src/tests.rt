@@ -1,10 +1,9 @@
 mod bodies;
 mod comments;
+mod sets;
 mod settings;
 
-use crate::{
-    ChangeNo, Command, Commit, Context, DeliveryId, Label, Name, NameSet, Names, Text, TextFault,
-};
+use crate::{ChangeNo, Command, Commit, Context, DeliveryId, Label, Name, Names, Text, TextFault};
 use std::alloc::Global;
 use std::test::Fail;
 
@@ -194,33 +193,6 @@ fn lists_of_names(rt: HostRuntime) -> Result<(), Fail> {
     let given_back = copy.into_vec();
     assert_eq!(rt; given_back.len(), 2);
     assert_eq!(rt; given_back[0].text(), "zoe");
-    Ok(())
-}
-
-#[test]
-fn sets_of_names(rt: HostRuntime) -> Result<(), Fail> {
-    let zoe = Name::read(rt.alloc(), "zoe")?;
-    let al = Name::read(rt.alloc(), "al")?;
-    let mut names = NameSet::new(rt.alloc());
-    assert_eq!(rt; names.contains(&zoe), false);
-    names.insert(zoe.copy(rt.alloc())?)?;
-    let mut same = names.copy(rt.alloc())?;
-    // A name that is there already adds nothing.
-    same.insert(Name::read(rt.alloc(), "@Zoe")?)?;
-    assert_eq!(rt; same, names);
-    let mut more = names.copy(rt.alloc())?;
-    more.insert(al.copy(rt.alloc())?)?;
-    for (set, has_zoe, has_al, is_within_more) in [
-        (&NameSet::new(rt.alloc()), false, false, true),
-        (&names, true, false, true),
-        (&more, true, true, true),
-    ] {
-        assert_eq!(rt; set.contains(&zoe), has_zoe);
-        assert_eq!(rt; set.contains(&al), has_al);
-        assert_eq!(rt; set.is_subset(&more), is_within_more);
-    }
-    assert_eq!(rt; more.is_subset(&names), false);
-    assert!(rt; names != more);
     Ok(())
 }
 

@@ -96,3 +96,19 @@ impl Ord for Text {
         self.as_str().cmp(other.as_str())
     }
 }
+
+/// A text of some rule, as a name or a label.
+pub trait Word: Sized {
+    ghost use Rattle.std.specs.Prelude.{ℕ, List};
+
+    /// Its bytes.
+    ghost bytes: { Self → List ℕ };
+
+    /// The text of the word.
+    fn as_text(&self) -> &Text
+        ensures value { result.now ≡ bytes self.now };
+
+    /// The text of the word. It takes no memory.
+    fn into_text(self) -> Text
+        ensures value { result ≡ bytes self };
+}

@@ -1,11 +1,11 @@
-use crate::act::Act;
 use crate::delivery::{Delivery, Event, acts_of};
 use crate::reading::{DeliveryFault, Field, read_delivery};
-use crate::reply::Reply;
 use crate::writing::{answer_text, error_text};
+use gate_queue::{Act, Order, Orders, Reply, Why};
 use gate_rules::{Level, Role, Rule};
-use gate_text::{Command, Spoken};
+use gate_text::{ChangeNo, Command, Label, Spoken};
 use std::alloc::Global;
+use std::process::Abort;
 use std::test::Fail;
 
 const HEAD: &str = "0123456789abcdef0123456789abcdef01234567";
@@ -41,6 +41,9 @@ fn a_bad_field_is_told(rt: HostRuntime) -> Result<(), Fail> {
         (Field::Role, "role"),
         (Field::Author, "author"),
         (Field::Head, "head"),
+        (Field::Commit, "commit"),
+        (Field::Label, "label"),
+        (Field::Approves, "approves"),
     ] {
         assert_eq!(rt; field.name(), name);
         let written = error_text(rt.alloc(), &DeliveryFault::BadField(field))?;
@@ -50,45 +53,136 @@ fn a_bad_field_is_told(rt: HostRuntime) -> Result<(), Fail> {
     Ok(())
 }
 
+// The text of the answer that is this one reply.
+fn written(alloc: Global, reply: Reply) -> Result<String, Fail> {
+    Ok(answer_text(alloc, [reply].as_slice())?)
+}
+
+fn check_denial(rt: &impl Abort, alloc: Global, rule: Rule, text: &str) -> Result<(), Fail> {
+    let written = written(alloc, Reply::Denied(rule))?;
+    assert_eq!(rt; written.as_str(), text);
+    Ok(())
+}
+
 #[test]
-fn texts_of_single_replies(rt: HostRuntime) -> Result<(), Fail> {
-    for (reply, text) in [
-        (Reply::Done, r#"[{"orders":[],"verdict":"done"}]"#),
-        (
-            Reply::Denied(Rule::UnknownChange),
-            r#"[{"number":1,"rule":"UnknownChange","verdict":"denied"}]"#,
-        ),
-        (
-            Reply::Denied(Rule::NotACommand),
-            r#"[{"number":2,"rule":"NotACommand","verdict":"denied"}]"#,
-        ),
-        (
-            Reply::Denied(Rule::NotOpen),
-            r#"[{"number":4,"rule":"NotOpen","verdict":"denied"}]"#,
-        ),
-        (
-            Reply::Denied(Rule::NoSettings),
-            r#"[{"number":7,"rule":"NoSettings","verdict":"denied"}]"#,
-        ),
-        (
-            Reply::Denied(Rule::NoBase),
-            r#"[{"number":8,"rule":"NoBase","verdict":"denied"}]"#,
-        ),
-        (
-            Reply::Denied(Rule::NotApproved),
-            r#"[{"number":9,"rule":"NotApproved","verdict":"denied"}]"#,
-        ),
-        (
-            Reply::Denied(Rule::AlreadyOpen),
-            r#"[{"number":12,"rule":"AlreadyOpen","verdict":"denied"}]"#,
-        ),
-        (
-            Reply::Denied(Rule::BadSettings(255)),
-            r#"[{"detail":255,"number":17,"rule":"BadSettings","verdict":"denied"}]"#,
-        ),
+fn texts_of_denials(rt: HostRuntime) -> Result<(), Fail> {
+    let alloc = rt.alloc();
+    check_denial(
+        &rt,
+        alloc,
+        Rule::UnknownChange,
+        r#"[{"number":1,"rule":"UnknownChange","verdict":"denied"}]"#,
+    )?;
+    check_denial(
+        &rt,
+        alloc,
+        Rule::NotACommand,
+        r#"[{"number":2,"rule":"NotACommand","verdict":"denied"}]"#,
+    )?;
+    check_denial(
+        &rt,
+        alloc,
+        Rule::NotOpen,
+        r#"[{"number":4,"rule":"NotOpen","verdict":"denied"}]"#,
+    )?;
+    check_denial(
+        &rt,
+        alloc,
+        Rule::NoSettings,
+        r#"[{"number":7,"rule":"NoSettings","verdict":"denied"}]"#,
+    )?;
+    check_denial(
+        &rt,
+        alloc,
+        Rule::NoBase,
+        r#"[{"number":8,"rule":"NoBase","verdict":"denied"}]"#,
+    )?;
+    check_denial(
+        &rt,
+        alloc,
+        Rule::AlreadyApproved,
+        r#"[{"number":9,"rule":"AlreadyApproved","verdict":"denied"}]"#,
+    )?;
+    check_denial(
+        &rt,
+        alloc,
+        Rule::NotApproved,
+        r#"[{"number":9,"rule":"NotApproved","verdict":"denied"}]"#,
+    )?;
+    check_denial(
+        &rt,
+        alloc,
+        Rule::TooFewReviews(0, 1),
+        r#"[{"detail":[0,1],"number":11,"rule":"TooFewReviews","verdict":"denied"}]"#,
+    )?;
+    check_denial(
+        &rt,
+        alloc,
+        Rule::TooFewReviews(4294967294, 4294967295),
+        r#"[{"detail":[4294967294,4294967295],"number":11,"rule":"TooFewReviews","verdict":"denied"}]"#,
+    )?;
+    check_denial(
+        &rt,
+        alloc,
+        Rule::AlreadyOpen,
+        r#"[{"number":12,"rule":"AlreadyOpen","verdict":"denied"}]"#,
+    )?;
+    check_denial(
+        &rt,
+        alloc,
+        Rule::StaleHead,
+        r#"[{"number":14,"rule":"StaleHead","verdict":"denied"}]"#,
+    )?;
+    check_denial(
+        &rt,
+        alloc,
+        Rule::NotMember,
+        r#"[{"number":15,"rule":"NotMember","verdict":"denied"}]"#,
+    )?;
+    check_denial(
+        &rt,
+        alloc,
+        Rule::OwnChange,
+        r#"[{"number":16,"rule":"OwnChange","verdict":"denied"}]"#,
+    )?;
+    check_denial(
+        &rt,
+        alloc,
+        Rule::BadSettings(255),
+        r#"[{"detail":255,"number":17,"rule":"BadSettings","verdict":"denied"}]"#,
+    )?;
+    check_denial(
+        &rt,
+        alloc,
+        Rule::SameAsBase,
+        r#"[{"number":20,"rule":"SameAsBase","verdict":"denied"}]"#,
+    )?;
+    let label = Label::read(alloc, "hold it")?;
+    let text = r#"[{"detail":"hold it","number":10,"rule":"Blocked","verdict":"denied"}]"#;
+    check_denial(&rt, alloc, Rule::Blocked(label), text)
+}
+
+// The orders of a reply without any.
+fn done(alloc: Global) -> Reply {
+    Reply::Done(Orders::from(Vec::new(alloc)))
+}
+
+#[test]
+fn texts_of_notices(rt: HostRuntime) -> Result<(), Fail> {
+    for (why, word) in [
+        (Why::Pushed, "Pushed"),
+        (Why::Closed, "Closed"),
+        (Why::Labeled, "Labeled"),
+        (Why::Reviews, "Reviews"),
+        (Why::Settings, "Settings"),
     ] {
-        let written = answer_text(rt.alloc(), [reply].as_slice())?;
-        assert_eq!(rt; written.as_str(), text);
+        let change = ChangeNo::read("4294967295")?;
+        let orders = Orders::from(vec![in rt.alloc(); Order::Notice { change, why }]?);
+        let written = written(rt.alloc(), Reply::Done(orders))?;
+        let want = format!(in rt.alloc();
+            r#"[{{"orders":[{{"change":4294967295,"order":"notice","why":"{word}"}}],"verdict":"done"}}]"#
+        )?;
+        assert_eq!(rt; written.as_str(), want.as_str());
     }
     Ok(())
 }
@@ -118,7 +212,11 @@ fn a_missing_level_is_told(rt: HostRuntime) -> Result<(), Fail> {
 fn texts_of_many_replies(rt: HostRuntime) -> Result<(), Fail> {
     let none: [Reply; 0] = [];
     assert_eq!(rt; answer_text(rt.alloc(), none.as_slice())?.as_str(), "[]");
-    let replies = [Reply::Denied(Rule::NotOpen), Reply::Done, Reply::Done];
+    let replies = [
+        Reply::Denied(Rule::NotOpen),
+        done(rt.alloc()),
+        done(rt.alloc()),
+    ];
     let want =
         r#"[{"number":4,"rule":"NotOpen","verdict":"denied"},{"orders":[],"verdict":"done"},{"orders":[],"verdict":"done"}]"#;
     assert_eq!(rt; answer_text(rt.alloc(), replies.as_slice())?.as_str(), want);

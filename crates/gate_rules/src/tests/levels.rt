@@ -1,6 +1,6 @@
-use super::change;
-use crate::{Desk, Level, Phase, Repeat, Role, Rule};
-use gate_text::{ChangeNo, Command, Name, NameSet, Names, Spoken};
+use super::{change, denial};
+use crate::{Desk, Level, Phase, Repeat, Role};
+use gate_text::{ChangeNo, Command, Name, NameSet, Names};
 use std::alloc::Global;
 use std::test::Fail;
 
@@ -111,21 +111,10 @@ fn who_may_do_what(rt: HostRuntime) -> Result<(), Fail> {
 #[test]
 fn commands_that_are_still_to_come(rt: HostRuntime) -> Result<(), Fail> {
     let desk = desk(rt.alloc(), None)?;
-    let alice = Name::read(rt.alloc(), "alice")?;
-    for command in [
-        Command::ApproveFor(zoe(rt.alloc())?),
-        Command::Priority(5),
-        Command::Try,
-        Command::TryCancel,
-        Command::DelegateAuthor,
-        Command::DelegateTo(zoe(rt.alloc())?),
-        Command::DelegateNone,
-        Command::Retry,
-    ] {
-        let spoken = Spoken::Known(command);
-        for (number, rule) in [("1", Rule::NotACommand), ("9", Rule::UnknownChange)] {
-            let found = desk.rule(rt.alloc(), &alice, ChangeNo::read(number)?, &spoken)?;
-            assert_eq!(rt; found, Some(rule), "{spoken:?} on {number}");
+    for line in ["bors try", "bors try-", "bors retry"] {
+        for (number, rule) in [("1", 2), ("2", 2), ("9", 1)] {
+            let found = denial(rt.alloc(), &desk, "alice", number, line)?;
+            assert_eq!(rt; found, rule, "{line} on {number}");
         }
     }
     Ok(())

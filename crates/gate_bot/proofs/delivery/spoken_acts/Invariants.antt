@@ -1,7 +1,7 @@
 use Rattle.std.proofs.Common.{◌≡◌, ◌++◌, map}
 use Rattle.std.specs.Vec.Iter.{into_iter_items}
 use Rattle.gate_bot.specs.Acts.{spoken_acts_of}
-use Rattle.gate_bot.specs.declared.act.Act.TheVariants as act
+use Rattle.gate_queue.specs.declared.act.Act.TheVariants as act
 use Rattle.gate_bot.proofs.delivery.spoken_acts.Given as goal
 
 abbrev pub invariant-loop-spoken : goal.invariant-loop-spoken

@@ -1,9 +1,9 @@
 use Rattle.std.proofs.Common.{◌≡◌, ◌++◌, drop}
-use Rattle.gate_bot.specs.Machine.{replies_to, after_all}
+use Rattle.gate_bot.specs.Run.{replies_to, after_all}
 use Rattle.gate_bot.proofs.machine.step_all.Given as goal
 
 abbrev pub invariant-loop-act : goal.invariant-loop-act
 invariant-loop-act l = record {
-  told : l.replies.items ++ replies_to l.desk (drop l.act-index l.acts) ≡ replies_to l.fn.desk l.acts;
-  led : after_all l.desk (drop l.act-index l.acts) ≡ after_all l.fn.desk l.acts;
+  told : l.replies.items ++ replies_to l.gate (drop l.act-index l.acts) ≡ replies_to l.fn.gate l.acts;
+  led : after_all l.gate (drop l.act-index l.acts) ≡ after_all l.fn.gate l.acts;
 }

@@ -1,0 +1,58 @@
+-- The changes of a desk after one of them was altered.
+use Rattle.std.proofs.Common.{◌≡◌, ℕ, Bool, true, false, cond, List, Option, Some, None, eqb, refl, sym, ◌∙◌, ap}
+use Rattle.std.proofs.lemmas.Bool.Decides.{Decides-eqb}
+use Rattle.std.specs.Cmp.{nat_cmp_total, unsigned_ties}
+use Rattle.std.specs.FinMap as finite
+use Rattle.std.specs.FinMap.{get-insert}
+use Rattle.std.specs.Option.{option_map}
+use Rattle.gate_rules.specs.View.{DeskView, with_change, look}
+use Rattle.gate_rules.specs.declared.change.Change.{Change}
+use Rattle.gate_queue.specs.Machine.{with_altered, altered, opened}
+
+pub same_number : (c number : ℕ) → eqb c number ≡ true → c ≡ number
+same_number c number is = (Decides-eqb c number).0 is
+
+pub get-with_change : (desk : DeskView) (number : ℕ) (change : Change) (c : ℕ)
+    → finite.get (with_change desk number change).changes c ≡ cond (eqb c number) (Some change) (finite.get desk.changes c)
+get-with_change desk number change c =
+    get-insert nat_cmp_total desk.changes number change c ∙ ap (λ (b : Bool). cond b (Some change) (finite.get desk.changes c)) (sym (unsigned_ties c number))
+
+not_there : (alter : Change → Change) (b : Bool) (had : Option Change) → (b ≡ true → had ≡ None) → had ≡ cond b (option_map alter had) had
+not_there alter false had none = refl
+not_there alter true had none = rw (none refl) refl
+
+there : (alter : Change → Change) (change : Change) (b : Bool) (had : Option Change) → (b ≡ true → had ≡ Some change) → cond b (Some (alter change)) had ≡ cond b (option_map alter had) had
+there alter change false had some = refl
+there alter change true had some = rw (some refl) refl
+
+altered_at : (desk : DeskView) (number : ℕ) (alter : Change → Change) (had : Option Change) → finite.get desk.changes number ≡ had → (c : ℕ)
+    → finite.get (with_altered desk number (option_map alter had)).changes c ≡ cond (eqb c number) (option_map alter (finite.get desk.changes c)) (finite.get desk.changes c)
+altered_at desk number alter None is c =
+    not_there alter (eqb c number) (finite.get desk.changes c) (λ same. ap (finite.get desk.changes) (same_number c number same) ∙ is)
+altered_at desk number alter (Some change) is c =
+    get-with_change desk number (alter change) c
+    ∙ there alter change (eqb c number) (finite.get desk.changes c) (λ same. ap (finite.get desk.changes) (same_number c number same) ∙ is)
+
+-- what the rules read where a change was altered
+look_altered : (desk : DeskView) (number : ℕ) (alter : Change → Change) (had : Option Change) → finite.get desk.changes number ≡ had
+    → look (with_altered desk number (option_map alter had))
+    ≡ record (look desk) { change = λ c. cond (eqb c number) (option_map alter ((look desk).change c)) ((look desk).change c) }
+look_altered desk number alter None is = λ i. record (look desk) { change = λ c. altered_at desk number alter None is c i }
+look_altered desk number alter (Some change) is = λ i. record (look desk) { change = λ c. altered_at desk number alter (Some change) is c i }
+
+pub altered_look : (desk : DeskView) (number : ℕ) (alter : Change → Change)
+    → look (altered desk number alter) ≡ record (look desk) { change = λ c. cond (eqb c number) (option_map alter ((look desk).change c)) ((look desk).change c) }
+altered_look desk number alter = look_altered desk number alter (finite.get desk.changes number) refl
+
+-- and where one was opened
+opened_where : (author head : List ℕ) (b : Bool) (at here : Option Change) → (b ≡ true → at ≡ here)
+    → cond b (Some (opened author head at)) here ≡ cond b (Some (opened author head here)) here
+opened_where author head false at here same = refl
+opened_where author head true at here same = rw (same refl) refl
+
+pub opened_at : (desk : DeskView) (number : ℕ) (author head : List ℕ) (c : ℕ)
+    → finite.get (with_change desk number (opened author head (finite.get desk.changes number))).changes c
+    ≡ cond (eqb c number) (Some (opened author head (finite.get desk.changes c))) (finite.get desk.changes c)
+opened_at desk number author head c =
+    get-with_change desk number (opened author head (finite.get desk.changes number)) c
+    ∙ opened_where author head (eqb c number) (finite.get desk.changes number) (finite.get desk.changes c) (λ same. ap (finite.get desk.changes) (sym (same_number c number same)))

@@ -1,0 +1,10 @@
+pub mod Approvals
+pub mod Changes
+pub mod Facts
+pub mod Fitness
+pub mod Law
+pub mod Next
+pub mod Premises
+pub mod Sets
+pub mod Unseen
+pub mod Wording

@@ -1,0 +1,71 @@
+-- The look-backs come to what the words over the whole list say.
+use Rattle.std.proofs.Common.{◌≡◌, ◌⊎◌, Bool, true, false, ◌&&◌, ◌||◌, List, [], ◌∷◌, ◌++◌, Option, Some, None, refl, sym, ◌∙◌, ap, inl, inr}
+use Rattle.std.specs.Cmp.{first_so, second_so}
+use Rattle.std.specs.Option.{option_or}
+use Rattle.gate_text.proofs.Tools.{either}
+use Rattle.gate_queue.specs.History.{Event, said_by, last_of, since}
+use Rattle.gate_queue.specs.Words.{AllKept, StartedAndKept, AllSilent, SaidLast}
+use Rattle.gate_queue.specs.declared.act.Act.{Act}
+
+-- SINCE
+module _ (start keep : Event → List Event → Bool) where
+  pub since_found : (events : List Event) → since start keep events ≡ true → StartedAndKept start keep events
+  since_found [] holds = cc holds
+  since_found (event ∷ events) holds = elim (either (start event events) (keep event events && since start keep events) holds) [
+    | inl started ↦ ([], events, event, refl, started, tt)
+    | inr kept ↦
+        let (later, before, first, is, started, others) = since_found events (second_so (keep event events) (since start keep events) kept) in (
+          event ∷ later,
+          before,
+          first,
+          ap (λ (rest : List Event). event ∷ rest) is,
+          started,
+          (ap (keep event) (sym is) ∙ first_so (keep event events) (since start keep events) kept, others),
+        )
+  ]
+
+  or_true : (b : Bool) → (b || true) ≡ true
+  or_true true = refl
+  or_true false = refl
+
+  since_kept : (later before : List Event) (event : Event) → start event before ≡ true → AllKept keep later (event ∷ before) → since start keep (later ++ event ∷ before) ≡ true
+  since_kept [] before event started kept = rw started refl
+  since_kept (next ∷ later) before event started kept =
+      rw (kept.0, since_kept later before event started kept.1) (or_true (start next (later ++ event ∷ before)))
+
+  pub since_holds : (events : List Event) → StartedAndKept start keep events → since start keep events ≡ true
+  since_holds events (later, before, event, is, started, kept) = ap (since start keep) is ∙ since_kept later before event started kept
+
+-- THE LAST
+module _ {X : Type 0} (said : Act → Option X) where
+  last_first : (this rest : Option X) (x : X) → option_or this rest ≡ Some x → (this ≡ Some x) ⊎ ((this ≡ None) × (rest ≡ Some x))
+  last_first (Some y) rest x is = inl is
+  last_first None rest x is = inr (refl, is)
+
+  pub last_found : (events : List Event) (x : X) → last_of said events ≡ Some x → SaidLast said events x
+  last_found [] x is = cc is
+  last_found (event ∷ events) x is = elim (last_first (said_by said event) (last_of said events) x is) [
+    | inl here ↦ ([], events, event, refl, here, tt)
+    | inr (silent, rest) ↦
+        let (later, before, first, at, says, others) = last_found events x rest in
+        (event ∷ later, before, first, ap (λ (tail : List Event). event ∷ tail) at, says, (silent, others))
+  ]
+
+  last_said : (later before : List Event) (event : Event) (x : X) → said_by said event ≡ Some x → AllSilent said later → last_of said (later ++ event ∷ before) ≡ Some x
+  last_said [] before event x says silent = rw says refl
+  last_said (next ∷ later) before event x says silent = rw silent.0 (last_said later before event x says silent.1)
+
+  pub last_is : (events : List Event) (x : X) → SaidLast said events x → last_of said events ≡ Some x
+  last_is events x (later, before, event, at, says, silent) = ap (last_of said) at ∙ last_said later before event x says silent
+
+  none_both : (this rest : Option X) → option_or this rest ≡ None → (this ≡ None) × (rest ≡ None)
+  none_both (Some y) rest is = cc is
+  none_both None rest is = (refl, is)
+
+  pub none_found : (events : List Event) → last_of said events ≡ None → AllSilent said events
+  none_found [] is = tt
+  none_found (event ∷ events) is = let both = none_both (said_by said event) (last_of said events) is in (both.0, none_found events both.1)
+
+  pub none_is : (events : List Event) → AllSilent said events → last_of said events ≡ None
+  none_is [] silent = refl
+  none_is (event ∷ events) silent = rw silent.0 (none_is events silent.1)

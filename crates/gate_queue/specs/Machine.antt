@@ -1,0 +1,246 @@
+-- THE MACHINE: what one act is answered on a state, and the state after it.
+use Rattle.std.specs.Prelude.{◌≡◌, ℕ, ℤ, pos, not, Bool, false, ◌&&◌, ⊤, List, [], ◌∷◌, map, Option, Some, None, Result, Ok, Err, is_some, if◌then◌else◌}
+use Rattle.std.specs.FinMap as finite
+use Rattle.std.specs.FinSet as set
+use Rattle.std.specs.List.{fold}
+use Rattle.std.specs.Option.{option_map, option_map_or}
+use Rattle.std.specs.Str.{bytes_eq}
+use Rattle.gate_text.specs.Settings.{SettingsView, settings_of, fault_number, same_settings}
+use Rattle.gate_text.specs.declared.command.Command.{Command}
+use Rattle.gate_text.specs.declared.command.Command.TheVariants.{Ping, Approve, ApproveFor, Withdraw, Priority, Try, TryCancel, DelegateAuthor, DelegateTo, DelegateNone, Retry}
+use Rattle.gate_text.specs.declared.command.Spoken.TheVariants.{Known, Unknown}
+use Rattle.gate_text.specs.declared.settings.fault.SettingsFault.{SettingsFault}
+use Rattle.gate_rules.specs.Rules.{Look, unless, is_known, is_open, is_member, is_blocked, has_too_few_reviews, first_failing}
+use Rattle.gate_rules.specs.Rules as rules
+use Rattle.gate_rules.specs.View.{DeskView, empty_desk, with_role, with_change, with_settings, with_base, with_settled, losing_on, without_approval, look}
+use Rattle.gate_rules.specs.declared.change.Change.{Change}
+use Rattle.gate_rules.specs.declared.change.Phase.TheVariants as phase
+use Rattle.gate_rules.specs.declared.change.Repeat.{Repeat}
+use Rattle.gate_rules.specs.declared.change.Repeat.TheVariants as repeat
+use Rattle.gate_rules.specs.declared.rule.Rule.{Rule}
+use Rattle.gate_rules.specs.declared.rule.Rule.TheVariants.{UnknownChange, NotOpen, AlreadyOpen, StaleHead, NotMember, OwnChange, BadSettings, SameAsBase}
+use Rattle.gate_queue.specs.declared.act.Act.{Act}
+use Rattle.gate_queue.specs.declared.act.Act.TheVariants.{Spoken, Role, Settings, Base, Opened, Pushed, Closed, Labeled, Unlabeled, Review}
+use Rattle.gate_queue.specs.declared.reply.Order.{Order}
+use Rattle.gate_queue.specs.declared.reply.Order.TheVariants.{Notice}
+use Rattle.gate_queue.specs.declared.reply.Reply.{Reply}
+use Rattle.gate_queue.specs.declared.reply.Reply.TheVariants.{Done, Denied}
+use Rattle.gate_queue.specs.declared.reply.Why.{Why}
+use Rattle.gate_queue.specs.declared.reply.Why.TheVariants as why
+
+-- A STATE. It has no batches yet.
+pub record State : Type 0 where
+  pub desk : DeskView
+
+abbrev pub empty_state : State
+empty_state = record { desk = empty_desk }
+
+-- THE RULES OF FACTS
+abbrev pub is_base : Look → List ℕ → Bool
+is_base s commit = option_map_or (λ base. bytes_eq base commit) s.base false
+
+abbrev pub is_head : Look → ℕ → List ℕ → Bool
+is_head s change head = option_map_or (λ c. bytes_eq c.head head) (s.change change) false
+
+abbrev pub is_author : Look → ℕ → List ℕ → Bool
+is_author s change person = option_map_or (λ c. bytes_eq c.author person) (s.change change) false
+
+-- the rule on a text that was read as settings
+abbrev pub bad_settings : Result SettingsView SettingsFault → Option Rule
+bad_settings (Ok settings) = None
+bad_settings (Err fault) = Some (BadSettings (fault_number fault))
+
+-- the rules that facts on a change begin with
+abbrev pub of_open_change : Look → ℕ → List (Option Rule) → List (Option Rule)
+of_open_change s change others = unless (is_known s change) UnknownChange ∷ unless (is_open s change) NotOpen ∷ others
+
+abbrev pub review_row : Look → ℕ → List ℕ → List ℕ → List (Option Rule)
+review_row s change person head =
+    of_open_change s change
+    (unless (is_head s change head) StaleHead
+    ∷ unless (is_member (s.role person)) NotMember
+    ∷ unless (not (is_author s change person)) OwnChange
+    ∷ [])
+
+-- what an act is judged by, in order
+abbrev pub row : Look → Act → List (Option Rule)
+row s (Spoken change person spoken) = rules.row s person change spoken
+row s (Role person role) = []
+row s (Settings text) = bad_settings (settings_of text) ∷ []
+row s (Base commit) = unless (not (is_base s commit)) SameAsBase ∷ []
+row s (Opened change author head) = unless (not (is_open s change)) AlreadyOpen ∷ []
+row s (Pushed change head) = of_open_change s change []
+row s (Closed change) = of_open_change s change []
+row s (Labeled change label) = of_open_change s change []
+row s (Unlabeled change label) = of_open_change s change []
+row s (Review change person head approves) = review_row s change person head
+
+-- the rule that denies an act, if one does
+abbrev pub broken : Look → Act → Option Rule
+broken s act = first_failing (row s act)
+
+-- whether a refusal may want memory: to read settings, or to copy what the rule names
+abbrev pub RefusalMayWantMemory : Act → Option Rule → Type 0
+RefusalMayWantMemory (Settings text) rule = ⊤
+RefusalMayWantMemory act rule = rules.MayWantMemory rule
+
+-- WHAT AN ACT DOES TO ITS CHANGE
+abbrev pub approved_by : List (List ℕ) → Repeat → Change → Change
+approved_by approvers last change = record change { approved = Some approvers; last = Some last }
+
+abbrev pub with_priority : ℤ → Change → Change
+with_priority priority change = record change { priority = priority }
+
+abbrev pub with_delegates : List (List ℕ) → Change → Change
+with_delegates names change = record change { delegates = fold set.insert change.delegates names }
+
+abbrev pub with_author_as_delegate : Change → Change
+with_author_as_delegate change = record change { delegates = set.insert change.delegates change.author }
+
+abbrev pub without_delegates : Change → Change
+without_delegates change = record change { delegates = set.empty }
+
+abbrev pub just_opened : List ℕ → List ℕ → Change
+just_opened author head = record {
+  author = author;
+  head = head;
+  phase = phase.Opened;
+  priority = pos 0;
+  labels = set.empty;
+  reviews = set.empty;
+  delegates = set.empty;
+  approved = None;
+  last = None;
+}
+
+-- Opened again, a change keeps all but its author, its head and its reviews.
+abbrev pub opened : List ℕ → List ℕ → Option Change → Change
+opened author head None = just_opened author head
+opened author head (Some change) = record change { author = author; head = head; phase = phase.Opened; reviews = set.empty }
+
+-- Another head ends the reviews and the approval; the same head does nothing.
+abbrev pub moved_to : List ℕ → Change → Change
+moved_to head change = record change { head = head; reviews = set.empty; approved = None }
+
+abbrev pub pushed : List ℕ → Change → Change
+pushed head change = if bytes_eq change.head head then change else moved_to head change
+
+abbrev pub closed : Change → Change
+closed change = record change { phase = phase.Closed; approved = None }
+
+-- the approval ends where the settings, if there are any, are against it
+abbrev pub unless_against : (SettingsView → Change → Bool) → Option SettingsView → Change → Change
+unless_against against None change = change
+unless_against against (Some settings) change = if against settings change then without_approval change else change
+
+abbrev pub with_label : List ℕ → Change → Change
+with_label label change = record change { labels = set.insert change.labels label }
+
+abbrev pub labeled : Option SettingsView → List ℕ → Change → Change
+labeled settings label change = unless_against is_blocked settings (with_label label change)
+
+abbrev pub without_label : List ℕ → Change → Change
+without_label label change = record change { labels = set.remove change.labels label }
+
+abbrev pub with_review : List ℕ → Bool → Change → Change
+with_review person approves change = record change { reviews = if approves then set.insert change.reviews person else set.remove change.reviews person }
+
+abbrev pub reviewed : Option SettingsView → List ℕ → Bool → Change → Change
+reviewed settings person approves change = unless_against has_too_few_reviews settings (with_review person approves change)
+
+-- WHAT AN ACT DOES that no rule denies
+-- the desk with one change altered, if it is there
+abbrev pub with_altered : DeskView → ℕ → Option Change → DeskView
+with_altered desk number None = desk
+with_altered desk number (Some change) = with_change desk number change
+
+abbrev pub altered : DeskView → ℕ → (Change → Change) → DeskView
+altered desk number alter = with_altered desk number (option_map alter (finite.get desk.changes number))
+
+-- Settings that equal the present ones do nothing. Others take their place, and end the approvals that they are against.
+abbrev pub are_present : DeskView → SettingsView → Bool
+are_present desk settings = option_map_or (λ present. same_settings present settings) desk.settings false
+
+abbrev pub with_new_settings : DeskView → SettingsView → DeskView
+with_new_settings desk settings = if are_present desk settings then desk else with_settings (with_settled desk settings) settings
+
+abbrev pub with_accepted : DeskView → Result SettingsView SettingsFault → DeskView
+with_accepted desk (Ok settings) = with_new_settings desk settings
+with_accepted desk (Err fault) = desk
+
+-- `ping` does nothing, and an unknown line or a command that is still to come never acts.
+abbrev pub command_effect : DeskView → List ℕ → ℕ → Command → DeskView
+command_effect desk person change Approve = altered desk change (approved_by (person ∷ []) repeat.Approve)
+command_effect desk person change (ApproveFor names) = altered desk change (approved_by names (repeat.ApproveFor names))
+command_effect desk person change Withdraw = altered desk change without_approval
+command_effect desk person change (Priority priority) = altered desk change (with_priority priority)
+command_effect desk person change DelegateAuthor = altered desk change with_author_as_delegate
+command_effect desk person change (DelegateTo names) = altered desk change (with_delegates names)
+command_effect desk person change DelegateNone = altered desk change without_delegates
+command_effect desk person change Ping = desk
+command_effect desk person change Try = desk
+command_effect desk person change TryCancel = desk
+command_effect desk person change Retry = desk
+
+abbrev pub effect : DeskView → Act → DeskView
+effect desk (Spoken change person (Known command)) = command_effect desk person change command
+effect desk (Spoken change person Unknown) = desk
+effect desk (Role person role) = with_role desk person role
+effect desk (Settings text) = with_accepted desk (settings_of text)
+effect desk (Base commit) = with_base desk commit
+effect desk (Opened change author head) = with_change desk change (opened author head (finite.get desk.changes change))
+effect desk (Pushed change head) = altered desk change (pushed head)
+effect desk (Closed change) = altered desk change closed
+effect desk (Labeled change label) = altered desk change (labeled desk.settings label)
+effect desk (Unlabeled change label) = altered desk change (without_label label)
+effect desk (Review change person head approves) = altered desk change (reviewed desk.settings person approves)
+
+-- THE ORDERS OF AN ACT: a notice where a change was approved and no longer is; `r-` gives none
+abbrev pub notice_if : Bool → ℕ → Why → List Order
+notice_if ends number why = if ends then Notice number why ∷ [] else []
+
+abbrev pub ends_approval : (Change → Change) → Change → Bool
+ends_approval alter change = is_some change.approved && not (is_some (alter change).approved)
+
+abbrev pub notice_of : DeskView → ℕ → Why → (Change → Change) → List Order
+notice_of desk number why alter = notice_if (option_map_or (ends_approval alter) (finite.get desk.changes number) false) number why
+
+abbrev pub settings_notices : List ℕ → List Order
+settings_notices numbers = map (λ number. Notice number why.Settings) numbers
+
+abbrev pub new_settings_notices : DeskView → SettingsView → List Order
+new_settings_notices desk settings = if are_present desk settings then [] else settings_notices (losing_on desk settings)
+
+abbrev pub accepted_notices : DeskView → Result SettingsView SettingsFault → List Order
+accepted_notices desk (Ok settings) = new_settings_notices desk settings
+accepted_notices desk (Err fault) = []
+
+abbrev pub orders : DeskView → Act → List Order
+orders desk (Settings text) = accepted_notices desk (settings_of text)
+orders desk (Pushed change head) = notice_of desk change why.Pushed (pushed head)
+orders desk (Closed change) = notice_of desk change why.Closed closed
+orders desk (Labeled change label) = notice_of desk change why.Labeled (labeled desk.settings label)
+orders desk (Review change person head approves) = notice_of desk change why.Reviews (reviewed desk.settings person approves)
+orders desk (Spoken change person spoken) = []
+orders desk (Role person role) = []
+orders desk (Base commit) = []
+orders desk (Opened change author head) = []
+orders desk (Unlabeled change label) = []
+
+-- A STEP: an act that a rule denies is answered the first that does, and changes nothing.
+abbrev pub answered : Option Rule → List Order → Reply
+answered None orders = Done orders
+answered (Some rule) orders = Denied rule
+
+abbrev pub reply_to : State → Act → Reply
+reply_to s act = answered (broken (look s.desk) act) (orders s.desk act)
+
+abbrev pub unless_denied : Option Rule → State → State → State
+unless_denied None before done = done
+unless_denied (Some rule) before done = before
+
+abbrev pub after : State → Act → State
+after s act = unless_denied (broken (look s.desk) act) s (record { desk = effect s.desk act })
+
+abbrev pub Step : State → Act → Reply → State → Type 0
+Step s act reply t = (reply ≡ reply_to s act) × (t ≡ after s act)

@@ -1,0 +1,79 @@
+use gate_rules::Role;
+use gate_text::{ChangeNo, Commit, Label, Name, Spoken, Text};
+
+/// One thing that may change the state: a command of a comment, or a fact that the host hands in.
+#[derive(Debug, Drop, PartialEq, Eq)]
+pub enum Act {
+    /// A person's command line on a change.
+    Spoken {
+        /// The change that the comment is on.
+        change: ChangeNo,
+        /// Who wrote it.
+        person: Name,
+        /// What the line says.
+        spoken: Spoken,
+    },
+    /// The fact `role`: a person's role is set.
+    Role {
+        /// Whose role.
+        person: Name,
+        /// The role from now on.
+        role: Role,
+    },
+    /// The fact `settings`: the team's settings have changed.
+    Settings {
+        /// The whole `bors.toml`.
+        text: Text,
+    },
+    /// The fact `base`: the main branch stands at a commit.
+    Base {
+        /// The commit.
+        commit: Commit,
+    },
+    /// The fact `opened`: a change is opened, for the first time or again.
+    Opened {
+        /// The change.
+        change: ChangeNo,
+        /// Who opened it.
+        author: Name,
+        /// The commit that is to be merged.
+        head: Commit,
+    },
+    /// The fact `pushed`: a change has a head, another one or the same.
+    Pushed {
+        /// The change.
+        change: ChangeNo,
+        /// Its head from now on.
+        head: Commit,
+    },
+    /// The fact `closed`: a change is closed.
+    Closed {
+        /// The change.
+        change: ChangeNo,
+    },
+    /// The fact `labeled`: a change is given a label.
+    Labeled {
+        /// The change.
+        change: ChangeNo,
+        /// The label.
+        label: Label,
+    },
+    /// The fact `unlabeled`: a label is taken from a change.
+    Unlabeled {
+        /// The change.
+        change: ChangeNo,
+        /// The label.
+        label: Label,
+    },
+    /// The fact `review`: a person reviews a change.
+    Review {
+        /// The change.
+        change: ChangeNo,
+        /// Who reviews it.
+        person: Name,
+        /// The head that was reviewed.
+        head: Commit,
+        /// Whether the person approves of it.
+        approves: bool,
+    },
+}

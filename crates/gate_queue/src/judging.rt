@@ -1,0 +1,97 @@
+ghost use Rattle.std.specs.Prelude.{◌≡◌, [], IfOk, IfErr};
+ghost use Rattle.gate_text.specs.Settings.{settings_of};
+ghost use Rattle.gate_rules.specs.Rules.{first_failing};
+ghost use Rattle.gate_rules.specs.View.{look};
+ghost use Rattle.gate_queue.specs.Machine.{RefusalMayWantMemory, broken, bad_settings, of_open_change, review_row, row};
+ghost use Rattle.gate_queue.specs.declared.act.Act.TheVariants as act;
+
+use crate::act::Act;
+use gate_rules::{Desk, Rule};
+use gate_text::{ChangeNo, Commit, Name, SettingsFault, Text, read_settings};
+use std::alloc::{AllocError, Global};
+
+/// The rule that denies an act: the first of its row that fails, and nothing where all hold. `AllocError` where there is
+/// no memory to read settings, or to copy a label that the rule names.
+pub fn rule_of(desk: &Desk, alloc: Global, act: &Act) -> Result<Option<Rule>, AllocError>
+    ensures value { IfOk result (λ rule. rule ≡ broken (look desk.now) act.now) }
+    ensures cause { IfErr result (λ _. RefusalMayWantMemory act.now (broken (look desk.now) act.now)) }
+{
+    match act {
+        Act::Spoken {
+            change,
+            person,
+            spoken,
+        } => desk.rule(alloc, person, *change, spoken),
+        Act::Role { .. } => Ok(None),
+        Act::Settings { text } => settings_rule(alloc, text),
+        Act::Base { commit } => Ok(base_rule(desk, *commit)),
+        Act::Opened { change, .. } if desk.is_open(*change) => Ok(Some(Rule::AlreadyOpen)),
+        Act::Opened { .. } => Ok(None),
+        Act::Pushed { change, .. }
+        | Act::Closed { change }
+        | Act::Labeled { change, .. }
+        | Act::Unlabeled { change, .. } => Ok(open_rule(desk, *change)),
+        Act::Review {
+            change,
+            person,
+            head,
+            ..
+        } => Ok(review_rule(desk, *change, person, *head)),
+    }
+}
+
+// The rule on a text of settings, where it fails.
+fn settings_rule(alloc: Global, text: &Text) -> Result<Option<Rule>, AllocError>
+    ensures { IfOk result (λ rule. rule ≡ bad_settings (settings_of text.now)) }
+{
+    match read_settings(alloc, text.as_str()) {
+        Ok(_) => Ok(None),
+        Err(SettingsFault::Memory) => Err(AllocError),
+        Err(fault) => Ok(Some(Rule::BadSettings(fault.number()))),
+    }
+}
+
+// The rule on a new base, where it fails.
+fn base_rule(desk: &Desk, commit: Commit) -> Option<Rule>
+    ensures { result ≡ first_failing (row (look desk.now) (act.Base commit)) }
+{
+    match desk.base() {
+        Some(base) if base == commit => Some(Rule::SameAsBase),
+        _ => None,
+    }
+}
+
+// The first that fails of the rules that facts on a change begin with.
+fn open_rule(desk: &Desk, change: ChangeNo) -> Option<Rule>
+    ensures { result ≡ first_failing (of_open_change (look desk.now) change []) }
+{
+    if !desk.is_known(change) {
+        return Some(Rule::UnknownChange);
+    }
+    if !desk.is_open(change) {
+        return Some(Rule::NotOpen);
+    }
+    None
+}
+
+// The first rule that fails of a review.
+fn review_rule(desk: &Desk, number: ChangeNo, person: &Name, head: Commit) -> Option<Rule>
+    ensures { result ≡ first_failing (review_row (look desk.now) number person.now head) }
+{
+    let Some(change) = desk.change(number) else {
+        return Some(Rule::UnknownChange);
+    };
+    if !desk.is_open(number) {
+        return Some(Rule::NotOpen);
+    }
+    if change.head != head {
+        return Some(Rule::StaleHead);
+    }
+    if !desk.role(person).is_member() {
+        return Some(Rule::NotMember);
+    }
+    if change.author == *person {
+        return Some(Rule::OwnChange);
+    }
+    None
+}
