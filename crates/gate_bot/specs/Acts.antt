@@ -7,7 +7,7 @@ use Rattle.gate_queue.specs.declared.act.Act.TheVariants as act
 use Rattle.gate_bot.specs.declared.delivery.Event.{Event}
 use Rattle.gate_bot.specs.declared.delivery.Event.TheVariants.{Comment, Role, Settings, Base, Opened, Pushed, Closed, Labeled, Unlabeled, Review}
 
--- one act for each command line of a comment, in order
+-- one act for each command that a comment says, in order
 abbrev pub spoken_acts_of : ℕ → List ℕ → List ℕ → List Act
 spoken_acts_of change person text = map (λ spoken. act.Spoken change person spoken) (comment_says text)
 

@@ -22,7 +22,7 @@ use Rattle.gate_bot.specs.declared.reading.Field.TheVariants as field
 use Rattle.gate_bot.specs.declared.reading.DeliveryFault.{DeliveryFault}
 use Rattle.gate_bot.specs.declared.reading.DeliveryFault.TheVariants.{NotJson, BadField, UnknownEvent, Memory}
 
--- What `read_delivery` answers where `reading` is what the text says. Want of memory is `serde_json`'s to meet.
+-- What `read_delivery` answers if `reading` is what the text says. Want of memory is `serde_json`'s to meet.
 abbrev pub Reads : {X : Type 0} → Result X DeliveryFault → Result X DeliveryFault → Type 0
 Reads (Ok value) reading = reading ≡ Ok value
 Reads (Err Memory) reading = Unit {0}

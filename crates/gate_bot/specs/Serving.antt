@@ -36,7 +36,7 @@ pub record IsUpTo (opened : BenchView) (input : List ℕ) (now : BenchView) (kep
   pub count : counted ≡ length (ended_lines input)
   pub written : Appends before after (text_for opened (ended_lines input))
 
--- The answer to the line that is open was refused, where all before it are served.
+-- The answer to the line that is open was refused, and all before it are served.
 abbrev pub StopsBehind : HookFault → BenchView → List ℕ → BenchView → Option (List ℕ) → Option (List ℕ) → Type 0
 StopsBehind (Gate fault.Memory) opened input new before after =
     StopsForMemory (after_lines opened (ended_lines input)) (open_line input) new × Appends before after (text_for opened (ended_lines input))

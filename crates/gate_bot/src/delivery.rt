@@ -93,8 +93,9 @@ pub struct Delivery {
     pub event: Event,
 }
 
-/// The acts of a delivery: one for each command line of a comment, in order, and one for a fact. A comment without
-/// command lines has none. `AllocError` where there is no memory for them. What a comment says keeps its limits.
+/// The acts of a delivery: one for each command that a comment says, in order, and one for a fact. A line such as `bors r+ p=5`
+/// says two. A comment without command lines has none. `AllocError` if there is no memory for them. What a comment says
+/// keeps its limits.
 pub fn acts_of(alloc: Global, delivery: &Delivery) -> Result<Vec<Act>, AllocError>
     ensures value { IfOk result (λ acts. acts.items ≡ acts_of_event delivery.now.event) }
     ensures limits { IfOk result (λ acts. All ActKeepsLimits acts.items) }
@@ -156,7 +157,7 @@ fn acts_in(alloc: Global, delivery: &Delivery) -> Result<Vec<Act>, AllocError>
     Ok(vec![in alloc; fact]?)
 }
 
-// What the command lines of a person's comment say about a change.
+// What a person's comment says about a change.
 fn spoken_acts(
     alloc: Global,
     change: ChangeNo,

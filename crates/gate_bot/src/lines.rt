@@ -82,7 +82,7 @@ fn line_answer(alloc: Global, bench: &mut Bench, line: &Line) -> Result<String, 
     }
 }
 
-// Answers a line: its text goes out whole, and a part of it where the writer refuses the rest.
+// Answers a line: its text goes out whole, and a part of it if the writer refuses the rest.
 fn answer_line<W: Write>(
     alloc: Global,
     bench: &mut Bench,
@@ -177,7 +177,7 @@ fn finish<W: Write>(
     }
 }
 
-// How many bytes to read where this many are left: one where none is, to see whether the input is at its end.
+// How many bytes to read if this many are left: one if none is, to see whether the input is at its end.
 fn room_for(left: u64) -> usize
     ensures some { 0 < result }
     ensures within { result ≤ CHUNK }

@@ -6,6 +6,7 @@ mod delivery;
 mod line;
 mod lines;
 mod machine;
+mod outcome;
 mod reading;
 mod reply;
 mod sending;
@@ -15,6 +16,7 @@ mod writing;
 
 use crate::bench::Bench;
 use crate::lines::serve_lines;
+use crate::outcome::{complaint, status};
 use std::io;
 use std::process::ExitCode;
 
@@ -24,11 +26,10 @@ fn main(rt: HostRuntime) -> ExitCode {
     let mut bench = Bench::new(rt.alloc());
     let mut reader = rt.reader();
     let mut writer = io::writer(&rt);
-    match serve_lines(rt.alloc(), &mut bench, &mut reader, &mut writer) {
-        Ok(_) => ExitCode::SUCCESS,
-        Err(fault) => {
-            let _ = eprintln!(rt; "gate: {fault}");
-            ExitCode::FAILURE
-        }
+    let served = serve_lines(rt.alloc(), &mut bench, &mut reader, &mut writer);
+    if let Err(fault) = served {
+        // If standard error fails too, there is nothing left to tell it by.
+        let _ = eprintln!(rt; "{}", complaint(fault));
     }
+    ExitCode::from(status(&served))
 }

@@ -6,7 +6,7 @@ use std::io::Write;
 #[derive(Clone, Copy, Debug, PartialEq, Eq)]
 pub struct NotWritten;
 
-/// Writes the text, part by part. Where a write fails or takes no byte, it answers `NotWritten` and doesn't try again,
+/// Writes the text, part by part. If a write fails or takes no byte, it answers `NotWritten` and doesn't try again,
 /// an interrupted write included; a part of the text may be written then.
 pub fn send<W: Write>(writer: &mut W, text: &[u8]) -> Result<(), NotWritten>
     ensures { IsSent result (W.contents writer.old) (W.contents writer.new) text.now }

@@ -1,19 +1,16 @@
-mod bad_input;
 mod failing;
 mod fakes;
-mod good_input;
 mod long_lines;
+mod many;
+mod reading;
 mod rows;
-mod settings;
-mod story;
+mod tables;
 mod texts;
 
 use crate::bench::Bench;
-use crate::lines::{HookFault, serve_lines};
-use gate_queue::Fault;
+use crate::lines::serve_lines;
 use std::alloc::Global;
 use std::process::Abort;
-use std::test::Fail;
 
 const INPUT: &str = concat!(
     r#"{"id":"d1","event":"role","person":"alice","role":"reviewer"}"#,
@@ -46,50 +43,18 @@ const NOT_JSON: &str = r#"{"error":"NotJson","number":1}"#;
 
 const TOO_LONG: &str = r#"{"error":"LineTooLong","number":5}"#;
 
-// The count of lines and the text that come of serving the input on a new bench.
-fn served(alloc: Global, input: &[u8]) -> Result<(u64, String), Fail> {
+// What serving an input on a new bench writes; it counts so many lines.
+fn served(rt: &impl Abort, alloc: Global, input: &[u8], lines: u64) -> String {
     let mut bench = Bench::new(alloc);
     let mut reader = input;
     let mut written = Vec::new(alloc);
-    let count = serve_lines(alloc, &mut bench, &mut reader, &mut written)?;
-    Ok((count, String::from_utf8(written)?))
-}
-
-// Serves the lines on a new bench, and compares the answer to each.
-fn check_lines(rt: &impl Abort, alloc: Global, lines: &[(&str, &str)]) -> Result<(), Fail> {
-    let mut input = String::new(alloc);
-    let mut answers = String::new(alloc);
-    for (line, answer) in lines {
-        input.push_str(line)?;
-        input.push('\n')?;
-        answers.push_str(answer)?;
-        answers.push('\n')?;
-    }
-    let (_, written) = served(alloc, input.as_bytes())?;
-    assert_eq!(rt; written.as_str(), answers.as_str());
-    Ok(())
+    let count = serve_lines(alloc, &mut bench, &mut reader, &mut written);
+    assert_eq!(rt; count, Ok(lines));
+    String::from_utf8(written).expect(rt, "UTF-8")
 }
 
 #[test]
-fn the_stored_run(rt: HostRuntime) -> Result<(), Fail> {
-    let (count, written) = served(rt.alloc(), INPUT.as_bytes())?;
+fn the_stored_run(rt: HostRuntime) {
+    let written = served(&rt, rt.alloc(), INPUT.as_bytes(), 5);
     assert_eq!(rt; written.as_str(), OUTPUT);
-    assert_eq!(rt; count, 5);
-    Ok(())
-}
-
-#[test]
-fn faults_print_their_word(rt: HostRuntime) -> Result<(), Fail> {
-    for (fault, word) in [
-        (HookFault::Gate(Fault::Memory), "Memory"),
-        (HookFault::Gate(Fault::Store), "Store"),
-        (HookFault::Gate(Fault::Full), "Full"),
-        (HookFault::Read, "Read"),
-        (HookFault::Write, "Write"),
-        (HookFault::TooMuch, "TooMuch"),
-    ] {
-        let printed = format!(in rt.alloc(); "{fault}")?;
-        assert_eq!(rt; printed.as_str(), word);
-    }
-    Ok(())
 }

@@ -94,7 +94,7 @@ fn answer_value(alloc: Global, answer: &[Reply]) -> Result<Value, AllocError>
 }
 
 /// The text of an answer: a JSON list with one object for each reply, compact, names in the order of their bytes.
-/// `AllocError` where there is no memory for it.
+/// `AllocError` if there is no memory for it.
 pub fn answer_text(alloc: Global, answer: &[Reply]) -> Result<String, AllocError>
     ensures { IfOk result (λ text. string_bytes text ≡ answer_text_of answer.now) }
 {
@@ -115,8 +115,8 @@ fn error_value(alloc: Global, fault: &DeliveryFault) -> Result<Value, AllocError
     }
 }
 
-/// The text of an error: a JSON object with the name and the number of the refusal, and the field where one is bad.
-/// `AllocError` where there is no memory for it.
+/// The text of an error: a JSON object with the name and the number of the refusal, and the field if one is bad.
+/// `AllocError` if there is no memory for it.
 pub fn error_text(alloc: Global, fault: &DeliveryFault) -> Result<String, AllocError>
     ensures { IfOk result (λ text. string_bytes text ≡ error_text_of fault.now) }
 {

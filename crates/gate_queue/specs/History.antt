@@ -106,7 +106,7 @@ head_set change (Opened other author head) = if change == other then Some head e
 head_set change (Pushed other head) = if change == other then Some head else None
 head_set change _ = None
 
--- empty where the change was never opened
+-- empty if the change was never opened
 abbrev pub head_back : List Event → ℕ → List ℕ
 head_back events change = unwrap_or (last_of (head_set change) events) []
 
@@ -210,7 +210,7 @@ ends change (did (Closed other)) events = change == other
 ends change (did act) events = moves events change act
 ends change (gave order) events = false
 
--- A change is standing where an approval of it was given while it was fit, and it has been fit at each moment since, and
+-- A change is standing if an approval of it was given while it was fit, and it has been fit at each moment since, and
 -- nothing has ended it.
 abbrev pub standing_back : List Event → ℕ → Bool
 standing_back events change = since
@@ -263,12 +263,12 @@ pub record EntryTells (history : List Entry) (old : State) (entry : Entry) (new 
   pub settings : new.desk.settings ≡ settings_back (events_of (entry ∷ history))
   pub base : new.desk.base ≡ base_back (events_of (entry ∷ history))
   pub clock : new.desk.clock ≡ clock_back (events_of (entry ∷ history))
-  -- a change is there exactly where it was opened; then its author, head, phase, priority, labels, reviews, delegates and
+  -- a change is there exactly if it was opened; then its author, head, phase, priority, labels, reviews, delegates and
   -- last command are those of the history
   pub changes : (change : ℕ) → finite.get new.desk.changes change ≡ change_back (events_of (entry ∷ history)) change
-  -- a change has approvers exactly where it is standing, and then those of its last approval
+  -- a change has approvers exactly if it is standing, and then those of its last approval
   pub approvers : (change : ℕ) → approvers_on new.desk change ≡ approvers_back (events_of (entry ∷ history)) change
-  -- acts exactly by rule: done where no rule fails on the history before, and else denied by the first that does
+  -- acts exactly by rule: done if no rule fails on the history before, and else denied by the first that does
   pub by_rule : denial entry.reply ≡ rule_back history entry.act
   -- a denied act changes nothing
   pub denied : (rule : Rule) → entry.reply ≡ Denied rule → new ≡ old

@@ -17,6 +17,7 @@ use Rattle.gate_rules.specs.declared.change.Change.{Change}
 use Rattle.gate_rules.specs.declared.change.Phase.TheVariants as phase
 use Rattle.gate_rules.specs.declared.change.Repeat.{Repeat}
 use Rattle.gate_rules.specs.declared.change.Repeat.TheVariants as repeat
+use Rattle.gate_rules.specs.declared.role.Role.TheVariants.{Nobody}
 use Rattle.gate_rules.specs.declared.rule.Rule.{Rule}
 use Rattle.gate_rules.specs.declared.rule.Rule.TheVariants.{UnknownChange, NotOpen, AlreadyOpen, StaleHead, NotMember, OwnChange, BadSettings, SameAsBase}
 use Rattle.gate_queue.specs.declared.act.Act.{Act}
@@ -84,6 +85,14 @@ abbrev pub RefusalMayWantMemory : Act → Option Rule → Type 0
 RefusalMayWantMemory (Settings text) rule = ⊤
 RefusalMayWantMemory act rule = rules.MayWantMemory rule
 
+-- whether an act allocates nothing, whatever it is answered
+abbrev pub TakesNoMemory : Act → Type 0
+TakesNoMemory (Spoken change person Unknown) = ⊤
+TakesNoMemory (Spoken change person (Known Ping)) = ⊤
+TakesNoMemory (Role person Nobody) = ⊤
+TakesNoMemory (Base commit) = ⊤
+TakesNoMemory act = ⊥
+
 -- WHAT AN ACT DOES TO ITS CHANGE
 abbrev pub approved_by : List (List ℕ) → Repeat → Change → Change
 approved_by approvers last change = record change { approved = Some approvers; last = Some last }
@@ -128,7 +137,7 @@ pushed head change = if bytes_eq change.head head then change else moved_to head
 abbrev pub closed : Change → Change
 closed change = record change { phase = phase.Closed; approved = None }
 
--- the approval ends where the settings, if there are any, are against it
+-- the approval ends if the settings, if there are any, are against it
 abbrev pub unless_against : (SettingsView → Change → Bool) → Option SettingsView → Change → Change
 unless_against against None change = change
 unless_against against (Some settings) change = if against settings change then without_approval change else change
@@ -195,7 +204,7 @@ effect desk (Labeled change label) = altered desk change (labeled desk.settings 
 effect desk (Unlabeled change label) = altered desk change (without_label label)
 effect desk (Review change person head approves) = altered desk change (reviewed desk.settings person approves)
 
--- THE ORDERS OF AN ACT: a notice where a change was approved and no longer is; `r-` gives none
+-- THE ORDERS OF AN ACT: a notice if a change was approved and no longer is; `r-` gives none
 abbrev pub notice_if : Bool → ℕ → Why → List Order
 notice_if ends number why = if ends then Notice number why ∷ [] else []
 

@@ -4,13 +4,13 @@ use gate_text::{ChangeNo, Commit, Label, Name, Spoken, Text};
 /// One thing that may change the state: a command of a comment, or a fact that the host hands in.
 #[derive(Debug, Drop, PartialEq, Eq)]
 pub enum Act {
-    /// A person's command line on a change.
+    /// One thing that a person's comment on a change says.
     Spoken {
         /// The change that the comment is on.
         change: ChangeNo,
         /// Who wrote it.
         person: Name,
-        /// What the line says.
+        /// What is said: a command, or something that is none.
         spoken: Spoken,
     },
     /// The fact `role`: a person's role is set.

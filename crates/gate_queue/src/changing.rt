@@ -19,7 +19,7 @@ pub fn no_orders(alloc: Global) -> Orders
     Orders::from(Vec::new(alloc))
 }
 
-// Keeps a change that was altered, and gives a notice where its approval has ended.
+// Keeps a change that was altered, and gives a notice if its approval has ended.
 fn keep(
     desk: &mut Desk,
     alloc: Global,

@@ -1,10 +1,10 @@
-ghost use Rattle.std.specs.Prelude.{◌≡◌, [], List, Some, IfOk, IfErr};
+ghost use Rattle.std.specs.Prelude.{◌≡◌, [], List, Some, IfOk, IfErr, IsOk};
 ghost use Rattle.std.specs.FinMap as map;
 ghost use Rattle.std.specs.Option.{option_copied};
 ghost use Rattle.gate_rules.specs.View.{look};
 ghost use Rattle.gate_rules.specs.declared.rule.Rule.{Rule};
 ghost use Rattle.gate_queue.specs.History.{Entry, Legal, EntryTells, entry_of};
-ghost use Rattle.gate_queue.specs.Machine.{RefusalMayWantMemory, Step, empty_state, broken};
+ghost use Rattle.gate_queue.specs.Machine.{RefusalMayWantMemory, Step, TakesNoMemory, empty_state, broken};
 ghost use Rattle.gate_queue.specs.declared.reply.Reply.TheVariants.{Denied};
 
 use crate::act::Act;
@@ -56,9 +56,12 @@ impl Gate {
         // An act that a rule denies changes nothing, and its reply has no orders.
         ensures denied { IfOk result (λ done. (rule : Rule) → done.1 ≡ Denied rule → done.0 ≡ self) }
 
-        // The one fault. An act that a rule denies meets it only where the rule itself may want memory.
+        // The one fault. An act that a rule denies meets it only if the rule itself may want memory.
         ensures cause { IfErr result (λ fault. fault ≡ Fault.Memory) }
         ensures refused { IfErr result (λ _. (rule : Rule) → broken (look self.desk) act.now ≡ Some rule → RefusalMayWantMemory act.now (Some rule)) }
+
+        // An act that allocates nothing is always answered.
+        ensures no_memory { TakesNoMemory act.now → IsOk result }
     {
         match step(self.desk, alloc, act) {
             Ok((desk, reply)) => Ok((Gate { desk }, reply)),
@@ -66,7 +69,7 @@ impl Gate {
         }
     }
 
-    /// The rule that would deny the act: the first of its row that fails, and nothing where all hold. `AllocError` where
+    /// The rule that would deny the act: the first of its row that fails, and nothing if all hold. `AllocError` if
     /// there is no memory to read settings, or to copy a label that the rule names.
     pub fn refusal(&self, alloc: Global, act: &Act) -> Result<Option<Rule>, AllocError>
         ensures value { IfOk result (λ rule. rule ≡ broken (look self.now.desk) act.now) }
@@ -94,6 +97,7 @@ impl Gate {
 fn step(mut desk: Desk, alloc: Global, act: &Act) -> Result<(Desk, Reply), AllocError>
     ensures step { IfOk result (λ done. Step (record { desk = desk }) act.now done.1 (record { desk = done.0 })) }
     ensures refused { IfErr result (λ _. (rule : Rule) → broken (look desk) act.now ≡ Some rule → RefusalMayWantMemory act.now (Some rule)) }
+    ensures no_memory { TakesNoMemory act.now → IsOk result }
 {
     if let Some(rule) = rule_of(&desk, alloc, act)? {
         return Ok((desk, Reply::Denied(rule)));

@@ -1,8 +1,8 @@
-ghost use Rattle.std.specs.Prelude.{◌≡◌, [], IfOk, IfErr};
+ghost use Rattle.std.specs.Prelude.{◌≡◌, [], IfOk, IfErr, IsOk};
 ghost use Rattle.gate_text.specs.Settings.{settings_of};
 ghost use Rattle.gate_rules.specs.Rules.{first_failing};
 ghost use Rattle.gate_rules.specs.View.{look};
-ghost use Rattle.gate_queue.specs.Machine.{RefusalMayWantMemory, broken, bad_settings, of_open_change, review_row, row};
+ghost use Rattle.gate_queue.specs.Machine.{RefusalMayWantMemory, TakesNoMemory, broken, bad_settings, of_open_change, review_row, row};
 ghost use Rattle.gate_queue.specs.declared.act.Act.TheVariants as act;
 
 use crate::act::Act;
@@ -10,11 +10,12 @@ use gate_rules::{Desk, Rule};
 use gate_text::{ChangeNo, Commit, Name, SettingsFault, Text, read_settings};
 use std::alloc::{AllocError, Global};
 
-/// The rule that denies an act: the first of its row that fails, and nothing where all hold. `AllocError` where there is
+/// The rule that denies an act: the first of its row that fails, and nothing if all hold. `AllocError` if there is
 /// no memory to read settings, or to copy a label that the rule names.
 pub fn rule_of(desk: &Desk, alloc: Global, act: &Act) -> Result<Option<Rule>, AllocError>
     ensures value { IfOk result (λ rule. rule ≡ broken (look desk.now) act.now) }
     ensures cause { IfErr result (λ _. RefusalMayWantMemory act.now (broken (look desk.now) act.now)) }
+    ensures no_memory { TakesNoMemory act.now → IsOk result }
 {
     match act {
         Act::Spoken {
@@ -40,7 +41,7 @@ pub fn rule_of(desk: &Desk, alloc: Global, act: &Act) -> Result<Option<Rule>, Al
     }
 }
 
-// The rule on a text of settings, where it fails.
+// The rule on a text of settings, if it fails.
 fn settings_rule(alloc: Global, text: &Text) -> Result<Option<Rule>, AllocError>
     ensures { IfOk result (λ rule. rule ≡ bad_settings (settings_of text.now)) }
 {
@@ -51,7 +52,7 @@ fn settings_rule(alloc: Global, text: &Text) -> Result<Option<Rule>, AllocError>
     }
 }
 
-// The rule on a new base, where it fails.
+// The rule on a new base, if it fails.
 fn base_rule(desk: &Desk, commit: Commit) -> Option<Rule>
     ensures { result ≡ first_failing (row (look desk.now) (act.Base commit)) }
 {

@@ -1,18 +1,18 @@
 ghost use Rattle.gate_queue.specs.Words.{LawOfSince, LawOfTheLast, LawOfSets};
 
-/// The law of `since`: it holds exactly where the events can be cut at one that started it, and each event that came after
+/// The law of `since`: it holds exactly if the events can be cut at one that started it, and each event that came after
 /// has kept it.
 pub fn law_of_since()
     ensures { LawOfSince }
 {}
 
-/// The law of `last_of`: it gives what some act says after which no act says anything, and nothing exactly where no act
+/// The law of `last_of`: it gives what some act says after which no act says anything, and nothing exactly if no act
 /// says anything.
 pub fn law_of_the_last<X>()
     ensures { LawOfTheLast X }
 {}
 
-/// The law of the sets of a change: a label is among its labels, a person among its reviews or its delegates, exactly where
+/// The law of the sets of a change: a label is among its labels, a person among its reviews or its delegates, exactly if
 /// the words of the history say so.
 pub fn law_of_sets()
     ensures { LawOfSets }

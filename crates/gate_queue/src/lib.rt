@@ -10,8 +10,6 @@ mod judging;
 mod laws;
 mod performing;
 mod reply;
-#[cfg(test)]
-mod tests;
 
 pub use act::Act;
 pub use fault::Fault;

@@ -1,8 +1,9 @@
-ghost use Rattle.std.specs.Prelude.{◌≡◌, IfOk, OnOk, IsNone};
+ghost use Rattle.std.specs.Prelude.{◌≡◌, IfOk, OnOk, IsNone, IsOk};
 ghost use Rattle.gate_text.specs.Settings.{settings_of};
+ghost use Rattle.gate_text.specs.declared.command.Command.TheVariants.{Ping};
 ghost use Rattle.gate_rules.specs.View.{look};
 ghost use Rattle.gate_queue.specs.Machine as machine;
-ghost use Rattle.gate_queue.specs.Machine.{broken, effect, command_effect, with_accepted, accepted_notices, with_new_settings, new_settings_notices, are_present, settings_notices};
+ghost use Rattle.gate_queue.specs.Machine.{TakesNoMemory, broken, effect, command_effect, with_accepted, accepted_notices, with_new_settings, new_settings_notices, are_present, settings_notices};
 
 use crate::act::Act;
 use crate::changing;
@@ -19,6 +20,7 @@ pub fn perform(desk: &mut Desk, alloc: Global, act: &Act) -> Result<Orders, Allo
     requires { IsNone (broken (look desk.old) act.now) }
     ensures desk { OnOk result (desk.new ≡ effect desk.old act.now) }
     ensures orders { IfOk result (λ orders. orders ≡ machine.orders desk.old act.now) }
+    ensures no_memory { TakesNoMemory act.now → IsOk result }
 {
     match act {
         Act::Settings { text } => return accept_settings(desk, alloc, text),
@@ -61,7 +63,8 @@ fn perform_command(
     change: ChangeNo,
     command: &Command,
 ) -> Result<(), AllocError>
-    ensures { OnOk result (desk.new ≡ command_effect desk.old person.now change command.now) }
+    ensures value { OnOk result (desk.new ≡ command_effect desk.old person.now change command.now) }
+    ensures no_memory { command.now ≡ Ping → IsOk result }
 {
     match command {
         Command::Approve => {

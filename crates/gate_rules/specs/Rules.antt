@@ -20,7 +20,7 @@ use Rattle.gate_rules.specs.declared.role.Level.TheVariants as level
 use Rattle.gate_rules.specs.declared.rule.Rule.{Rule}
 use Rattle.gate_rules.specs.declared.rule.Rule.TheVariants.{UnknownChange, NotACommand, NotPermitted, NotOpen, NoSettings, NoBase, AlreadyApproved, NotApproved, Blocked, TooFewReviews}
 
--- WHAT THE RULES READ: roles, the changes that were opened, the settings and the base, where there are any, and the clock
+-- WHAT THE RULES READ: roles, the changes that were opened, the settings and the base, if there are any, and the clock
 pub record Look : Type 0 where
   pub role : List ℕ → Role
   pub change : ℕ → Option Change
@@ -108,13 +108,13 @@ count_reviews change = set.len change.reviews
 abbrev pub has_too_few_reviews : SettingsView → Change → Bool
 has_too_few_reviews settings change = nat_lt (count_reviews change) settings.required_approvals
 
--- A change is fit where it is open, settings exist, none of its labels is blocking, and it has reviews enough.
+-- A change is fit if it is open, settings exist, none of its labels is blocking, and it has reviews enough.
 abbrev pub is_fit : Option SettingsView → Change → Bool
 is_fit None change = false
 is_fit (Some settings) change = is_opened change.phase && (not (is_blocked settings change) && not (has_too_few_reviews settings change))
 
 -- THE ROWS
--- the rule where its test fails, and nothing where it holds
+-- the rule if its test fails, and nothing if it holds
 abbrev pub unless : Bool → Rule → Option Rule
 unless true rule = None
 unless false rule = Some rule
@@ -126,7 +126,7 @@ unless_blocked settings change = option_map Blocked (blocking_label settings cha
 abbrev pub unless_too_few : SettingsView → Change → Option Rule
 unless_too_few settings change = unless (not (has_too_few_reviews settings change)) (TooFewReviews (count_reviews change) settings.required_approvals)
 
--- the same, where there are settings and the change is known
+-- the same, if there are settings and the change is known
 abbrev pub of_both : (SettingsView → Change → Option Rule) → Option SettingsView → Option Change → Option Rule
 of_both rule (Some settings) (Some change) = rule settings change
 of_both rule (Some settings) None = None

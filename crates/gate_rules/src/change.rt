@@ -26,7 +26,7 @@ pub enum Repeat {
 }
 
 impl Repeat {
-    /// A copy, or `AllocError` where there is no memory for it.
+    /// A copy, or `AllocError` if there is no memory for it.
     pub fn copy(&self, alloc: Global) -> Result<Repeat, AllocError>
         ensures value { IfOk result (λ copy. copy ≡ self.now) }
     {
@@ -55,14 +55,14 @@ pub struct Change {
     pub reviews: NameSet,
     /// Who may approve and try it besides those whose role lets them.
     pub delegates: NameSet,
-    /// The approvers, where the change is approved.
+    /// The approvers, if the change is approved.
     pub approved: Option<Names>,
     /// The last command that `retry` would repeat, if there was one.
     pub last: Option<Repeat>,
 }
 
 impl Change {
-    /// A copy, or `AllocError` where there is no memory for it.
+    /// A copy, or `AllocError` if there is no memory for it.
     pub fn copy(&self, alloc: Global) -> Result<Change, AllocError>
         ensures value { IfOk result (λ copy. copy ≡ self.now) }
     {

@@ -57,7 +57,7 @@ impl Desk {
         }
     }
 
-    /// The role of a person, `Nobody` where none was set.
+    /// The role of a person, `Nobody` if none was set.
     pub fn role(&self, person: &Name) -> Role
         ensures value { result ≡ role_on self.now person.now }
     {
@@ -92,7 +92,7 @@ impl Desk {
         self.clock
     }
 
-    /// Sets the role of a person. Where there is no memory for it, the desk stays as it was; to set `Nobody` takes none.
+    /// Sets the role of a person. If there is no memory for it, the desk stays as it was; to set `Nobody` takes none.
     pub fn set_role(&mut self, alloc: Global, person: &Name, role: Role) -> Result<(), AllocError>
         ensures ok { OnOk result (self.new ≡ with_role self.old person.now role) }
         ensures err { OnErr result (self.new ≡ self.old) }
@@ -106,7 +106,7 @@ impl Desk {
         Ok(())
     }
 
-    /// Puts a copy of the change on the desk, in place of the one that has the number, if there is one. Where there is
+    /// Puts a copy of the change on the desk, in place of the one that has the number, if there is one. If there is
     /// no memory for it, the desk stays as it was.
     pub fn put_change(
         &mut self,
@@ -134,7 +134,7 @@ impl Desk {
         self.base = Some(base);
     }
 
-    /// Sets the clock, in seconds, up to 9,000,000,000,000,000; it doesn't go back. It takes no memory.
+    /// Sets the clock, in seconds. It doesn't go back. It takes no memory.
     pub fn set_clock(&mut self, now: u64)
         requires { self.old.clock ≤ now }
         ensures value { self.new ≡ with_clock self.old now }
@@ -142,7 +142,7 @@ impl Desk {
         self.clock = now;
     }
 
-    /// Puts the change on the desk, in place of the one that has the number, if there is one. Where there is no memory for
+    /// Puts the change on the desk, in place of the one that has the number, if there is one. If there is no memory for
     /// it, the desk stays as it was.
     pub fn keep_change(&mut self, number: ChangeNo, change: Change) -> Result<(), AllocError>
         ensures ok { OnOk result (self.new ≡ with_change self.old number change) }
@@ -153,7 +153,7 @@ impl Desk {
     }
 
     /// The approved changes that have, under these settings, a blocking label or too few reviews, by number upwards, or
-    /// `AllocError` where there is no memory for the list.
+    /// `AllocError` if there is no memory for the list.
     pub fn losing(&self, alloc: Global, settings: &Settings) -> Result<Vec<ChangeNo>, AllocError>
         ensures value { IfOk result (λ numbers. numbers.items ≡ losing_on self.now settings.now) }
     {
@@ -173,7 +173,7 @@ impl Desk {
     }
 
     /// The level that a command on this change needs: for `retry` that of the command which it would repeat, and `Member`
-    /// where there is none to repeat, as on a change that isn't on the desk.
+    /// if there is none to repeat, as on a change that isn't on the desk.
     pub fn need(&self, change: ChangeNo, command: &Command) -> Level
         ensures value { result ≡ rules.need (look self.now) change command.now }
     {

@@ -6,8 +6,6 @@ mod desk;
 mod fitness;
 mod role;
 mod rule;
-#[cfg(test)]
-mod tests;
 
 pub use change::{Change, Phase, Repeat};
 pub use desk::Desk;

@@ -32,7 +32,7 @@ items_of list = slice_split (λ b. b == 44) list
 abbrev pub name_in : List ℕ → Option (List ℕ)
 name_in item = result_ok (name_of (trim item))
 
--- all values, where each is there
+-- all values, if each is there
 abbrev pub all_of : {X : Type 0} → List (Option X) → Option (List X)
 all_of [] = Some []
 all_of (value ∷ values) = option_and_then (λ first. option_map (λ others. first ∷ others) (all_of values)) value

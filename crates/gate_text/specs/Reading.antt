@@ -13,7 +13,7 @@ use Rattle.gate_text.specs.declared.command.Spoken.{Spoken}
 use Rattle.gate_text.specs.declared.command.Spoken.TheVariants.{Known, Unknown}
 
 -- BODIES
--- what follows the prefix, where the text begins with it
+-- what follows the prefix, if the text begins with it
 abbrev pub after : List ℕ → List ℕ → Option (List ℕ)
 after prefix text = if begins_with prefix text then Some (drop (length prefix) text) else None
 
@@ -49,7 +49,7 @@ approval_of body =
     if is_either body (codes "r+") (codes "merge") then Some Approve
     else option_map ApproveFor (names_after (codes "r=") (codes "merge=") body)
 
--- the priority that a text is, and nothing where it is none
+-- the priority that a text is, and nothing if it is none
 abbrev pub priority_of : List ℕ → Option ℤ
 priority_of text = option_and_then number_of (after (codes "p=") text)
 

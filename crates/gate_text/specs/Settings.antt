@@ -103,7 +103,7 @@ settings_in table = do
 unfoldable pub settings_of : List ℕ → Result SettingsView SettingsFault
 settings_of text = ok_or (parse_document text) NotToml >>= settings_in
 
--- What is answered where `reading` is what the text says. Want of memory is `toml`'s to meet, which takes memory while it
+-- What is answered if `reading` is what the text says. Want of memory is `toml`'s to meet, which takes memory while it
 -- reads; every other refusal is the text's.
 abbrev pub Gives : {X : Type 0} → Result X SettingsFault → Result X SettingsFault → Type 0
 Gives (Ok value) reading = reading ≡ Ok value

@@ -26,7 +26,7 @@ abbrev pub unless_refused : {X : Type 0} → Option TextFault → Result X TextF
 unless_refused None result = result
 unless_refused (Some fault) result = Err fault
 
--- What `read` answers where `reading` is what the text says: the same, except that memory may be wanting for a text
+-- What `read` answers if `reading` is what the text says: the same, except that memory may be wanting for a text
 -- that is good. So a bad text is never answered `Memory`.
 abbrev pub Reads : {X : Type 0} → Result X TextFault → Result X TextFault → Type 0
 Reads (Ok value) reading = reading ≡ Ok value

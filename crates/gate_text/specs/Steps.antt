@@ -1,4 +1,4 @@
--- STEPS IN ORDER: one that may fail, and what follows it where it doesn't.
+-- STEPS IN ORDER: one that may fail, and what follows it if it doesn't.
 use Rattle.std.specs.Prelude.{Result, Ok, Err}
 
 infixl 10 ◌>>=◌

@@ -31,7 +31,7 @@ pub enum Command {
 }
 
 impl Command {
-    /// A copy, or `AllocError` where there is no memory for it.
+    /// A copy, or `AllocError` if there is no memory for it.
     pub fn copy(&self, alloc: Global) -> Result<Command, AllocError>
         ensures value { IfOk result (λ copy. copy ≡ self.now) }
     {

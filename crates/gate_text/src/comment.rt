@@ -67,7 +67,7 @@ fn spoken_lines(alloc: Global, text: &str) -> Result<Vec<Spoken>, AllocError>
     Ok(spoken)
 }
 
-/// Reads a comment: what its command lines say, in their order, or `AllocError` where there is no memory for it. Lines
+/// Reads a comment: what its command lines say, in their order, or `AllocError` if there is no memory for it. Lines
 /// end at a line feed, and one carriage return before it is dropped. A command line begins with `bors`, each letter in
 /// either case, and one space or colon; what follows, without spaces at its ends, is a command, an approval with a
 /// priority before it, or one `Unknown`. All other lines say nothing. Priorities are from -9,999 to 9,999, and lists have

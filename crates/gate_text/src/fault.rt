@@ -11,7 +11,7 @@ pub enum TextFault {
     #[error("the text is too long")]
     TooLong,
     /// No allowed byte stands at this place, counted from 0 in the text as handed in: it is that of the first byte that
-    /// isn't allowed or, where a commit has good digits but too few of them, its length.
+    /// isn't allowed or, if a commit has good digits but too few of them, its length.
     #[error("no allowed byte at place {0}")]
     BadByte(usize),
     /// The digits are no change number: they begin with `0`, or the number is too great.

@@ -43,7 +43,7 @@ impl Label {
         self.text.as_str()
     }
 
-    /// A copy, or `AllocError` where there is no memory for it.
+    /// A copy, or `AllocError` if there is no memory for it.
     pub fn copy(&self, alloc: Global) -> Result<Label, AllocError>
         ensures value { IfOk result (λ copy. copy ≡ self.now) }
     {

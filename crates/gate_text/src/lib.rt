@@ -20,8 +20,6 @@ mod plain;
 mod set;
 mod settings;
 mod spaces;
-#[cfg(test)]
-mod tests;
 mod text;
 
 pub use change_no::ChangeNo;

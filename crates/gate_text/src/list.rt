@@ -3,9 +3,9 @@ ghost use Rattle.std.specs.Prelude.{◌≡◌, IfOk};
 use std::alloc::{AllocError, Global};
 use std::marker::Model;
 
-/// What can be copied where there is memory for it.
+/// What can be copied if there is memory for it.
 pub trait TryCopy: Sized {
-    /// A copy, or `AllocError` where there is no memory for it.
+    /// A copy, or `AllocError` if there is no memory for it.
     fn try_copy(&self, alloc: Global) -> Result<Self, AllocError>
         ensures value { IfOk result (λ copy. copy ≡ self.now) };
 }
@@ -42,7 +42,7 @@ impl<T> List<T> {
 }
 
 impl<T: TryCopy + Drop> List<T> {
-    /// A copy, or `AllocError` where there is no memory for it.
+    /// A copy, or `AllocError` if there is no memory for it.
     pub fn copy(&self, alloc: Global) -> Result<List<T>, AllocError>
         ensures value { IfOk result (λ copy. copy ≡ self.now) }
     {

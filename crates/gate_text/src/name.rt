@@ -90,7 +90,7 @@ impl Name {
         self.text.as_str()
     }
 
-    /// A copy, or `AllocError` where there is no memory for it.
+    /// A copy, or `AllocError` if there is no memory for it.
     pub fn copy(&self, alloc: Global) -> Result<Name, AllocError>
         ensures value { IfOk result (λ copy. copy ≡ self.now) }
     {

@@ -60,7 +60,7 @@ impl<T> Set<T> {
         Ok(())
     }
 
-    /// A copy, or `AllocError` where there is no memory for it.
+    /// A copy, or `AllocError` if there is no memory for it.
     pub fn copy(&self, alloc: Global) -> Result<Set<T>, AllocError>
         ensures value { IfOk result (λ copy. copy ≡ self.now) }
     {
@@ -80,7 +80,7 @@ impl<T: Word> Set<T> {
         self.texts.contains(word.as_text())
     }
 
-    /// Adds the word. Where there is no memory for it, the set stays as it was.
+    /// Adds the word. If there is no memory for it, the set stays as it was.
     pub fn insert(&mut self, word: T) -> Result<(), AllocError>
         ensures ok { OnOk result (self.new ≡ set.insert self.old (T.bytes word)) }
         ensures err { OnErr result (self.new ≡ self.old) }

@@ -54,7 +54,7 @@ impl Settings {
         self.status.as_slice()
     }
 
-    /// After how many seconds a batch is given up: 1 to 2,147,483,647, and 3,600 where the text doesn't say it.
+    /// After how many seconds a batch is given up: 1 to 2,147,483,647, and 3,600 if the text doesn't say it.
     pub fn timeout_sec(&self) -> u32
         ensures value { result ≡ self.now.timeout_sec }
     {
@@ -62,28 +62,28 @@ impl Settings {
     }
 
     /// The labels that keep a change from being approved, in the order of the text: at most 64, no two the same, and none
-    /// where the text doesn't say it.
+    /// if the text doesn't say it.
     pub fn block_labels(&self) -> &[Label]
         ensures value { result.now ≡ self.now.block_labels }
     {
         self.block_labels.as_slice()
     }
 
-    /// How many reviews a change needs before it can be approved: 0 to 100, and 0 where the text doesn't say it.
+    /// How many reviews a change needs before it can be approved: 0 to 100, and 0 if the text doesn't say it.
     pub fn required_approvals(&self) -> u32
         ensures value { result ≡ self.now.required_approvals }
     {
         self.required_approvals
     }
 
-    /// How many changes a batch has at most: 1 to 1,000, or no limit where the text doesn't say it.
+    /// How many changes a batch has at most: 1 to 1,000, or no limit if the text doesn't say it.
     pub fn max_batch_size(&self) -> Option<u32>
         ensures value { result ≡ self.now.max_batch_size }
     {
         self.max_batch_size
     }
 
-    /// A copy, or `AllocError` where there is no memory for it.
+    /// A copy, or `AllocError` if there is no memory for it.
     pub fn copy(&self, alloc: Global) -> Result<Settings, AllocError>
         ensures value { IfOk result (λ copy. copy ≡ self.now) }
     {

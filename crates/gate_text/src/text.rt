@@ -24,7 +24,7 @@ impl Model for Text {
 }
 
 impl Text {
-    /// Keeps a copy of the text, or answers `AllocError` where there is no memory for it.
+    /// Keeps a copy of the text, or answers `AllocError` if there is no memory for it.
     pub fn from_str(alloc: Global, text: &str) -> Result<Text, AllocError>
         ensures value { IfOk result (λ kept. kept ≡ text.now) }
     {
@@ -40,7 +40,7 @@ impl Text {
         self.text.as_str()
     }
 
-    /// A copy, or `AllocError` where there is no memory for it.
+    /// A copy, or `AllocError` if there is no memory for it.
     pub fn copy(&self, alloc: Global) -> Result<Text, AllocError>
         ensures value { IfOk result (λ copy. copy ≡ self.now) }
     {

@@ -5,7 +5,6 @@ use crate::lines::{HookFault, serve_lines};
 use std::alloc::Global;
 use std::io::ErrorKind;
 use std::process::Abort;
-use std::test::Fail;
 
 // A call that is never reached.
 const NEVER: usize = usize::MAX;
@@ -25,12 +24,12 @@ fn first_bytes(text: &str, count: usize) -> &[u8] {
     &text.as_bytes()[..count.min(text.len())]
 }
 
-fn first_lines(alloc: Global, text: &str, count: usize) -> Result<String, Fail> {
+fn first_lines(rt: &impl Abort, alloc: Global, text: &str, count: usize) -> String {
     let mut lines = String::new(alloc);
     for line in text.split_inclusive('\n').take(count) {
-        lines.push_str(line)?;
+        lines.push_str(line).expect(rt, "memory");
     }
-    Ok(lines)
+    lines
 }
 
 fn source(input: &str, step: usize) -> Source<'_> {
@@ -59,7 +58,7 @@ fn serve(alloc: Global, source: &mut Source<'_>, sink: &mut Sink) -> Result<u64,
 }
 
 #[test]
-fn pieces_make_no_difference(rt: HostRuntime) -> Result<(), Fail> {
+fn pieces_make_no_difference(rt: HostRuntime) {
     for (step_in, step_out) in [(1, 1), (1, NEVER), (NEVER, 1), (3, 7), (64, 5)] {
         let mut source = source(INPUT, step_in);
         let mut sink = sink(rt.alloc(), step_out);
@@ -70,7 +69,6 @@ fn pieces_make_no_difference(rt: HostRuntime) -> Result<(), Fail> {
             "{step_in} {step_out}"
         );
     }
-    Ok(())
 }
 
 // How many reads there are of an input, the last of which finds its end.
@@ -86,7 +84,7 @@ fn check_bad_read(
     step: usize,
     bad_call: usize,
     kind: ErrorKind,
-) -> Result<(), Fail> {
+) {
     let mut source = source(input, step);
     source.bad_call = bad_call;
     source.kind = kind;
@@ -96,28 +94,26 @@ fn check_bad_read(
         assert_eq!(rt; answer, Err(HookFault::Read), "{step} {bad_call}");
         assert_eq!(rt; source.calls, bad_call.saturating_add(1));
         let complete = line_feeds(first_bytes(input, bad_call.saturating_mul(step)));
-        let due = first_lines(alloc, OUTPUT, complete)?;
+        let due = first_lines(rt, alloc, OUTPUT, complete);
         assert_eq!(rt; sink.held.as_slice(), due.as_bytes(), "{step} {bad_call}");
     } else {
         assert_eq!(rt; answer, Ok(5), "{step} {bad_call}");
         assert_eq!(rt; sink.held.as_slice(), OUTPUT.as_bytes());
     }
-    Ok(())
 }
 
 #[test]
-fn a_read_that_fails(rt: HostRuntime) -> Result<(), Fail> {
+fn a_read_that_fails(rt: HostRuntime) {
     let open_end = INPUT.trim_end();
     for kind in [ErrorKind::Interrupted, ErrorKind::BrokenPipe] {
         for input in [INPUT, open_end] {
             for step in [1, 50] {
                 for bad_call in 0..=reads(input, step) {
-                    check_bad_read(&rt, rt.alloc(), input, step, bad_call, kind)?;
+                    check_bad_read(&rt, rt.alloc(), input, step, bad_call, kind);
                 }
             }
         }
     }
-    Ok(())
 }
 
 const REFUSALS: [Refusal; 3] = [
@@ -134,7 +130,7 @@ fn check_bad_write(
     bad_call: usize,
     refusal: Refusal,
     due: &[u8],
-) -> Result<(), Fail> {
+) {
     let mut source = source(INPUT, 1);
     let mut sink = sink(alloc, step);
     sink.bad_call = bad_call;
@@ -144,38 +140,35 @@ fn check_bad_write(
     if due.len() < OUTPUT.len() {
         assert_eq!(rt; answer, Err(HookFault::Write), "{refusal:?} {bad_call}");
         let lines = line_feeds(due).saturating_add(1);
-        let read = first_lines(alloc, INPUT, lines)?.len();
+        let read = first_lines(rt, alloc, INPUT, lines).len();
         assert_eq!(rt; source.calls, read, "{refusal:?} {bad_call}");
     } else {
         assert_eq!(rt; answer, Ok(5), "{refusal:?} {bad_call}");
     }
-    Ok(())
 }
 
 #[test]
-fn a_write_of_a_whole_line_that_fails(rt: HostRuntime) -> Result<(), Fail> {
+fn a_write_of_a_whole_line_that_fails(rt: HostRuntime) {
     for refusal in REFUSALS {
         for bad_call in 0..=5 {
-            let due = first_lines(rt.alloc(), OUTPUT, bad_call)?;
-            check_bad_write(&rt, rt.alloc(), NEVER, bad_call, refusal, due.as_bytes())?;
+            let due = first_lines(&rt, rt.alloc(), OUTPUT, bad_call);
+            check_bad_write(&rt, rt.alloc(), NEVER, bad_call, refusal, due.as_bytes());
         }
     }
-    Ok(())
 }
 
 #[test]
-fn a_write_within_a_line_that_fails(rt: HostRuntime) -> Result<(), Fail> {
+fn a_write_within_a_line_that_fails(rt: HostRuntime) {
     for refusal in REFUSALS {
         for bad_call in 0..=OUTPUT.len() {
             let due = first_bytes(OUTPUT, bad_call);
-            check_bad_write(&rt, rt.alloc(), 1, bad_call, refusal, due)?;
+            check_bad_write(&rt, rt.alloc(), 1, bad_call, refusal, due);
         }
     }
-    Ok(())
 }
 
 #[test]
-fn a_last_line_that_is_not_written(rt: HostRuntime) -> Result<(), Fail> {
+fn a_last_line_that_is_not_written(rt: HostRuntime) {
     for refusal in REFUSALS {
         let mut source = source("\nhello", NEVER);
         let mut sink = sink(rt.alloc(), NEVER);
@@ -186,11 +179,10 @@ fn a_last_line_that_is_not_written(rt: HostRuntime) -> Result<(), Fail> {
         let due = "{\"error\":\"NotJson\",\"number\":1}\n";
         assert_eq!(rt; sink.held.as_slice(), due.as_bytes(), "{refusal:?}");
     }
-    Ok(())
 }
 
 #[test]
-fn a_bench_goes_on_after_a_failed_write(rt: HostRuntime) -> Result<(), Fail> {
+fn a_bench_goes_on_after_a_failed_write(rt: HostRuntime) {
     let mut bench = Bench::new(rt.alloc());
     let mut first = source(INPUT, 50);
     let mut written = sink(rt.alloc(), NEVER);
@@ -198,12 +190,11 @@ fn a_bench_goes_on_after_a_failed_write(rt: HostRuntime) -> Result<(), Fail> {
     let answer = serve_lines(rt.alloc(), &mut bench, &mut first, &mut written);
     assert_eq!(rt; answer, Err(HookFault::Write));
     let again =
-        r#"{"id":"d2","event":"opened","change":1,"author":"carol","head":"aaaaaaaaaaaaaaaaaaaaaaaaaaaaaaaaaaaaaaaa"}"#;
+        r#"{"id":"d5","event":"opened","change":1,"author":"carol","head":"aaaaaaaaaaaaaaaaaaaaaaaaaaaaaaaaaaaaaaaa"}"#;
     let mut second = source(again, NEVER);
     let mut text = sink(rt.alloc(), NEVER);
     let answer = serve_lines(rt.alloc(), &mut bench, &mut second, &mut text);
     assert_eq!(rt; answer, Ok(1));
     let due = "[{\"number\":12,\"rule\":\"AlreadyOpen\",\"verdict\":\"denied\"}]\n";
     assert_eq!(rt; text.held.as_slice(), due.as_bytes());
-    Ok(())
 }

@@ -1,114 +1,96 @@
 use super::{DONE, NOT_JSON, TOO_LONG, served};
 use std::alloc::Global;
-use std::test::Fail;
+use std::process::Abort;
 
 // The most bytes that a line may have.
 const MOST: usize = 65_536;
 
 const ROLE: &str = r#"{"id":"d1","event":"role","person":"alice","role":"reviewer"}"#;
 
-fn letters(alloc: Global, count: usize) -> Result<Vec<u8>, Fail> {
-    let mut line = Vec::new(alloc);
-    line.resize(count, b'a')?;
-    Ok(line)
+// A text, and then a letter so often that it has this length.
+fn padded(rt: &impl Abort, alloc: Global, text: &str, len: usize, letter: u8) -> Vec<u8> {
+    let mut line = text.as_bytes().to_vec(alloc).expect(rt, "memory");
+    line.resize(len, letter).expect(rt, "memory");
+    line
 }
 
-// A delivery with as many spaces after it as fill the length.
-fn padded(alloc: Global, len: usize) -> Result<Vec<u8>, Fail> {
-    let mut line = ROLE.as_bytes().to_vec(alloc)?;
-    line.resize(len, b' ')?;
-    Ok(line)
-}
-
-#[test]
-fn how_long_a_line_may_be(rt: HostRuntime) -> Result<(), Fail> {
-    for (line, answer) in [
-        (letters(rt.alloc(), MOST)?, NOT_JSON),
-        (letters(rt.alloc(), 65_537)?, TOO_LONG),
-        (letters(rt.alloc(), 65_538)?, TOO_LONG),
-        (letters(rt.alloc(), 200_000)?, TOO_LONG),
-        (padded(rt.alloc(), MOST)?, DONE),
-        (padded(rt.alloc(), 65_537)?, TOO_LONG),
-    ] {
-        let want = format!(in rt.alloc(); "{answer}\n")?;
-        let len = line.len();
-        let (count, written) = served(rt.alloc(), line.as_slice())?;
-        assert_eq!(rt;
-            (count, written.as_str()),
-            (1, want.as_str()),
-            "without a line feed: {len}"
-        );
-
-        let mut ended = line;
-        ended.push(b'\n')?;
-        let (count, written) = served(rt.alloc(), ended.as_slice())?;
-        assert_eq!(rt;
-            (count, written.as_str()),
-            (1, want.as_str()),
-            "with a line feed: {len}"
-        );
-    }
-    Ok(())
+// A line of this length is answered so, with a line feed and without one.
+fn check_line(rt: &impl Abort, alloc: Global, text: &str, len: usize, answer: &str) {
+    let letter = if text.is_empty() { b'a' } else { b' ' };
+    let mut line = padded(rt, alloc, text, len, letter);
+    let due = format!(in alloc; "{answer}\n").expect(rt, "memory");
+    assert_eq!(rt;
+        served(rt, alloc, line.as_slice(), 1),
+        due,
+        "without a line feed: {len}"
+    );
+    line.push(b'\n').expect(rt, "memory");
+    assert_eq!(rt;
+        served(rt, alloc, line.as_slice(), 1),
+        due,
+        "with a line feed: {len}"
+    );
 }
 
 #[test]
-fn a_line_after_one_that_is_too_long(rt: HostRuntime) -> Result<(), Fail> {
+fn how_long_a_line_may_be(rt: HostRuntime) {
+    check_line(&rt, rt.alloc(), "", MOST, NOT_JSON);
+    check_line(&rt, rt.alloc(), "", 65_537, TOO_LONG);
+    check_line(&rt, rt.alloc(), "", 65_538, TOO_LONG);
+    check_line(&rt, rt.alloc(), "", 200_000, TOO_LONG);
+    check_line(&rt, rt.alloc(), ROLE, MOST, DONE);
+    check_line(&rt, rt.alloc(), ROLE, 65_537, TOO_LONG);
+}
+
+// Letters, then a text, are answered so.
+fn check_after(rt: &impl Abort, alloc: Global, letters: usize, text: &str, answers: (u64, &str)) {
+    let mut input = padded(rt, alloc, "", letters, b'a');
+    input
+        .extend_from_slice(text.as_bytes())
+        .expect(rt, "memory");
+    let written = served(rt, alloc, input.as_slice(), answers.0);
+    assert_eq!(rt; written.as_str(), answers.1, "{letters}");
+}
+
+#[test]
+fn what_comes_behind_a_line_that_is_too_long(rt: HostRuntime) {
+    let lines = format!(in rt.alloc(); "\n{ROLE}\nhello\n").expect(&rt, "memory");
+    let due = format!(in rt.alloc(); "{TOO_LONG}\n{DONE}\n{NOT_JSON}\n").expect(&rt, "memory");
     for len in [65_537, 73_728, 200_000] {
-        let mut input = letters(rt.alloc(), len)?;
-        input.push(b'\n')?;
-        input.extend_from_slice(ROLE.as_bytes())?;
-        input.extend_from_slice(b"\nhello\n")?;
-        let want = format!(in rt.alloc(); "{TOO_LONG}\n{DONE}\n{NOT_JSON}\n")?;
-        let (count, written) = served(rt.alloc(), input.as_slice())?;
-        assert_eq!(rt; (count, written.as_str()), (3, want.as_str()), "{len}");
+        check_after(&rt, rt.alloc(), len, lines.as_str(), (3, due.as_str()));
     }
-    Ok(())
-}
-
-#[test]
-fn a_line_that_is_too_long_is_one_line(rt: HostRuntime) -> Result<(), Fail> {
     // The bytes past the most would be a delivery of their own.
+    let due = format!(in rt.alloc(); "{TOO_LONG}\n").expect(&rt, "memory");
     for len in [MOST, 65_537, 131_072] {
-        let mut input = letters(rt.alloc(), len)?;
-        input.extend_from_slice(ROLE.as_bytes())?;
-        input.push(b'\n')?;
-        let want = format!(in rt.alloc(); "{TOO_LONG}\n")?;
-        let (count, written) = served(rt.alloc(), input.as_slice())?;
-        assert_eq!(rt; (count, written.as_str()), (1, want.as_str()), "{len}");
+        check_after(&rt, rt.alloc(), len, ROLE, (1, due.as_str()));
     }
-    Ok(())
 }
 
 #[test]
-fn where_lines_end(rt: HostRuntime) -> Result<(), Fail> {
-    let error = format!(in rt.alloc(); "{NOT_JSON}\n")?;
-    let two_errors = format!(in rt.alloc(); "{NOT_JSON}\n{NOT_JSON}\n")?;
-    for (input, count, text) in [
-        ("", 0, ""),
-        ("\n", 1, error.as_str()),
-        ("\n\n", 2, two_errors.as_str()),
-        ("hello", 1, error.as_str()),
-        ("\nhello", 2, two_errors.as_str()),
-        ("hello\n", 1, error.as_str()),
-        ("\r", 1, error.as_str()),
-        ("\r\n", 1, error.as_str()),
-        ("one\rtwo", 1, error.as_str()),
+fn where_lines_end(rt: HostRuntime) {
+    for (input, count) in [
+        ("", 0),
+        ("\n", 1),
+        ("\n\n", 2),
+        ("hello", 1),
+        ("\nhello", 2),
+        ("hello\n", 1),
+        ("\r", 1),
+        ("\r\n", 1),
+        ("one\rtwo", 1),
     ] {
-        let answered = served(rt.alloc(), input.as_bytes())?;
+        let due = match count {
+            0 => String::new(rt.alloc()),
+            1 => format!(in rt.alloc(); "{NOT_JSON}\n").expect(&rt, "memory"),
+            _ => format!(in rt.alloc(); "{NOT_JSON}\n{NOT_JSON}\n").expect(&rt, "memory"),
+        };
         assert_eq!(rt;
-            (answered.0, answered.1.as_str()),
-            (count, text),
+            served(&rt, rt.alloc(), input.as_bytes(), count),
+            due,
             "{input:?}"
         );
     }
-    Ok(())
-}
-
-#[test]
-fn a_last_line_without_a_line_feed(rt: HostRuntime) -> Result<(), Fail> {
-    let input = format!(in rt.alloc(); "hello\n{ROLE}")?;
-    let (count, written) = served(rt.alloc(), input.as_bytes())?;
-    let want = format!(in rt.alloc(); "{NOT_JSON}\n{DONE}\n")?;
-    assert_eq!(rt; (count, written.as_str()), (2, want.as_str()));
-    Ok(())
+    let due = format!(in rt.alloc(); "{NOT_JSON}\n{DONE}\n").expect(&rt, "memory");
+    let input = format!(in rt.alloc(); "hello\n{ROLE}").expect(&rt, "memory");
+    assert_eq!(rt; served(&rt, rt.alloc(), input.as_bytes(), 2), due);
 }

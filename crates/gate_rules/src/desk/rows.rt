@@ -38,7 +38,7 @@ impl Desk {
     }
 
     /// The rule that denies what a person's line about a change says: the first of its rules that fails, and nothing
-    /// where all hold. `AllocError` comes only where the rule names a label, which is a copy.
+    /// if all hold. `AllocError` comes only if the rule names a label, which is a copy.
     pub fn rule(
         &self,
         alloc: Global,

@@ -12,7 +12,7 @@ use crate::names::{Contexts, Labels};
 use std::alloc::Global;
 use toml::{Table, Value};
 
-// After how many seconds a batch is given up where the text doesn't say it, as in bors-ng.
+// After how many seconds a batch is given up if the text doesn't say it, as in bors-ng.
 const DEFAULT_TIMEOUT_SEC: u32 = 3600;
 
 // The greatest number of seconds that can be asked for.

@@ -1,0 +1,120 @@
+use crate::readers::{change, commit, cut, label, name, number};
+use gate_queue::{Act, Order, Reply};
+use gate_rules::{Change, Role, Rule};
+use gate_text::{ChangeNo, Spoken, Text, read_comment};
+use std::alloc::Global;
+use std::process::Abort;
+
+fn spoken(rt: &impl Abort, alloc: Global, line: &str) -> Spoken {
+    let mut spoken = read_comment(alloc, line).expect(rt, "memory");
+    spoken.pop().expect(rt, "a command line")
+}
+
+fn role(word: &str) -> Role {
+    match word {
+        "reviewer" => Role::Reviewer,
+        "member" => Role::Member,
+        _ => Role::Nobody,
+    }
+}
+
+// The act of a line: a fact's name and its fields, or `1 alice bors r+` for a comment.
+pub fn read_act(rt: &impl Abort, alloc: Global, line: &str) -> Act {
+    let (word, rest) = cut(line);
+    let (first, fields) = cut(rest);
+    match word {
+        "role" => Act::Role {
+            person: name(rt, alloc, first),
+            role: role(fields),
+        },
+        "settings" => Act::Settings {
+            text: Text::from_str(alloc, rest).expect(rt, "memory"),
+        },
+        "base" => Act::Base {
+            commit: commit(rt, alloc, rest),
+        },
+        "opened" | "pushed" | "closed" | "labeled" | "unlabeled" | "review" => {
+            read_fact(rt, alloc, word, number(rt, first), fields)
+        }
+        change_word => Act::Spoken {
+            change: number(rt, change_word),
+            person: name(rt, alloc, first),
+            spoken: spoken(rt, alloc, fields),
+        },
+    }
+}
+
+// The act of a fact on a change.
+fn read_fact(rt: &impl Abort, alloc: Global, word: &str, change: ChangeNo, fields: &str) -> Act {
+    let (first, rest) = cut(fields);
+    match word {
+        "opened" => Act::Opened {
+            change,
+            author: name(rt, alloc, first),
+            head: commit(rt, alloc, rest),
+        },
+        "pushed" => Act::Pushed {
+            change,
+            head: commit(rt, alloc, first),
+        },
+        "labeled" => Act::Labeled {
+            change,
+            label: label(rt, alloc, fields),
+        },
+        "unlabeled" => Act::Unlabeled {
+            change,
+            label: label(rt, alloc, fields),
+        },
+        "review" => read_review(rt, alloc, change, first, rest),
+        _ => Act::Closed { change },
+    }
+}
+
+fn read_review(rt: &impl Abort, alloc: Global, change: ChangeNo, person: &str, rest: &str) -> Act {
+    let (head, answer) = cut(rest);
+    Act::Review {
+        change,
+        person: name(rt, alloc, person),
+        head: commit(rt, alloc, head),
+        approves: answer == "yes",
+    }
+}
+
+// A reply in words: `done` with the notices, or the rule with what it names.
+pub fn shown(rt: &impl Abort, alloc: Global, reply: &Reply) -> String {
+    match reply {
+        Reply::Done(orders) => shown_orders(rt, alloc, orders.as_slice()),
+        Reply::Denied(rule) => shown_rule(rt, alloc, rule),
+    }
+}
+
+fn shown_orders(rt: &impl Abort, alloc: Global, orders: &[Order]) -> String {
+    let mut words = String::from_str(alloc, "done").expect(rt, "memory");
+    for order in orders {
+        let Order::Notice { change, why } = order;
+        write!(words, " {} {why:?}", change.number()).expect(rt, "memory");
+    }
+    words
+}
+
+fn shown_rule(rt: &impl Abort, alloc: Global, rule: &Rule) -> String {
+    let word = rule.word();
+    let words = match rule {
+        Rule::NotPermitted(level) => format!(in alloc; "{word} {}", level.word()),
+        Rule::Blocked(label) => format!(in alloc; "{word} {}", label.text()),
+        Rule::TooFewReviews(have, need) => format!(in alloc; "{word} {have} {need}"),
+        Rule::BadSettings(number) => format!(in alloc; "{word} {number}"),
+        _ => String::from_str(alloc, word),
+    };
+    words.expect(rt, "memory")
+}
+
+// The change of a line: its number, and then `none`, or what `change` of the readers takes.
+pub fn read_change(rt: &impl Abort, alloc: Global, line: &str) -> (ChangeNo, Option<Change>) {
+    let (word, rest) = cut(line);
+    let found = match rest {
+        "none" => None,
+        fields => Some(change(rt, alloc, fields)),
+    };
+    (number(rt, word), found)
+}

@@ -1,0 +1,6 @@
+mod desks;
+mod fitness;
+mod levels;
+mod rows;
+mod same;
+mod words;

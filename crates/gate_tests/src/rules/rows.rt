@@ -1,0 +1,125 @@
+use super::desks::{desk, strict};
+use super::words::check_rules;
+use crate::readers::commit;
+use gate_rules::Desk;
+use gate_text::read_settings;
+use std::alloc::Global;
+use std::process::Abort;
+
+// Change 1 is open, 2 open and approved, 3 closed, 4 landed.
+const PLAIN: &[&str] = &[
+    "1 carol a opened 0 - - - - -",
+    "2 carol a opened 0 - - - alice r+",
+    "3 carol a closed 0 - - - - -",
+    "4 carol a landed 0 - - - - -",
+];
+
+#[test]
+fn rows_without_settings(rt: HostRuntime) {
+    let desk = desk(&rt, rt.alloc(), PLAIN);
+    let table = "
+        eve 1 bors ping => done
+        eve 4 bors ping => done
+        eve 9 bors ping => 1 UnknownChange
+        alice 9 bors dance => 1 UnknownChange
+        eve 1 bors dance => 2 NotACommand
+        eve 9 bors r+ => 1 UnknownChange
+        eve 3 bors r+ => 3 NotPermitted ReviewerOrDelegate
+        mia 1 bors r+ => 3 NotPermitted ReviewerOrDelegate
+        carol 1 bors r- => 3 NotPermitted ReviewerOrDelegate
+        alice 3 bors r+ => 4 NotOpen
+        alice 4 bors r- => 4 NotOpen
+        alice 1 bors r+ => 7 NoSettings
+        alice 2 bors r=zoe => 7 NoSettings
+        alice 1 bors r- => 9 NotApproved
+        alice 2 bors r- => done
+        // Commands that are still to come.
+        alice 1 bors try => 2 NotACommand
+        alice 3 bors try- => 2 NotACommand
+        eve 1 bors retry => 2 NotACommand
+        alice 9 bors try => 1 UnknownChange
+    ";
+    check_rules(&rt, rt.alloc(), &desk, table);
+}
+
+#[test]
+fn rows_without_a_base(rt: HostRuntime) {
+    let mut desk = desk(&rt, rt.alloc(), PLAIN);
+    let settings = read_settings(rt.alloc(), "status = ['ci']").expect(&rt, "settings");
+    desk.set_settings(settings);
+    let table = "
+        alice 1 bors r+ => 8 NoBase
+        alice 2 bors r=zoe => 8 NoBase
+        // What comes before in the row is still named first, and other commands need no base.
+        alice 3 bors r+ => 4 NotOpen
+        alice 2 bors r- => done
+        alice 1 bors p=5 => done
+        alice 1 bors d+ => done
+    ";
+    check_rules(&rt, rt.alloc(), &desk, table);
+}
+
+// A desk with strict settings and a base. Change 1 is fit, and so is 2, which is approved.
+fn strict_desk(rt: &impl Abort, alloc: Global) -> Desk {
+    let changes = [
+        "1 carol a opened 0 bug mia,zoe - - -",
+        "2 carol a opened 0 - mia,zoe - alice r+",
+        "3 carol a closed 0 - - - - -",
+        "4 carol a landed 0 - - - - -",
+        "5 carol a opened 0 wip,hold mia,zoe - - -",
+        "6 carol a opened 0 bug,wip - - - -",
+        "7 carol a opened 0 - - - - -",
+        "8 carol a opened 0 Hold mia - - -",
+        "10 carol a opened 0 wip - - alice r+",
+    ];
+    let mut desk = desk(rt, alloc, changes.as_slice());
+    desk.set_settings(strict(rt, alloc));
+    desk.set_base(commit(rt, alloc, "0"));
+    desk
+}
+
+#[test]
+fn rows_of_approvals(rt: HostRuntime) {
+    let desk = strict_desk(&rt, rt.alloc());
+    let table = "
+        eve 9 bors r+ => 1 UnknownChange
+        mia 3 bors r=zoe => 3 NotPermitted ReviewerOrDelegate
+        alice 3 bors r+ => 4 NotOpen
+        alice 4 bors r=zoe,mia => 4 NotOpen
+        alice 2 bors r+ => 9 AlreadyApproved
+        alice 10 bors r=zoe,mia => 9 AlreadyApproved
+        alice 5 bors r+ => 10 Blocked hold
+        alice 6 bors r=zoe,mia => 10 Blocked wip
+        alice 7 bors r+ => 11 TooFewReviews 0 2
+        alice 8 bors r=zoe,mia => 11 TooFewReviews 1 2
+        alice 1 bors r+ => done
+        alice 1 bors r=zoe,mia => done
+    ";
+    check_rules(&rt, rt.alloc(), &desk, table);
+}
+
+#[test]
+fn rows_of_other_commands(rt: HostRuntime) {
+    let desk = strict_desk(&rt, rt.alloc());
+    let table = "
+        eve 9 bors r- => 1 UnknownChange
+        mia 2 bors r- => 3 NotPermitted ReviewerOrDelegate
+        alice 3 bors r- => 4 NotOpen
+        alice 5 bors r- => 9 NotApproved
+        alice 10 bors r- => done
+        eve 9 bors p=1 => 1 UnknownChange
+        mia 3 bors p=1 => 3 NotPermitted ReviewerOrDelegate
+        alice 4 bors p=1 => 4 NotOpen
+        alice 6 bors p=1 => done
+        eve 9 bors d=zoe => 1 UnknownChange
+        mia 4 bors d=zoe => 3 NotPermitted Reviewer
+        alice 3 bors d+ => 4 NotOpen
+        alice 3 bors d- => 4 NotOpen
+        alice 7 bors d+ => done
+        alice 7 bors d- => done
+        alice 10 bors d=zoe => done
+        eve 7 bors ping => done
+        alice 7 bors dance => 2 NotACommand
+    ";
+    check_rules(&rt, rt.alloc(), &desk, table);
+}
