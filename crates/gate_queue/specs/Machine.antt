@@ -85,14 +85,6 @@ abbrev pub RefusalMayWantMemory : Act → Option Rule → Type 0
 RefusalMayWantMemory (Settings text) rule = ⊤
 RefusalMayWantMemory act rule = rules.MayWantMemory rule
 
--- whether an act allocates nothing, whatever it is answered
-abbrev pub TakesNoMemory : Act → Type 0
-TakesNoMemory (Spoken change person Unknown) = ⊤
-TakesNoMemory (Spoken change person (Known Ping)) = ⊤
-TakesNoMemory (Role person Nobody) = ⊤
-TakesNoMemory (Base commit) = ⊤
-TakesNoMemory act = ⊥
-
 -- WHAT AN ACT DOES TO ITS CHANGE
 abbrev pub approved_by : List (List ℕ) → Repeat → Change → Change
 approved_by approvers last change = record change { approved = Some approvers; last = Some last }
@@ -235,6 +227,33 @@ orders desk (Role person role) = []
 orders desk (Base commit) = []
 orders desk (Opened change author head) = []
 orders desk (Unlabeled change label) = []
+
+-- WHAT TAKES NO MEMORY: an act that adds nothing to a list, a set or a map, and gives no notice
+abbrev pub CommandTakesNoMemory : Command → Type 0
+CommandTakesNoMemory Ping = ⊤
+CommandTakesNoMemory Withdraw = ⊤
+CommandTakesNoMemory (Priority priority) = ⊤
+CommandTakesNoMemory DelegateNone = ⊤
+CommandTakesNoMemory Approve = ⊥
+CommandTakesNoMemory (ApproveFor names) = ⊥
+CommandTakesNoMemory DelegateAuthor = ⊥
+CommandTakesNoMemory (DelegateTo names) = ⊥
+CommandTakesNoMemory Try = ⊤
+CommandTakesNoMemory TryCancel = ⊤
+CommandTakesNoMemory Retry = ⊤
+
+abbrev pub TakesNoMemory : DeskView → Act → Type 0
+TakesNoMemory desk (Spoken change person (Known command)) = CommandTakesNoMemory command
+TakesNoMemory desk (Spoken change person Unknown) = ⊤
+TakesNoMemory desk (Role person role) = role ≡ Nobody
+TakesNoMemory desk (Settings text) = ⊥
+TakesNoMemory desk (Base commit) = ⊤
+TakesNoMemory desk (Opened change author head) = ⊥
+TakesNoMemory desk (Pushed change head) = orders desk (Pushed change head) ≡ []
+TakesNoMemory desk (Closed change) = orders desk (Closed change) ≡ []
+TakesNoMemory desk (Labeled change label) = ⊥
+TakesNoMemory desk (Unlabeled change label) = ⊤
+TakesNoMemory desk (Review change person head approves) = ⊥
 
 -- A STEP: an act that a rule denies is answered the first that does, and changes nothing.
 abbrev pub answered : Option Rule → List Order → Reply

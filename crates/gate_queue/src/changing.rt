@@ -1,4 +1,4 @@
-ghost use Rattle.std.specs.Prelude.{◌≡◌, [], not, ◌&&◌, Some, is_some, IfOk, OnOk};
+ghost use Rattle.std.specs.Prelude.{◌≡◌, [], not, ◌&&◌, Some, is_some, false, IfOk, IsOk, OnOk};
 ghost use Rattle.std.specs.FinMap as finite;
 ghost use Rattle.std.specs.FinSet as set;
 ghost use Rattle.std.specs.List.{fold};
@@ -19,6 +19,26 @@ pub fn no_orders(alloc: Global) -> Orders
     Orders::from(Vec::new(alloc))
 }
 
+// A notice, if an approval has ended.
+fn ending_notice(
+    alloc: Global,
+    has_ended: bool,
+    number: ChangeNo,
+    why: Why,
+) -> Result<Orders, AllocError>
+    ensures value { IfOk result (λ orders. orders ≡ machine.notice_if has_ended number why) }
+    ensures no_memory { has_ended ≡ false → IsOk result }
+{
+    let mut orders = Vec::new(alloc);
+    if has_ended {
+        orders.push(Order::Notice {
+            change: number,
+            why,
+        })?;
+    }
+    Ok(Orders::from(orders))
+}
+
 // Keeps a change that was altered, and gives a notice if its approval has ended.
 fn keep(
     desk: &mut Desk,
@@ -31,75 +51,51 @@ fn keep(
     ensures desk { OnOk result (desk.new ≡ with_change desk.old number change) }
     ensures orders { IfOk result (λ orders. orders ≡ notice_if (was_approved && not (is_some change.approved)) number why) }
 {
-    let mut orders = Vec::new(alloc);
-    if was_approved && change.approved.is_none() {
-        orders.push(Order::Notice {
-            change: number,
-            why,
-        })?;
-    }
+    let has_ended = was_approved && change.approved.is_none();
+    let orders = ending_notice(alloc, has_ended, number, why)?;
     desk.keep_change(number, change)?;
-    Ok(Orders::from(orders))
+    Ok(orders)
 }
 
 /// Approves a change in the name of these people.
-pub fn approve(
-    desk: &mut Desk,
-    alloc: Global,
-    number: ChangeNo,
-    approvers: Names,
-    last: Repeat,
-) -> Result<(), AllocError>
-    ensures { OnOk result (desk.new ≡ altered desk.old number (machine.approved_by approvers last)) }
+pub fn approve(desk: &mut Desk, number: ChangeNo, approvers: Names, last: Repeat)
+    ensures { desk.new ≡ altered desk.old number (machine.approved_by approvers last) }
 {
-    let Some(change) = desk.change(number) else {
-        return Ok(());
-    };
-    let mut change = change.copy(alloc)?;
-    change.approved = Some(approvers);
-    change.last = Some(last);
-    desk.keep_change(number, change)
+    desk.alter(number, |change| {
+        change.approved = Some(approvers);
+        change.last = Some(last);
+    });
 }
 
 /// Ends the approval of a change.
-pub fn withdraw(desk: &mut Desk, alloc: Global, number: ChangeNo) -> Result<(), AllocError>
-    ensures { OnOk result (desk.new ≡ altered desk.old number without_approval) }
+pub fn withdraw(desk: &mut Desk, number: ChangeNo)
+    ensures { desk.new ≡ altered desk.old number without_approval }
 {
-    let Some(change) = desk.change(number) else {
-        return Ok(());
-    };
-    let mut change = change.copy(alloc)?;
-    change.approved = None;
-    desk.keep_change(number, change)
+    desk.alter(number, |change| change.approved = None);
 }
 
 /// Sets the priority of a change.
-pub fn set_priority(
-    desk: &mut Desk,
-    alloc: Global,
-    number: ChangeNo,
-    priority: i32,
-) -> Result<(), AllocError>
-    ensures { OnOk result (desk.new ≡ altered desk.old number (machine.with_priority priority)) }
+pub fn set_priority(desk: &mut Desk, number: ChangeNo, priority: i32)
+    ensures { desk.new ≡ altered desk.old number (machine.with_priority priority) }
 {
-    let Some(change) = desk.change(number) else {
-        return Ok(());
-    };
-    let mut change = change.copy(alloc)?;
-    change.priority = priority;
-    desk.keep_change(number, change)
+    desk.alter(number, |change| change.priority = priority);
 }
 
 /// Makes the author of a change its delegate.
 pub fn delegate_author(desk: &mut Desk, alloc: Global, number: ChangeNo) -> Result<(), AllocError>
     ensures { OnOk result (desk.new ≡ altered desk.old number machine.with_author_as_delegate) }
 {
-    let Some(change) = desk.change(number) else {
-        return Ok(());
-    };
-    let mut change = change.copy(alloc)?;
-    change.delegates.insert(change.author.copy(alloc)?)?;
-    desk.keep_change(number, change)
+    match desk.alter(number, |change| add_author(change, alloc)) {
+        Some(added) => added,
+        None => Ok(()),
+    }
+}
+
+fn add_author(change: &mut Change, alloc: Global) -> Result<(), AllocError>
+    ensures { OnOk result (change.new ≡ machine.with_author_as_delegate change.old) }
+{
+    let author = change.author.copy(alloc)?;
+    change.delegates.insert(author)
 }
 
 /// Makes these people delegates of a change.
@@ -111,12 +107,12 @@ pub fn delegate_to(
 ) -> Result<(), AllocError>
     ensures { OnOk result (desk.new ≡ altered desk.old number (machine.with_delegates names.now)) }
 {
-    let Some(change) = desk.change(number) else {
-        return Ok(());
-    };
-    let mut change = change.copy(alloc)?;
-    add_all(&mut change.delegates, alloc, names.as_slice())?;
-    desk.keep_change(number, change)
+    match desk.alter(number, |change| {
+        add_all(&mut change.delegates, alloc, names.as_slice())
+    }) {
+        Some(added) => added,
+        None => Ok(()),
+    }
 }
 
 // Adds copies of the names.
@@ -130,15 +126,10 @@ fn add_all(delegates: &mut NameSet, alloc: Global, names: &[Name]) -> Result<(),
 }
 
 /// Takes all delegations of a change back.
-pub fn delegate_none(desk: &mut Desk, alloc: Global, number: ChangeNo) -> Result<(), AllocError>
-    ensures { OnOk result (desk.new ≡ altered desk.old number machine.without_delegates) }
+pub fn delegate_none(desk: &mut Desk, alloc: Global, number: ChangeNo)
+    ensures { desk.new ≡ altered desk.old number machine.without_delegates }
 {
-    let Some(change) = desk.change(number) else {
-        return Ok(());
-    };
-    let mut change = change.copy(alloc)?;
-    change.delegates = NameSet::new(alloc);
-    desk.keep_change(number, change)
+    desk.alter(number, |change| change.delegates = NameSet::new(alloc));
 }
 
 /// Opens a change, for the first time or again.
@@ -194,40 +185,46 @@ pub fn push(
 ) -> Result<Orders, AllocError>
     ensures desk { OnOk result (desk.new ≡ altered desk.old number (machine.pushed head)) }
     ensures orders { IfOk result (λ orders. orders ≡ notice_of desk.old number why.Pushed (machine.pushed head)) }
+    ensures no_memory { notice_of desk.old number why.Pushed (machine.pushed head) ≡ [] → IsOk result }
 {
-    let Some(change) = desk.change(number) else {
-        return Ok(no_orders(alloc));
-    };
-    let was_approved = change.approved.is_some();
-    let mut change = change.copy(alloc)?;
-    if change.head != head {
-        change = moved_to(change, alloc, head);
-    }
-    keep(desk, alloc, number, was_approved, change, Why::Pushed)
+    let has_ended = desk.alter(number, |change| move_to(change, alloc, head));
+    ending_notice(alloc, has_ended.unwrap_or(false), number, Why::Pushed)
 }
 
-fn moved_to(mut change: Change, alloc: Global, head: Commit) -> Change
-    ensures { result ≡ machine.moved_to head change }
+// Whether the approval of the change has ended by its new head.
+fn move_to(change: &mut Change, alloc: Global, head: Commit) -> bool
+    ensures change { change.new ≡ machine.pushed head change.old }
+    ensures ended { result ≡ machine.ends_approval (machine.pushed head) change.old }
 {
+    if change.head == head {
+        return false;
+    }
+    let was_approved = change.approved.is_some();
     change.head = head;
     change.reviews = NameSet::new(alloc);
     change.approved = None;
-    change
+    was_approved
 }
 
 /// Closes a change.
 pub fn close(desk: &mut Desk, alloc: Global, number: ChangeNo) -> Result<Orders, AllocError>
     ensures desk { OnOk result (desk.new ≡ altered desk.old number machine.closed) }
     ensures orders { IfOk result (λ orders. orders ≡ notice_of desk.old number why.Closed machine.closed) }
+    ensures no_memory { notice_of desk.old number why.Closed machine.closed ≡ [] → IsOk result }
 {
-    let Some(change) = desk.change(number) else {
-        return Ok(no_orders(alloc));
-    };
+    let has_ended = desk.alter(number, shut);
+    ending_notice(alloc, has_ended.unwrap_or(false), number, Why::Closed)
+}
+
+// Whether the approval of the change has ended by its closing.
+fn shut(change: &mut Change) -> bool
+    ensures change { change.new ≡ machine.closed change.old }
+    ensures ended { result ≡ machine.ends_approval machine.closed change.old }
+{
     let was_approved = change.approved.is_some();
-    let mut change = change.copy(alloc)?;
     change.phase = Phase::Closed;
     change.approved = None;
-    keep(desk, alloc, number, was_approved, change, Why::Closed)
+    was_approved
 }
 
 /// Gives a change a label. A blocking one ends its approval.
@@ -255,20 +252,10 @@ pub fn add_label(
 }
 
 /// Takes a label from a change.
-pub fn remove_label(
-    desk: &mut Desk,
-    alloc: Global,
-    number: ChangeNo,
-    label: &Label,
-) -> Result<(), AllocError>
-    ensures { OnOk result (desk.new ≡ altered desk.old number (machine.without_label label.now)) }
+pub fn remove_label(desk: &mut Desk, number: ChangeNo, label: &Label)
+    ensures { desk.new ≡ altered desk.old number (machine.without_label label.now) }
 {
-    let Some(change) = desk.change(number) else {
-        return Ok(());
-    };
-    let mut change = change.copy(alloc)?;
-    change.labels.remove(label);
-    desk.keep_change(number, change)
+    desk.alter(number, |change| change.labels.remove(label));
 }
 
 /// Adds a person to the reviews of a change, or takes the person from them. Too few reviews end its approval.

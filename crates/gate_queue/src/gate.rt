@@ -61,7 +61,7 @@ impl Gate {
         ensures refused { IfErr result (λ _. (rule : Rule) → broken (look self.desk) act.now ≡ Some rule → RefusalMayWantMemory act.now (Some rule)) }
 
         // An act that allocates nothing is always answered.
-        ensures no_memory { TakesNoMemory act.now → IsOk result }
+        ensures no_memory { TakesNoMemory self.desk act.now → IsOk result }
     {
         match step(self.desk, alloc, act) {
             Ok((desk, reply)) => Ok((Gate { desk }, reply)),
@@ -97,7 +97,7 @@ impl Gate {
 fn step(mut desk: Desk, alloc: Global, act: &Act) -> Result<(Desk, Reply), AllocError>
     ensures step { IfOk result (λ done. Step (record { desk = desk }) act.now done.1 (record { desk = done.0 })) }
     ensures refused { IfErr result (λ _. (rule : Rule) → broken (look desk) act.now ≡ Some rule → RefusalMayWantMemory act.now (Some rule)) }
-    ensures no_memory { TakesNoMemory act.now → IsOk result }
+    ensures no_memory { TakesNoMemory desk act.now → IsOk result }
 {
     if let Some(rule) = rule_of(&desk, alloc, act)? {
         return Ok((desk, Reply::Denied(rule)));

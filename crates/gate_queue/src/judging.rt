@@ -15,7 +15,7 @@ use std::alloc::{AllocError, Global};
 pub fn rule_of(desk: &Desk, alloc: Global, act: &Act) -> Result<Option<Rule>, AllocError>
     ensures value { IfOk result (λ rule. rule ≡ broken (look desk.now) act.now) }
     ensures cause { IfErr result (λ _. RefusalMayWantMemory act.now (broken (look desk.now) act.now)) }
-    ensures no_memory { TakesNoMemory act.now → IsOk result }
+    ensures no_memory { TakesNoMemory desk.now act.now → IsOk result }
 {
     match act {
         Act::Spoken {

@@ -1,9 +1,8 @@
 ghost use Rattle.std.specs.Prelude.{◌≡◌, IfOk, OnOk, IsNone, IsOk};
 ghost use Rattle.gate_text.specs.Settings.{settings_of};
-ghost use Rattle.gate_text.specs.declared.command.Command.TheVariants.{Ping};
 ghost use Rattle.gate_rules.specs.View.{look};
 ghost use Rattle.gate_queue.specs.Machine as machine;
-ghost use Rattle.gate_queue.specs.Machine.{TakesNoMemory, broken, effect, command_effect, with_accepted, accepted_notices, with_new_settings, new_settings_notices, are_present, settings_notices};
+ghost use Rattle.gate_queue.specs.Machine.{CommandTakesNoMemory, TakesNoMemory, broken, effect, command_effect, with_accepted, accepted_notices, with_new_settings, new_settings_notices, are_present, settings_notices};
 
 use crate::act::Act;
 use crate::changing;
@@ -20,7 +19,7 @@ pub fn perform(desk: &mut Desk, alloc: Global, act: &Act) -> Result<Orders, Allo
     requires { IsNone (broken (look desk.old) act.now) }
     ensures desk { OnOk result (desk.new ≡ effect desk.old act.now) }
     ensures orders { IfOk result (λ orders. orders ≡ machine.orders desk.old act.now) }
-    ensures no_memory { TakesNoMemory act.now → IsOk result }
+    ensures no_memory { TakesNoMemory desk.old act.now → IsOk result }
 {
     match act {
         Act::Settings { text } => return accept_settings(desk, alloc, text),
@@ -49,7 +48,7 @@ pub fn perform(desk: &mut Desk, alloc: Global, act: &Act) -> Result<Orders, Allo
             head,
         } => changing::open(desk, alloc, *change, author, *head)?,
         Act::Unlabeled { change, label } => {
-            changing::remove_label(desk, alloc, *change, label)?;
+            changing::remove_label(desk, *change, label);
         }
     }
     Ok(no_orders(alloc))
@@ -64,25 +63,26 @@ fn perform_command(
     command: &Command,
 ) -> Result<(), AllocError>
     ensures value { OnOk result (desk.new ≡ command_effect desk.old person.now change command.now) }
-    ensures no_memory { command.now ≡ Ping → IsOk result }
+    ensures no_memory { CommandTakesNoMemory command.now → IsOk result }
 {
     match command {
         Command::Approve => {
             let approvers = Names::from(vec![in alloc; person.copy(alloc)?]?);
-            changing::approve(desk, alloc, change, approvers, Repeat::Approve)
+            changing::approve(desk, change, approvers, Repeat::Approve);
         }
         Command::ApproveFor(names) => {
             let last = Repeat::ApproveFor(names.copy(alloc)?);
-            changing::approve(desk, alloc, change, names.copy(alloc)?, last)
+            changing::approve(desk, change, names.copy(alloc)?, last);
         }
-        Command::Withdraw => changing::withdraw(desk, alloc, change),
-        Command::Priority(priority) => changing::set_priority(desk, alloc, change, *priority),
-        Command::DelegateAuthor => changing::delegate_author(desk, alloc, change),
-        Command::DelegateTo(names) => changing::delegate_to(desk, alloc, change, names),
+        Command::Withdraw => changing::withdraw(desk, change),
+        Command::Priority(priority) => changing::set_priority(desk, change, *priority),
+        Command::DelegateAuthor => changing::delegate_author(desk, alloc, change)?,
+        Command::DelegateTo(names) => changing::delegate_to(desk, alloc, change, names)?,
         Command::DelegateNone => changing::delegate_none(desk, alloc, change),
         // `ping` does nothing, and the others can't act yet.
-        Command::Ping | Command::Try | Command::TryCancel | Command::Retry => Ok(()),
+        Command::Ping | Command::Try | Command::TryCancel | Command::Retry => {}
     }
+    Ok(())
 }
 
 // Takes the settings of the text, unless they are the present ones.

@@ -1,5 +1,5 @@
 -- THE DESK as finite maps, what each setter does to it, and how the rules see it.
-use Rattle.std.specs.Prelude.{ℕ, Bool, ◌&&◌, ◌||◌, List, [], ◌∷◌, Option, Some, None, is_some, if◌then◌else◌}
+use Rattle.std.specs.Prelude.{◌≡◌, ℕ, Bool, ◌&&◌, ◌||◌, List, [], ◌∷◌, Option, Some, None, is_some, if◌then◌else◌}
 use Rattle.std.specs.Ordering.{nat_cmp}
 use Rattle.std.specs.Cmp.Lexicographic.{slice_cmp}
 use Rattle.std.specs.FinMap as map
@@ -73,3 +73,13 @@ with_settled desk settings = record desk { changes = settled_changes settings de
 -- WHAT THE RULES READ of it
 abbrev pub look : DeskView → Look
 look desk = record { role = role_on desk; change = λ number. map.get desk.changes number; settings = desk.settings; base = desk.base; clock = desk.clock }
+
+-- A change was altered in place: `run` says what the alteration answers of the change before it, and which change it leaves.
+abbrev pub AltersOne : {T : Type 0} → (Change → T → Change → Type 0) → ℕ → DeskView → Option Change → Option T → DeskView → Type 0
+AltersOne run number desk None None after = after ≡ desk
+AltersOne run number desk (Some change) (Some answer) after = (altered : Change) × run change answer altered × (after ≡ with_change desk number altered)
+AltersOne run number desk None (Some answer) after = ⊥
+AltersOne run number desk (Some change) None after = ⊥
+
+abbrev pub Alters : {T : Type 0} → (Change → T → Change → Type 0) → ℕ → DeskView → Option T → DeskView → Type 0
+Alters run number desk answer after = AltersOne run number desk (map.get desk.changes number) answer after

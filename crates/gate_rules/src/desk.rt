@@ -1,12 +1,13 @@
 ghost use Rattle.std.specs.Prelude.{◌≡◌, ◌≤◌, IfOk, IsOk, OnOk, OnErr};
 ghost use Rattle.std.specs.Option.{option_copied};
 ghost use Rattle.std.specs.FinMap as map;
+ghost use Rattle.std.specs.Fn.{FnOnceReturnsAtMut};
 ghost use Rattle.std.specs.List.Sorted.{IsStrictlySortedBy};
 ghost use Rattle.std.specs.Map.{keys_of};
 ghost use Rattle.std.specs.Ordering.{nat_cmp};
 ghost use Rattle.gate_rules.specs.Rules as rules;
 ghost use Rattle.gate_rules.specs.View as view;
-ghost use Rattle.gate_rules.specs.View.{empty_desk, with_role, with_change, with_settings, with_base, with_clock, with_settled, losing_on, role_on, look};
+ghost use Rattle.gate_rules.specs.View.{Alters, empty_desk, with_role, with_change, with_settings, with_base, with_clock, with_settled, losing_on, role_on, look};
 ghost use Rattle.gate_rules.specs.declared.role.Role.TheVariants.{Nobody};
 
 mod rows;
@@ -150,6 +151,18 @@ impl Desk {
     {
         self.changes.insert(number, change)?;
         Ok(())
+    }
+
+    /// Alters a change in place, and answers what the alteration answers, or nothing if the change isn't on the desk. It takes
+    /// no memory but what the alteration takes.
+    pub fn alter<T, F: FnOnce(&mut Change) -> T>(&mut self, number: ChangeNo, alter: F) -> Option<T>
+        requires { F.IsAlwaysCallable alter }
+        ensures value { Alters (FnOnceReturnsAtMut F.FnOnce alter) number self.old result self.new }
+    {
+        let Some(change) = self.changes.get_mut(&number) else {
+            return None;
+        };
+        Some(alter(change))
     }
 
     /// The approved changes that have, under these settings, a blocking label or too few reviews, by number upwards, or

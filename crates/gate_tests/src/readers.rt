@@ -4,12 +4,12 @@ use std::alloc::Global;
 use std::process::Abort;
 
 // The first word of a text, and the rest.
-pub fn cut(text: &str) -> (&str, &str) {
+pub(crate) fn cut(text: &str) -> (&str, &str) {
     text.split_once(' ').unwrap_or((text, ""))
 }
 
 // A row of a table: two texts parted by ` => `. A blank line and one that begins with `//` is none.
-pub fn row_of<'a>(rt: &impl Abort, line: &'a str) -> Option<(&'a str, &'a str)> {
+pub(crate) fn row_of<'a>(rt: &impl Abort, line: &'a str) -> Option<(&'a str, &'a str)> {
     let line = line.trim();
     if line.is_empty() || line.starts_with("//") {
         return None;
@@ -17,20 +17,20 @@ pub fn row_of<'a>(rt: &impl Abort, line: &'a str) -> Option<(&'a str, &'a str)> 
     Some(line.split_once(" => ").expect(rt, "a row"))
 }
 
-pub fn name(rt: &impl Abort, alloc: Global, text: &str) -> Name {
+pub(crate) fn name(rt: &impl Abort, alloc: Global, text: &str) -> Name {
     Name::read(alloc, text).expect(rt, "a name")
 }
 
-pub fn label(rt: &impl Abort, alloc: Global, text: &str) -> Label {
+pub(crate) fn label(rt: &impl Abort, alloc: Global, text: &str) -> Label {
     Label::read(alloc, text).expect(rt, "a label")
 }
 
-pub fn number(rt: &impl Abort, text: &str) -> ChangeNo {
+pub(crate) fn number(rt: &impl Abort, text: &str) -> ChangeNo {
     ChangeNo::read(text).expect(rt, "a change number")
 }
 
 // The commit whose forty digits are all this one.
-pub fn commit(rt: &impl Abort, alloc: Global, digit: &str) -> Commit {
+pub(crate) fn commit(rt: &impl Abort, alloc: Global, digit: &str) -> Commit {
     let text = digit.repeat(alloc, 40).expect(rt, "memory");
     Commit::read(text.as_str()).expect(rt, "a commit")
 }
@@ -46,7 +46,7 @@ fn names(rt: &impl Abort, alloc: Global, list: &str) -> Names {
     Names::from(names)
 }
 
-pub fn name_set(rt: &impl Abort, alloc: Global, list: &str) -> NameSet {
+pub(crate) fn name_set(rt: &impl Abort, alloc: Global, list: &str) -> NameSet {
     let mut set = NameSet::new(alloc);
     if list != "-" {
         for word in list.split(',') {
@@ -56,7 +56,7 @@ pub fn name_set(rt: &impl Abort, alloc: Global, list: &str) -> NameSet {
     set
 }
 
-pub fn label_set(rt: &impl Abort, alloc: Global, list: &str) -> LabelSet {
+pub(crate) fn label_set(rt: &impl Abort, alloc: Global, list: &str) -> LabelSet {
     let mut set = LabelSet::new(alloc);
     if list != "-" {
         for word in list.split(',') {
@@ -95,7 +95,7 @@ fn last(rt: &impl Abort, alloc: Global, word: &str) -> Option<Repeat> {
 
 // The change of a text: author, head, phase, priority, labels, reviews, delegates, approvers and last command, with `-` for
 // none.
-pub fn change(rt: &impl Abort, alloc: Global, text: &str) -> Change {
+pub(crate) fn change(rt: &impl Abort, alloc: Global, text: &str) -> Change {
     let (author, rest) = cut(text);
     let (head, rest) = cut(rest);
     let (phase_word, rest) = cut(rest);

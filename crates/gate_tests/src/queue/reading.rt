@@ -19,7 +19,7 @@ fn role(word: &str) -> Role {
 }
 
 // The act of a line: a fact's name and its fields, or `1 alice bors r+` for a comment.
-pub fn read_act(rt: &impl Abort, alloc: Global, line: &str) -> Act {
+pub(crate) fn read_act(rt: &impl Abort, alloc: Global, line: &str) -> Act {
     let (word, rest) = cut(line);
     let (first, fields) = cut(rest);
     match word {
@@ -81,7 +81,7 @@ fn read_review(rt: &impl Abort, alloc: Global, change: ChangeNo, person: &str, r
 }
 
 // A reply in words: `done` with the notices, or the rule with what it names.
-pub fn shown(rt: &impl Abort, alloc: Global, reply: &Reply) -> String {
+pub(crate) fn shown(rt: &impl Abort, alloc: Global, reply: &Reply) -> String {
     match reply {
         Reply::Done(orders) => shown_orders(rt, alloc, orders.as_slice()),
         Reply::Denied(rule) => shown_rule(rt, alloc, rule),
@@ -110,7 +110,11 @@ fn shown_rule(rt: &impl Abort, alloc: Global, rule: &Rule) -> String {
 }
 
 // The change of a line: its number, and then `none`, or what `change` of the readers takes.
-pub fn read_change(rt: &impl Abort, alloc: Global, line: &str) -> (ChangeNo, Option<Change>) {
+pub(crate) fn read_change(
+    rt: &impl Abort,
+    alloc: Global,
+    line: &str,
+) -> (ChangeNo, Option<Change>) {
     let (word, rest) = cut(line);
     let found = match rest {
         "none" => None,

@@ -1,6 +1,6 @@
 use super::desks::{desk, strict};
 use crate::readers::{change, commit, cut, number};
-use gate_rules::{Desk, blocking_label, has_too_few_reviews, is_blocked};
+use gate_rules::{Desk, Phase, blocking_label, has_too_few_reviews, is_blocked};
 use gate_text::{Label, read_settings};
 use std::alloc::Global;
 use std::process::Abort;
@@ -171,4 +171,21 @@ fn the_clock_that_was_set_last(rt: HostRuntime) {
     assert_eq!(rt; desk.clock(), 60);
     desk.set_clock(9_000_000_000_000_000);
     assert_eq!(rt; desk.clock(), 9_000_000_000_000_000);
+}
+
+#[test]
+fn a_change_that_is_altered(rt: HostRuntime) {
+    let mut desk = desk(&rt, rt.alloc(), ["1 carol a opened 0 - - - - -"].as_slice());
+    let altered = desk.alter(number(&rt, "1"), |change| {
+        change.priority = 7;
+        change.phase = Phase::Closed;
+        change.labels.len()
+    });
+    assert_eq!(rt; altered, Some(0));
+    let kept = desk.change(number(&rt, "1")).expect(&rt, "it was put");
+    assert!(rt; *kept == change(&rt, rt.alloc(), "carol a closed 7 - - - - -"));
+    assert!(rt;
+        desk.alter(number(&rt, "2"), |change| change.priority = 7)
+            .is_none()
+    );
 }

@@ -58,7 +58,7 @@ fn permission(rt: &impl Abort, alloc: Global, desk: &Desk, row: &str) -> String 
 }
 
 // Each line of the table is denied by the rule beside it.
-pub fn check_rules(rt: &impl Abort, alloc: Global, desk: &Desk, table: &str) {
+pub(crate) fn check_rules(rt: &impl Abort, alloc: Global, desk: &Desk, table: &str) {
     for line in table.lines() {
         if let Some((row, words)) = row_of(rt, line) {
             let found = denial(rt, alloc, desk, row);
@@ -68,7 +68,7 @@ pub fn check_rules(rt: &impl Abort, alloc: Global, desk: &Desk, table: &str) {
 }
 
 // Each line of the table needs the level beside it, which the person has or hasn't.
-pub fn check_levels(rt: &impl Abort, alloc: Global, desk: &Desk, table: &str) {
+pub(crate) fn check_levels(rt: &impl Abort, alloc: Global, desk: &Desk, table: &str) {
     for line in table.lines() {
         if let Some((row, words)) = row_of(rt, line) {
             let found = permission(rt, alloc, desk, row);

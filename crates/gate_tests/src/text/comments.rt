@@ -63,7 +63,7 @@ fn row_of<'a>(rt: &impl Abort, line: &'a str) -> Option<(&'a str, &'a str)> {
 }
 
 // Each comment of the table says the words beside it. A `|` in a comment stands for a line feed.
-pub fn check_said(rt: &impl Abort, alloc: Global, table: &str) {
+pub(crate) fn check_said(rt: &impl Abort, alloc: Global, table: &str) {
     for line in table.lines() {
         if let Some((comment, words)) = row_of(rt, line) {
             let comment = comment.replace(alloc, "|", "\n").expect(rt, "memory");
@@ -86,7 +86,7 @@ fn check_each(rt: &impl Abort, alloc: Global, front: &str, texts: &str, words: &
 }
 
 // Each body, with the same text before it, is one `Unknown`.
-pub fn check_unknown(rt: &impl Abort, alloc: Global, before: &str, bodies: &str) {
+pub(crate) fn check_unknown(rt: &impl Abort, alloc: Global, before: &str, bodies: &str) {
     let front = format!(in alloc; "bors {before}").expect(rt, "memory");
     check_each(rt, alloc, front.as_str(), bodies, "unknown");
 }

@@ -1,0 +1,29 @@
+use Rattle.std.proofs.Common.{◌∙◌, sym, ap, rules}
+use Rattle.std.specs.Cmp.{nat_cmp_total}
+use Rattle.std.specs.FinMap as map
+use Rattle.std.specs.FinMap.{nat_cmp-IsAntisymmetric}
+use Rattle.std.specs.Option.{option_copied_mut}
+use Rattle.gate_text.specs.Finite.{get-entries, inserted}
+use Rattle.gate_rules.specs.View.{DeskView, with_change}
+use Rattle.gate_rules.proofs.Alters.{alters_none, alters_one}
+use Rattle.gate_rules.proofs.desk.Desk.alter.Goals as goal
+
+pub returns-in_default : goal.returns-in_default
+returns-in_default g c =
+    let found = c.get_mut.ensures.value ∙ sym (get-entries nat_cmp_total c.self.inside.changes c.args.number)
+    ∙ ap (λ (desk : DeskView). map.get desk.changes c.args.number) c.self.view_is in
+    let absent = sym found ∙ ap option_copied_mut c.in_default.is in
+    record { value = alters_none _ _ _ _ absent (rw c.get_mut.follows.holds-at-none c.self.view_is) }
+
+pub returns : goal.returns
+returns g c =
+    let altered = c.alter.new.arg2 in
+    let found = c.get_mut.ensures.value ∙ sym (get-entries nat_cmp_total c.self.inside.changes c.args.number)
+    ∙ ap (λ (desk : DeskView). map.get desk.changes c.args.number) c.self.view_is in
+    let there = sym found ∙ ap option_copied_mut c.in-Some.is in
+    let updates = (c.get_mut.follows.holds altered).3 (search rules) in
+    let put = inserted nat_cmp_total nat_cmp-IsAntisymmetric c.self.inside.changes (c.get_mut.follows.lender altered) c.args.number altered updates in
+    record {
+      value = alters_one _ _ _ _ c.in-Some.change.now altered _ there (search rules)
+          (rw put (ap (λ (desk : DeskView). with_change desk c.args.number altered) c.self.view_is));
+    }
