@@ -3,7 +3,8 @@ use Rattle.std.proofs.Common.{◌≡◌, false, List, [], ◌∷◌, map, refl}
 use Rattle.serde_json.specs.View.{items_of}
 use Rattle.serde_json.specs.Written.{has_float, items_have_float}
 use Rattle.gate_rules.specs.declared.rule.Rule.TheVariants.{UnknownChange, NotACommand, NotPermitted, NotOpen, NoSettings, NoBase, AlreadyApproved, NotApproved, Blocked, TooFewReviews, AlreadyOpen, StaleHead, NotMember, OwnChange, BadSettings, SameAsBase}
-use Rattle.gate_bot.specs.Answers.{order_data, reply_data, answer_data, error_data}
+use Rattle.gate_bot.specs.Answers.{order_data, reply_data, answer_data}
+use Rattle.gate_bot.specs.Errors.{error_data}
 use Rattle.gate_bot.specs.declared.reading.DeliveryFault.{DeliveryFault}
 use Rattle.gate_bot.specs.declared.reading.DeliveryFault.TheVariants.{NotJson, BadField, UnknownEvent, Memory}
 use Rattle.gate_queue.specs.declared.reply.Order.{Order}

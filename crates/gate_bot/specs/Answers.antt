@@ -1,5 +1,4 @@
--- WRITTEN TEXTS: the JSON of an answer and of an error (RFC 8259), compact, the names of an object in the order of
--- their bytes.
+-- ANSWERS AS TEXTS: the JSON of an answer (RFC 8259), compact, the names of an object in the order of their bytes.
 use Rattle.std.specs.Prelude.{ℕ, List, [], ◌∷◌, map, Option, Some, None, codes}
 use Rattle.serde_json.specs.Data.{Data, number, unsigned, string, array, object, Members, no_members, member}
 use Rattle.serde_json.specs.View.{items_of}
@@ -7,9 +6,6 @@ use Rattle.serde_json.specs.Written.{compact_text}
 use Rattle.gate_rules.specs.Words.{number_of, word_of, level_word_of}
 use Rattle.gate_rules.specs.declared.rule.Rule.{Rule}
 use Rattle.gate_rules.specs.declared.rule.Rule.TheVariants.{UnknownChange, NotACommand, NotPermitted, NotOpen, NoSettings, NoBase, AlreadyApproved, NotApproved, Blocked, TooFewReviews, AlreadyOpen, StaleHead, NotMember, OwnChange, BadSettings, SameAsBase}
-use Rattle.gate_bot.specs.Deliveries.{field_name}
-use Rattle.gate_bot.specs.declared.reading.DeliveryFault.{DeliveryFault}
-use Rattle.gate_bot.specs.declared.reading.DeliveryFault.TheVariants.{NotJson, BadField, UnknownEvent, Memory}
 use Rattle.gate_queue.specs.declared.reply.Order.{Order}
 use Rattle.gate_queue.specs.declared.reply.Order.TheVariants.{Notice}
 use Rattle.gate_queue.specs.declared.reply.Why.{Why}
@@ -17,7 +13,6 @@ use Rattle.gate_queue.specs.declared.reply.Why.TheVariants as why
 use Rattle.gate_queue.specs.declared.reply.Reply.{Reply}
 use Rattle.gate_queue.specs.declared.reply.Reply.TheVariants.{Done, Denied}
 
--- ANSWERS
 abbrev denial : Rule → Members
 denial rule =
     member (codes "number") (number (unsigned (number_of rule)))
@@ -25,7 +20,7 @@ denial rule =
     (member (codes "verdict") (string (codes "denied")) no_members))
 
 -- what a rule tells beside its number and name
-abbrev detail_of : Rule → Option Data
+abbrev pub detail_of : Rule → Option Data
 detail_of UnknownChange = None
 detail_of NotACommand = None
 detail_of (NotPermitted level) = Some (string (level_word_of level))
@@ -76,22 +71,3 @@ answer_data replies = array (items_of (map reply_data replies))
 -- the text of an answer
 unfoldable pub answer_text_of : List Reply → List ℕ
 answer_text_of replies = compact_text (answer_data replies)
-
--- ERRORS
-abbrev error_named : List ℕ → ℕ → Data
-error_named name n =
-    object (member (codes "error") (string name)
-    (member (codes "number") (number (unsigned n)) no_members))
-
-abbrev pub error_data : DeliveryFault → Data
-error_data NotJson = error_named (codes "NotJson") 1
-error_data (BadField field) =
-    object (member (codes "error") (string (codes "BadField"))
-    (member (codes "field") (string (field_name field))
-    (member (codes "number") (number (unsigned 2)) no_members)))
-error_data UnknownEvent = error_named (codes "UnknownEvent") 3
-error_data Memory = error_named (codes "Memory") 4
-
--- the text of an error
-unfoldable pub error_text_of : DeliveryFault → List ℕ
-error_text_of fault = compact_text (error_data fault)

@@ -1,13 +1,13 @@
 -- LINES: what is written for the lines that were read. A text is seen whole; the code takes it byte by byte.
 use Rattle.std.specs.Prelude.{◌≡◌, ◌⊎◌, ℕ, ◌+◌, ◌<◌, ◌≤◌, ◌==◌, ◌&&◌, not, nat_lt, List, [], ◌∷◌, ◌++◌, length, take, Bool, false, Option, Result, Ok, Err, is_ok, IsTrue, codes, if◌then◌else◌}
 use Rattle.std.specs.Io.KnownBytes.{Appends, IsAtEnd}
-use Rattle.gate_bot.specs.Acts.{acts_of_event}
-use Rattle.gate_bot.specs.Answers.{answer_text_of, error_text_of}
-use Rattle.gate_bot.specs.Bench.{BenchView}
+use Rattle.gate_bot.specs.Answers.{answer_text_of}
+use Rattle.gate_bot.specs.Errors.{error_text_of}
 use Rattle.gate_bot.specs.Deliveries.{delivery_of}
-use Rattle.gate_bot.specs.Run.{replies_to, after_all}
+use Rattle.gate_bot.specs.Shown.{Shown, replies_of, after_delivery}
 use Rattle.gate_bot.specs.declared.delivery.Delivery.{Delivery}
-use Rattle.gate_queue.specs.declared.fault.Fault.TheVariants as fault
+use Rattle.gate_queue.specs.declared.fault.Fault.{Fault}
+use Rattle.gate_queue.specs.declared.fault.Fault.TheVariants.{Memory}
 use Rattle.gate_bot.specs.declared.lines.HookFault.{HookFault}
 use Rattle.gate_bot.specs.declared.lines.HookFault.TheVariants.{Gate, Read, Write, TooMuch}
 use Rattle.gate_bot.specs.declared.reading.DeliveryFault.{DeliveryFault}
@@ -50,81 +50,83 @@ abbrev pub too_long_text : List ℕ
 too_long_text = codes "{\"error\":\"LineTooLong\",\"number\":5}"
 
 -- by what the line was read as: a delivery by its answer, and a line that is none by its error
-abbrev pub text_answered : BenchView → Result Delivery DeliveryFault → List ℕ
-text_answered bench (Ok delivery) = answer_text_of (replies_to bench.state (acts_of_event delivery.event))
-text_answered bench (Err fault) = error_text_of fault
+abbrev pub text_answered : Shown → Result Delivery DeliveryFault → List ℕ
+text_answered bot (Ok delivery) = answer_text_of (replies_of bot delivery)
+text_answered bot (Err fault) = error_text_of fault
 
-abbrev pub line_text : BenchView → List ℕ → List ℕ
-line_text bench line = if is_too_long line then too_long_text else text_answered bench (delivery_of line)
+abbrev pub line_text : Shown → List ℕ → List ℕ
+line_text bot line = if is_too_long line then too_long_text else text_answered bot (delivery_of line)
 
 abbrev pub is_delivery : List ℕ → Bool
 is_delivery line = if is_too_long line then false else is_ok (delivery_of line)
 
--- the bench after it: a line that is no delivery changes nothing
-abbrev pub after_reading : BenchView → Result Delivery DeliveryFault → BenchView
-after_reading bench (Ok delivery) = record bench { state = after_all bench.state (acts_of_event delivery.event) }
-after_reading bench (Err fault) = bench
+-- the bot after it: a line that is no delivery changes nothing
+abbrev pub after_reading : Shown → Result Delivery DeliveryFault → Shown
+after_reading bot (Ok delivery) = after_delivery bot delivery
+after_reading bot (Err fault) = bot
 
-abbrev pub after_line : BenchView → List ℕ → BenchView
-after_line bench line = if is_too_long line then bench else after_reading bench (delivery_of line)
+abbrev pub after_line : Shown → List ℕ → Shown
+after_line bot line = if is_too_long line then bot else after_reading bot (delivery_of line)
 
--- LINES IN ORDER: each line's text and a line feed, and the bench after all
-abbrev pub text_for : BenchView → List (List ℕ) → List ℕ
-text_for bench [] = []
-text_for bench (line ∷ lines) = (line_text bench line ++ 10 ∷ []) ++ text_for (after_line bench line) lines
+-- LINES IN ORDER: each line's text and a line feed, and the bot after all
+abbrev pub text_for : Shown → List (List ℕ) → List ℕ
+text_for bot [] = []
+text_for bot (line ∷ lines) = (line_text bot line ++ 10 ∷ []) ++ text_for (after_line bot line) lines
 
-abbrev pub after_lines : BenchView → List (List ℕ) → BenchView
-after_lines bench [] = bench
-after_lines bench (line ∷ lines) = after_lines (after_line bench line) lines
+abbrev pub after_lines : Shown → List (List ℕ) → Shown
+after_lines bot [] = bot
+after_lines bot (line ∷ lines) = after_lines (after_line bot line) lines
 
 -- WHAT SERVING LEAVES, of the input that was consumed
 abbrev pub max_input : ℕ
 max_input = 4294967296
 
--- the lines were served, one after the other: this bench, and this text written
-abbrev pub HasServed : BenchView → List (List ℕ) → BenchView → Option (List ℕ) → Option (List ℕ) → Type 0
+-- the lines were served, one after the other: this bot, and this text written
+abbrev pub HasServed : Shown → List (List ℕ) → Shown → Option (List ℕ) → Option (List ℕ) → Type 0
 HasServed old lines new before after = (new ≡ after_lines old lines) × Appends before after (text_for old lines)
 
--- Want of memory at a line that comes after those served: nothing of its answer is written. The line may have acted
--- already; or it is a delivery at which the bench met the fault, and has stopped; or neither.
-abbrev pub StopsForMemory : BenchView → List ℕ → BenchView → Type 0
-StopsForMemory old line new = (new ≡ old) ⊎ ((new ≡ after_line old line) ⊎ (IsTrue (is_delivery line) × IsTrue new.stopped))
+-- The faults that may end serving: want of memory, and what the bot may answer.
+abbrev pub MayEnd : (Fault → Type 0) → Fault → Type 0
+MayEnd may_answer fault = (fault ≡ Memory) ⊎ may_answer fault
+
+-- A fault at a line that comes after those served: nothing of its answer is written. The line may have acted already; or
+-- it is a delivery at which the bot met the fault, and has stopped; or neither.
+abbrev pub StopsAtLine : Shown → List ℕ → Shown → Type 0
+StopsAtLine old line new = (new ≡ old) ⊎ ((new ≡ after_line old line) ⊎ (IsTrue (is_delivery line) × IsTrue new.stopped))
 
 -- these lines are the first that are complete: line feeds ended them; or they are all, and the input is at its end
 abbrev pub AreComplete : List ℕ → Option (List ℕ) → List (List ℕ) → Type 0
 AreComplete input left lines =
     ((others : List (List ℕ)) × (ended_lines input ≡ lines ++ others)) ⊎ ((lines_of input ≡ lines) × IsAtEnd left)
 
-pub record StopsAtGate (old : BenchView) (input : List ℕ) (left : Option (List ℕ)) (new : BenchView) (before after : Option (List ℕ)) : Type 0 where
+pub record StopsAtGate (old : Shown) (input : List ℕ) (left : Option (List ℕ)) (new : Shown) (before after : Option (List ℕ)) : Type 0 where
   pub served : List (List ℕ)
   pub line : List ℕ
   pub complete : AreComplete input left (served ++ line ∷ [])
-  pub bench : StopsForMemory (after_lines old served) line new
+  pub bot : StopsAtLine (after_lines old served) line new
   pub written : Appends before after (text_for old served)
 
 -- The writer refused a line's text, or what was left of it: a part from its front is written, but not all, and the line
 -- has acted.
-pub record StopsAtWrite (old : BenchView) (input : List ℕ) (left : Option (List ℕ)) (new : BenchView) (before after : Option (List ℕ)) : Type 0 where
+pub record StopsAtWrite (old : Shown) (input : List ℕ) (left : Option (List ℕ)) (new : Shown) (before after : Option (List ℕ)) : Type 0 where
   pub served : List (List ℕ)
   pub line : List ℕ
   pub complete : AreComplete input left (served ++ line ∷ [])
-  pub bench : new ≡ after_line (after_lines old served) line
+  pub bot : new ≡ after_line (after_lines old served) line
   pub taken : ℕ
   pub part : taken < length (line_text (after_lines old served) line ++ 10 ∷ [])
   pub written : Appends before after (text_for old served ++ take taken (line_text (after_lines old served) line ++ 10 ∷ []))
 
-abbrev pub IsServed : Result ℕ HookFault → BenchView → List ℕ → Option (List ℕ) → BenchView → Option (List ℕ) → Option (List ℕ) → Type 0
+abbrev pub IsServed : (Fault → Type 0) → Result ℕ HookFault → Shown → List ℕ → Option (List ℕ) → Shown → Option (List ℕ) → Option (List ℕ) → Type 0
 -- all lines are answered, and counted
-IsServed (Ok count) old input left new before after = (count ≡ length (lines_of input)) × HasServed old (lines_of input) new before after
+IsServed may_answer (Ok count) old input left new before after = (count ≡ length (lines_of input)) × HasServed old (lines_of input) new before after
 -- the reader failed: a line that isn't complete is dropped
-IsServed (Err Read) old input left new before after = HasServed old (ended_lines input) new before after
+IsServed may_answer (Err Read) old input left new before after = HasServed old (ended_lines input) new before after
 -- there is more input than may be read: the lines that end within the limit are answered
-IsServed (Err TooMuch) old input left new before after = HasServed old (ended_lines (take max_input input)) new before after
--- the gate can only want memory
-IsServed (Err (Gate fault.Memory)) old input left new before after = StopsAtGate old input left new before after
-IsServed (Err (Gate fault.Store)) old input left new before after = ⊥
-IsServed (Err (Gate fault.Full)) old input left new before after = ⊥
-IsServed (Err Write) old input left new before after = StopsAtWrite old input left new before after
+IsServed may_answer (Err TooMuch) old input left new before after = HasServed old (ended_lines (take max_input input)) new before after
+-- the bot met a fault, or there was no memory for a line or its answer
+IsServed may_answer (Err (Gate fault)) old input left new before after = MayEnd may_answer fault × StopsAtGate old input left new before after
+IsServed may_answer (Err Write) old input left new before after = StopsAtWrite old input left new before after
 
 -- how much of the input was consumed: never more than the limit, but for the one byte that shows that there is more
 abbrev pub IsWithinLimit : Result ℕ HookFault → List ℕ → Type 0

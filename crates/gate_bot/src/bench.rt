@@ -2,12 +2,13 @@ ghost use Rattle.std.specs.Prelude.{◌≡◌, List, IfOk, IfErr, OnOk, OnErr, I
 ghost use Rattle.gate_queue.specs.History.{Entry, Legal};
 ghost use Rattle.gate_queue.specs.Machine.{empty_state};
 ghost use Rattle.gate_bot.specs.Acts.{acts_of_event};
-ghost use Rattle.gate_bot.specs.Bench.{running_on};
 ghost use Rattle.gate_bot.specs.Run.{Tells, replies_to, after_all};
+ghost use Rattle.gate_bot.specs.Shown.{running_on, replies_of, after_delivery};
 
+use crate::answers::Answer;
+use crate::deliver::Deliver;
 use crate::delivery::{Delivery, acts_of};
 use crate::machine::step_all;
-use crate::reply::Answer;
 use gate_queue::{Fault, Gate};
 use std::alloc::Global;
 use std::marker::Model;
@@ -24,9 +25,9 @@ pub struct Bench {
 impl Model for Bench {
     ghost use Rattle.std.specs.Coded.{codes};
     ghost use Rattle.gate_text.specs.Finite.{finite_codes};
-    ghost use Rattle.gate_bot.specs.Bench.{BenchView};
+    ghost use Rattle.gate_bot.specs.Shown.{Shown};
 
-    ghost Value = { BenchView };
+    ghost Value = { Shown };
 
     ghost coded = { Prim.hlevel (codes, finite_codes) };
 
@@ -48,8 +49,8 @@ impl Bench {
     /// then, and the bench answers `Memory` to every later delivery.
     pub fn deliver(&mut self, alloc: Global, delivery: &Delivery) -> Result<Answer, Fault>
         // The answer is the replies of the machine, and the state then is the machine's.
-        ensures answer { IfOk result (λ answer. answer.items ≡ replies_to self.old.state (acts_of_event delivery.now.event)) }
-        ensures state { OnOk result (self.new ≡ record self.old { state = after_all self.old.state (acts_of_event delivery.now.event) }) }
+        ensures answer { IfOk result (λ answer. answer.items ≡ replies_of self.old delivery.now) }
+        ensures state { OnOk result (self.new ≡ after_delivery self.old delivery.now) }
 
         // What each entry tells, after every history that led to the state.
         ensures history { IfOk result (λ answer. (history : List Entry) → Legal history self.old.state
@@ -78,10 +79,25 @@ impl Bench {
     }
 }
 
+impl Deliver for Bench {
+    ghost use Rattle.std.specs.Prelude.{◌≡◌};
+    ghost use Rattle.gate_queue.specs.declared.fault.Fault.TheVariants.{Memory};
+
+    ghost shows = { λ bench. bench };
+
+    ghost may_answer = { λ fault. fault ≡ Memory };
+
+    fn answer(&mut self, alloc: Global, delivery: &Delivery) -> Result<Answer, Fault> {
+        self.deliver(alloc, delivery)
+    }
+}
+
 // The gate after the acts of a delivery, and their replies.
 fn deliver_to(gate: Gate, alloc: Global, delivery: &Delivery) -> Result<(Gate, Answer), Fault>
     ensures answer { IfOk result (λ done. done.1.items ≡ replies_to gate (acts_of_event delivery.now.event)) }
     ensures gate { IfOk result (λ done. done.0 ≡ after_all gate (acts_of_event delivery.now.event)) }
+    ensures history { IfOk result (λ done. (history : List Entry) → Legal history gate → Tells history gate (acts_of_event delivery.now.event) done.1.items done.0) }
+    ensures cause { IfErr result (λ fault. fault ≡ Fault.Memory) }
 {
     let acts = acts_of(alloc, delivery)?;
     step_all(gate, alloc, acts.as_slice())

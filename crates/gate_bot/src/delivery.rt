@@ -1,10 +1,10 @@
-ghost use Rattle.std.specs.Prelude.{◌≡◌, IfOk};
+ghost use Rattle.std.specs.Prelude.{◌≡◌, map, IfOk};
 ghost use Rattle.std.specs.List.{All};
 ghost use Rattle.gate_bot.specs.Acts.{ActKeepsLimits, acts_of_event, spoken_acts_of};
 
 use gate_queue::Act;
 use gate_rules::Role;
-use gate_text::{ChangeNo, Commit, DeliveryId, Label, Name, Text, read_comment};
+use gate_text::{ChangeNo, Commit, DeliveryId, Label, Name, Spoken, Text, read_comment};
 use std::alloc::{AllocError, Global};
 
 /// What happened, as a host hands it in.
@@ -96,15 +96,10 @@ pub struct Delivery {
 /// The acts of a delivery: one for each command that a comment says, in order, and one for a fact. A line such as `bors r+ p=5`
 /// says two. A comment without command lines has none. `AllocError` if there is no memory for them. What a comment says
 /// keeps its limits.
+#[tactic(auto, using(crate::proofs::ActLimits::one_keeps))]
 pub fn acts_of(alloc: Global, delivery: &Delivery) -> Result<Vec<Act>, AllocError>
     ensures value { IfOk result (λ acts. acts.items ≡ acts_of_event delivery.now.event) }
     ensures limits { IfOk result (λ acts. All ActKeepsLimits acts.items) }
-{
-    acts_in(alloc, delivery)
-}
-
-fn acts_in(alloc: Global, delivery: &Delivery) -> Result<Vec<Act>, AllocError>
-    ensures { IfOk result (λ acts. acts.items ≡ acts_of_event delivery.now.event) }
 {
     let fact = match &delivery.event {
         Event::Comment {
@@ -112,62 +107,107 @@ fn acts_in(alloc: Global, delivery: &Delivery) -> Result<Vec<Act>, AllocError>
             person,
             text,
         } => return spoken_acts(alloc, *change, person, text),
-        Event::Role { person, role } => Act::Role {
-            person: person.copy(alloc)?,
-            role: *role,
-        },
-        Event::Settings { text } => Act::Settings {
-            text: text.copy(alloc)?,
-        },
+        Event::Role { person, role } => role_act(alloc, person, *role)?,
+        Event::Settings { text } => settings_act(alloc, text)?,
         Event::Opened {
             change,
             author,
             head,
-        } => Act::Opened {
-            change: *change,
-            author: author.copy(alloc)?,
-            head: *head,
-        },
+        } => opened_act(alloc, *change, author, *head)?,
         Event::Base { commit } => Act::Base { commit: *commit },
-        Event::Pushed { change, head } => Act::Pushed {
-            change: *change,
-            head: *head,
-        },
+        Event::Pushed { change, head } => pushed_act(*change, *head),
         Event::Closed { change } => Act::Closed { change: *change },
-        Event::Labeled { change, label } => Act::Labeled {
-            change: *change,
-            label: label.copy(alloc)?,
-        },
-        Event::Unlabeled { change, label } => Act::Unlabeled {
-            change: *change,
-            label: label.copy(alloc)?,
-        },
+        Event::Labeled { change, label } => labeled_act(alloc, *change, label)?,
+        Event::Unlabeled { change, label } => unlabeled_act(alloc, *change, label)?,
         Event::Review {
             change,
             person,
             head,
             approves,
-        } => Act::Review {
-            change: *change,
-            person: person.copy(alloc)?,
-            head: *head,
-            approves: *approves,
-        },
+        } => review_act(alloc, *change, person, *head, *approves)?,
     };
     Ok(vec![in alloc; fact]?)
 }
 
-// What a person's comment says about a change.
-fn spoken_acts(
+fn role_act(alloc: Global, person: &Name, role: Role) -> Result<Act, AllocError>
+    ensures { IfOk result (λ act. act ≡ Act.Role person.now role) }
+{
+    let person = person.copy(alloc)?;
+    Ok(Act::Role { person, role })
+}
+
+fn settings_act(alloc: Global, text: &Text) -> Result<Act, AllocError>
+    ensures { IfOk result (λ act. act ≡ Act.Settings text.now) }
+{
+    let text = text.copy(alloc)?;
+    Ok(Act::Settings { text })
+}
+
+fn opened_act(
+    alloc: Global,
+    change: ChangeNo,
+    author: &Name,
+    head: Commit,
+) -> Result<Act, AllocError>
+    ensures { IfOk result (λ act. act ≡ Act.Opened change author.now head) }
+{
+    let author = author.copy(alloc)?;
+    Ok(Act::Opened {
+        change,
+        author,
+        head,
+    })
+}
+
+fn pushed_act(change: ChangeNo, head: Commit) -> Act
+    ensures { result ≡ Act.Pushed change head }
+{
+    Act::Pushed { change, head }
+}
+
+fn labeled_act(alloc: Global, change: ChangeNo, label: &Label) -> Result<Act, AllocError>
+    ensures { IfOk result (λ act. act ≡ Act.Labeled change label.now) }
+{
+    let label = label.copy(alloc)?;
+    Ok(Act::Labeled { change, label })
+}
+
+fn unlabeled_act(alloc: Global, change: ChangeNo, label: &Label) -> Result<Act, AllocError>
+    ensures { IfOk result (λ act. act ≡ Act.Unlabeled change label.now) }
+{
+    let label = label.copy(alloc)?;
+    Ok(Act::Unlabeled { change, label })
+}
+
+fn review_act(
     alloc: Global,
     change: ChangeNo,
     person: &Name,
-    text: &Text,
+    head: Commit,
+    approves: bool,
+) -> Result<Act, AllocError>
+    ensures { IfOk result (λ act. act ≡ Act.Review change person.now head approves) }
+{
+    let person = person.copy(alloc)?;
+    Ok(Act::Review {
+        change,
+        person,
+        head,
+        approves,
+    })
+}
+
+// The acts of what a person says about a change.
+fn acts_for(
+    alloc: Global,
+    change: ChangeNo,
+    person: &Name,
+    spoken: Vec<Spoken>,
 ) -> Result<Vec<Act>, AllocError>
-    ensures { IfOk result (λ acts. acts.items ≡ spoken_acts_of change person.now text.now) }
+    ensures { IfOk result (λ acts. acts.items ≡ map (λ said. Act.Spoken change person.now said) spoken.items) }
 {
     let mut acts = Vec::new(alloc);
-    for spoken in read_comment(alloc, text.as_str())? {
+    for spoken in spoken {
         let person = person.copy(alloc)?;
         acts.push(Act::Spoken {
             change,
@@ -176,4 +216,18 @@ fn spoken_acts(
         })?;
     }
     Ok(acts)
+}
+
+// The acts of a person's comment on a change.
+fn spoken_acts(
+    alloc: Global,
+    change: ChangeNo,
+    person: &Name,
+    text: &Text,
+) -> Result<Vec<Act>, AllocError>
+    ensures value { IfOk result (λ acts. acts.items ≡ spoken_acts_of change person.now text.now) }
+    ensures limits { IfOk result (λ acts. All ActKeepsLimits acts.items) }
+{
+    let spoken = read_comment(alloc, text.as_str())?;
+    acts_for(alloc, change, person, spoken)
 }

@@ -1,16 +1,17 @@
 ghost use Rattle.std.specs.Prelude.{◌≡◌, ◌+◌, ◌<◌, ◌≤◌, ◌^◌, ◌++◌, ◌∷◌, ℕ, [], List, Option, length, IfOk, IfErr, OnOk, OnErr, Ok, IsTrue, ◌⊎◌};
 ghost use Rattle.std.specs.String.{string_bytes};
 ghost use Rattle.std.specs.Io.KnownBytes.{Consumes, IsAtEnd};
-ghost use Rattle.gate_bot.specs.Bench.{BenchView};
-ghost use Rattle.gate_bot.specs.Lines.{line_text, after_line, text_answered, after_reading, StopsForMemory, IsServed, IsWithinLimit};
+ghost use Rattle.gate_bot.specs.Lines.{line_text, after_line, text_answered, after_reading, MayEnd, StopsAtLine, IsServed, IsWithinLimit};
 ghost use Rattle.gate_bot.specs.Serving.{IsAnswered, IsUpTo, IsRead, TakesByte, TakesBytes};
+ghost use Rattle.gate_bot.specs.Shown.{Shown};
 
-use crate::bench::Bench;
+use crate::answers::answer_text;
+use crate::deliver::Deliver;
 use crate::delivery::Delivery;
+use crate::errors::error_text;
 use crate::line::Line;
 use crate::reading::{DeliveryFault, read_delivery};
 use crate::sending::send;
-use crate::writing::{answer_text, error_text};
 use gate_queue::Fault;
 use std::alloc::{AllocError, Global};
 use std::io::{Read, Write};
@@ -51,129 +52,38 @@ fn with_line_feed(text: String) -> Result<String, AllocError>
 }
 
 // The text of the answer to a delivery, with its line feed.
-fn delivery_answer(alloc: Global, bench: &mut Bench, delivery: &Delivery) -> Result<String, Fault>
-    ensures text { IfOk result (λ text. string_bytes text ≡ text_answered bench.old (Ok delivery.now) ++ 10 ∷ []) }
-    ensures bench { OnOk result (bench.new ≡ after_reading bench.old (Ok delivery.now)) }
-    ensures cause { IfErr result (λ fault. fault ≡ Fault.Memory) }
-    ensures stops { OnErr result ((bench.new ≡ after_reading bench.old (Ok delivery.now)) ⊎ IsTrue bench.new.stopped) }
+fn delivery_answer<D: Deliver>(
+    alloc: Global,
+    bot: &mut D,
+    delivery: &Delivery,
+) -> Result<String, Fault>
+    ensures text { IfOk result (λ text. string_bytes text ≡ text_answered (D.shows bot.old) (Ok delivery.now) ++ 10 ∷ []) }
+    ensures bot { OnOk result (D.shows bot.new ≡ after_reading (D.shows bot.old) (Ok delivery.now)) }
+    ensures cause { IfErr result (MayEnd D.may_answer) }
+    ensures stops { OnErr result ((D.shows bot.new ≡ after_reading (D.shows bot.old) (Ok delivery.now)) ⊎ IsTrue (D.shows bot.new).stopped) }
 {
-    let answer = bench.deliver(alloc, delivery)?;
+    let answer = bot.answer(alloc, delivery)?;
     let text = answer_text(alloc, answer.as_slice())?;
     Ok(with_line_feed(text)?)
 }
 
 // The text of the answer to a line, with its line feed.
-fn line_answer(alloc: Global, bench: &mut Bench, line: &Line) -> Result<String, Fault>
-    ensures text { IfOk result (λ text. string_bytes text ≡ line_text bench.old line.now ++ 10 ∷ []) }
-    ensures bench { OnOk result (bench.new ≡ after_line bench.old line.now) }
-    ensures cause { IfErr result (λ fault. fault ≡ Fault.Memory) }
-    ensures stops { OnErr result (StopsForMemory bench.old line.now bench.new) }
+fn line_answer<D: Deliver>(alloc: Global, bot: &mut D, line: &Line) -> Result<String, Fault>
+    ensures text { IfOk result (λ text. string_bytes text ≡ line_text (D.shows bot.old) line.now ++ 10 ∷ []) }
+    ensures bot { OnOk result (D.shows bot.new ≡ after_line (D.shows bot.old) line.now) }
+    ensures cause { IfErr result (MayEnd D.may_answer) }
+    ensures stops { OnErr result (StopsAtLine (D.shows bot.old) line.now (D.shows bot.new)) }
 {
     if line.is_too_long() {
         return Ok(String::from_str(alloc, TOO_LONG)?);
     }
     match read_delivery(alloc, line.as_bytes()) {
-        Ok(delivery) => delivery_answer(alloc, bench, &delivery),
+        Ok(delivery) => delivery_answer(alloc, bot, &delivery),
         Err(DeliveryFault::Memory) => Err(Fault::Memory),
         Err(fault) => {
             let text = error_text(alloc, &fault)?;
             Ok(with_line_feed(text)?)
         }
-    }
-}
-
-// Answers a line: its text goes out whole, and a part of it if the writer refuses the rest.
-fn answer_line<W: Write>(
-    alloc: Global,
-    bench: &mut Bench,
-    line: &Line,
-    writer: &mut W,
-) -> Result<(), HookFault>
-    ensures { IsAnswered result bench.old line.now bench.new (W.contents writer.old) (W.contents writer.new) }
-{
-    let text = match line_answer(alloc, bench, line) {
-        Ok(text) => text,
-        Err(fault) => return Err(HookFault::Gate(fault)),
-    };
-    match send(writer, text.as_bytes()) {
-        Ok(()) => Ok(()),
-        Err(_) => Err(HookFault::Write),
-    }
-}
-
-// Takes one byte: a line feed ends the line that is open, which is answered; any other byte goes on with it.
-fn take_byte<W: Write>(
-    alloc: Global,
-    bench: &mut Bench,
-    line: &mut Line,
-    count: &mut u64,
-    writer: &mut W,
-    byte: u8,
-) -> Result<(), HookFault>
-    requires { count.old < 2 ^ 32 }
-    ensures taken { (opened : BenchView) (input : List ℕ) (before : Option (List ℕ))
-        → IsUpTo opened input bench.old line.old count.old before (W.contents writer.old)
-        → TakesByte result opened input byte bench.new line.new count.new before (W.contents writer.new) }
-    ensures count { count.new ≤ count.old + 1 }
-{
-    if byte != b'\n' {
-        line.add(byte);
-        return Ok(());
-    }
-    match answer_line(alloc, bench, line, writer) {
-        Ok(()) => {
-            line.clear();
-            *count += 1;
-            Ok(())
-        }
-        Err(fault) => Err(fault),
-    }
-}
-
-// Takes the bytes of a chunk, in order.
-fn take_chunk<W: Write>(
-    alloc: Global,
-    bench: &mut Bench,
-    line: &mut Line,
-    count: &mut u64,
-    writer: &mut W,
-    bytes: &[u8],
-) -> Result<(), HookFault>
-    requires { count.old + length bytes.now ≤ 2 ^ 32 }
-    ensures taken { (opened : BenchView) (input : List ℕ) (before : Option (List ℕ))
-        → IsUpTo opened input bench.old line.old count.old before (W.contents writer.old)
-        → TakesBytes result opened input bytes.now bench.new line.new count.new before (W.contents writer.new) }
-    ensures count { count.new ≤ count.old + length bytes.now }
-{
-    for byte in bytes {
-        match take_byte(alloc, bench, line, count, writer, *byte) {
-            Ok(()) => {}
-            Err(fault) => return Err(fault),
-        }
-    }
-    Ok(())
-}
-
-// Answers the last line, if bytes follow the last line feed, and counts it.
-fn finish<W: Write>(
-    alloc: Global,
-    bench: &mut Bench,
-    line: &Line,
-    count: u64,
-    writer: &mut W,
-) -> Result<u64, HookFault>
-    requires { count ≤ 2 ^ 32 }
-    ensures within { (input : List ℕ) → length input ≤ MAX_INPUT → IsWithinLimit result input }
-    ensures served { (opened : BenchView) (input : List ℕ) (left before : Option (List ℕ))
-        → IsUpTo opened input bench.old line.now count before (W.contents writer.old) → IsAtEnd left
-        → IsServed result opened input left bench.new before (W.contents writer.new) }
-{
-    if line.is_empty() {
-        return Ok(count);
-    }
-    match answer_line(alloc, bench, line, writer) {
-        Ok(()) => Ok(count + 1),
-        Err(fault) => Err(fault),
     }
 }
 
@@ -199,45 +109,154 @@ fn read_part<R: Read>(reader: &mut R, buffer: &mut [u8], room: usize) -> Result<
     }
 }
 
+// What one call has at hand: what answers deliveries, the line that is open, how many lines have ended, and where the
+// answers go.
+#[derive(Drop)]
+struct Session<'d, 'w, D, W> {
+    bot: &'d mut D,
+    line: Line,
+    count: u64,
+    writer: &'w mut W,
+}
+
+impl<D: Deliver, W: Write> Session<'_, '_, D, W> {
+    // Answers the line that is open: its text goes out whole, and a part of it if the writer refuses the rest.
+    fn answer_line(&mut self, alloc: Global) -> Result<(), HookFault>
+        ensures answered { IsAnswered D.may_answer result (D.shows self.old.bot.now) self.old.line (D.shows self.new.bot.now) (W.contents self.old.writer.now) (W.contents self.new.writer.now) }
+        ensures line { self.new.line ≡ self.old.line }
+        ensures count { self.new.count ≡ self.old.count }
+        ensures same_bot { self.new.bot.ghost_name ≡ self.old.bot.ghost_name }
+        ensures same_writer { self.new.writer.ghost_name ≡ self.old.writer.ghost_name }
+    {
+        let text = match line_answer(alloc, self.bot, &self.line) {
+            Ok(text) => text,
+            Err(fault) => return Err(HookFault::Gate(fault)),
+        };
+        match send(self.writer, text.as_bytes()) {
+            Ok(()) => Ok(()),
+            Err(_) => Err(HookFault::Write),
+        }
+    }
+
+    // Takes one byte: a line feed ends the line that is open, which is answered; any other byte goes on with it.
+    fn take_byte(&mut self, alloc: Global, byte: u8) -> Result<(), HookFault>
+        requires { self.old.count < 2 ^ 32 }
+        ensures taken { (opened : Shown) (input : List ℕ) (before : Option (List ℕ))
+            → IsUpTo opened input (D.shows self.old.bot.now) self.old.line self.old.count before (W.contents self.old.writer.now)
+            → TakesByte D.may_answer result opened input byte (D.shows self.new.bot.now) self.new.line self.new.count before (W.contents self.new.writer.now) }
+        ensures count { self.new.count ≤ self.old.count + 1 }
+        ensures same_bot { self.new.bot.ghost_name ≡ self.old.bot.ghost_name }
+        ensures same_writer { self.new.writer.ghost_name ≡ self.old.writer.ghost_name }
+    {
+        if byte != b'\n' {
+            self.line.add(byte);
+            return Ok(());
+        }
+        match self.answer_line(alloc) {
+            Ok(()) => {
+                self.line.clear();
+                self.count += 1;
+                Ok(())
+            }
+            Err(fault) => Err(fault),
+        }
+    }
+
+    // Takes the bytes of a chunk, in order.
+    fn take_chunk(&mut self, alloc: Global, bytes: &[u8]) -> Result<(), HookFault>
+        requires { self.old.count + length bytes.now ≤ 2 ^ 32 }
+        ensures taken { (opened : Shown) (input : List ℕ) (before : Option (List ℕ))
+            → IsUpTo opened input (D.shows self.old.bot.now) self.old.line self.old.count before (W.contents self.old.writer.now)
+            → TakesBytes D.may_answer result opened input bytes.now (D.shows self.new.bot.now) self.new.line self.new.count before (W.contents self.new.writer.now) }
+        ensures count { self.new.count ≤ self.old.count + length bytes.now }
+        ensures same_bot { self.new.bot.ghost_name ≡ self.old.bot.ghost_name }
+        ensures same_writer { self.new.writer.ghost_name ≡ self.old.writer.ghost_name }
+    {
+        for byte in bytes {
+            match self.take_byte(alloc, *byte) {
+                Ok(()) => {}
+                Err(fault) => return Err(fault),
+            }
+        }
+        Ok(())
+    }
+
+    // Answers the last line, if bytes follow the last line feed, and counts it.
+    fn finish(&mut self, alloc: Global) -> Result<u64, HookFault>
+        requires { self.old.count ≤ 2 ^ 32 }
+        ensures within { (input : List ℕ) → length input ≤ MAX_INPUT → IsWithinLimit result input }
+        ensures served { (opened : Shown) (input : List ℕ) (left before : Option (List ℕ))
+            → IsUpTo opened input (D.shows self.old.bot.now) self.old.line self.old.count before (W.contents self.old.writer.now) → IsAtEnd left
+            → IsServed D.may_answer result opened input left (D.shows self.new.bot.now) before (W.contents self.new.writer.now) }
+        ensures same_bot { self.new.bot.ghost_name ≡ self.old.bot.ghost_name }
+        ensures same_writer { self.new.writer.ghost_name ≡ self.old.writer.ghost_name }
+    {
+        if self.line.is_empty() {
+            return Ok(self.count);
+        }
+        match self.answer_line(alloc) {
+            Ok(()) => Ok(self.count + 1),
+            Err(fault) => Err(fault),
+        }
+    }
+
+    // Takes the whole input of a reader, chunk by chunk.
+    fn serve<R: Read>(&mut self, alloc: Global, reader: &mut R) -> Result<u64, HookFault>
+        requires { IsUpTo (D.shows self.old.bot.now) [] (D.shows self.old.bot.now) self.old.line self.old.count (W.contents self.old.writer.now) (W.contents self.old.writer.now) }
+        ensures served { (input : List ℕ) × Consumes (R.remaining reader.old) (R.remaining reader.new) input
+            × IsWithinLimit result input
+            × IsServed D.may_answer result (D.shows self.old.bot.now) input (R.remaining reader.new) (D.shows self.new.bot.now) (W.contents self.old.writer.now) (W.contents self.new.writer.now) }
+        ensures end { OnOk result (IsAtEnd (R.remaining reader.new)) }
+        ensures same_bot { self.new.bot.ghost_name ≡ self.old.bot.ghost_name }
+        ensures same_writer { self.new.writer.ghost_name ≡ self.old.writer.ghost_name }
+    {
+        let mut buffer = [0; CHUNK];
+        let mut left = MAX_INPUT;
+        'chunks: loop {
+            let n = read_part(reader, &mut buffer, room_for(left))?;
+            if n == 0 {
+                return self.finish(alloc);
+            }
+            if left == 0 {
+                return Err(HookFault::TooMuch);
+            }
+            match self.take_chunk(alloc, &buffer[..n]) {
+                Ok(()) => left -= n as u64,
+                Err(fault) => return Err(fault),
+            }
+        }
+    }
+}
+
 /// Answers each line of a reader on a writer, in order: a delivery by its answer, any other line by its error. The
 /// lines are JSON Lines (jsonlines.org). The answer to a line is written before more of the input is asked for. At the
 /// end of the input it answers the count of lines.
 ///
 /// Each fault ends the call; the lines before the one that it came at are answered. After `Read` and `TooMuch` a line
 /// that isn't complete is dropped. After `Write` the line has acted, and a part of its answer, but not all, is written.
-/// After `Gate`, which is `Memory` alone, nothing of the answer is written; the line may have acted, and the bench may
-/// have stopped. Of the reader up to 8,191 bytes behind that line may be taken.
+/// After `Gate`, which is `Memory` or what the bot may answer, nothing of the answer is written; the line may have acted,
+/// and the bot may have stopped. Of the reader up to 8,191 bytes behind that line may be taken.
 ///
 /// The buffers have a fixed size, whatever the input. The writer isn't flushed, so it shouldn't keep bytes back.
-pub fn serve_lines<R: Read, W: Write>(
+pub fn serve_lines<D: Deliver, R: Read, W: Write>(
     alloc: Global,
-    bench: &mut Bench,
+    bot: &mut D,
     reader: &mut R,
     writer: &mut W,
 ) -> Result<u64, HookFault>
     // What is written is the text for the lines that were consumed.
     ensures served { (input : List ℕ) × Consumes (R.remaining reader.old) (R.remaining reader.new) input
         × IsWithinLimit result input
-        × IsServed result bench.old input (R.remaining reader.new) bench.new (W.contents writer.old) (W.contents writer.new) }
+        × IsServed D.may_answer result (D.shows bot.old) input (R.remaining reader.new) (D.shows bot.new) (W.contents writer.old) (W.contents writer.new) }
 
     // It succeeds at the end of the input alone.
     ensures end { OnOk result (IsAtEnd (R.remaining reader.new)) }
 {
-    let mut buffer = [0; CHUNK];
-    let mut line = Line::new();
-    let mut count = 0;
-    let mut left = MAX_INPUT;
-    'chunks: loop {
-        let n = read_part(reader, &mut buffer, room_for(left))?;
-        if n == 0 {
-            return finish(alloc, bench, &line, count, writer);
-        }
-        if left == 0 {
-            return Err(HookFault::TooMuch);
-        }
-        match take_chunk(alloc, bench, &mut line, &mut count, writer, &buffer[..n]) {
-            Ok(()) => left -= n as u64,
-            Err(fault) => return Err(fault),
-        }
-    }
+    let mut session = Session {
+        bot,
+        line: Line::new(),
+        count: 0,
+        writer,
+    };
+    session.serve(alloc, reader)
 }

@@ -1,7 +1,8 @@
-ghost use Rattle.std.specs.Prelude.{◌≡◌, IfOk, IfErr};
-ghost use Rattle.gate_bot.specs.Run.{replies_to, after_all};
+ghost use Rattle.std.specs.Prelude.{◌≡◌, List, IfOk, IfErr};
+ghost use Rattle.gate_queue.specs.History.{Entry, Legal};
+ghost use Rattle.gate_bot.specs.Run.{Tells, replies_to, after_all};
 
-use crate::reply::Answer;
+use crate::answers::Answer;
 use gate_queue::{Act, Fault, Gate};
 use std::alloc::Global;
 
@@ -10,6 +11,7 @@ use std::alloc::Global;
 pub fn step_all(gate: Gate, alloc: Global, acts: &[Act]) -> Result<(Gate, Answer), Fault>
     ensures replies { IfOk result (λ done. done.1.items ≡ replies_to gate acts.now) }
     ensures gate { IfOk result (λ done. done.0 ≡ after_all gate acts.now) }
+    ensures history { IfOk result (λ done. (history : List Entry) → Legal history gate → Tells history gate acts.now done.1.items done.0) }
     ensures cause { IfErr result (λ fault. fault ≡ Fault.Memory) }
 {
     let mut gate = gate;

@@ -1,18 +1,19 @@
 //! The program `gate`: the merge bot, from the bytes that come in to the bytes that go out.
 #![tactic(auto)]
 
+mod answers;
 mod bench;
+mod deliver;
 mod delivery;
+mod errors;
 mod line;
 mod lines;
 mod machine;
 mod outcome;
 mod reading;
-mod reply;
 mod sending;
 #[cfg(test)]
 mod tests;
-mod writing;
 
 use crate::bench::Bench;
 use crate::lines::serve_lines;

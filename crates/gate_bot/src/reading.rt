@@ -6,9 +6,11 @@ ghost use Rattle.gate_bot.specs.Deliveries.{Reads, delivery_of};
 
 use crate::delivery::{Delivery, Event};
 use gate_rules::Role;
-use gate_text::{ChangeNo, Commit, DeliveryId, Label, Name, Text, TextFault};
+use gate_text::{ChangeNo, Commit, DeliveryId, Label, Name, Text, TextFault, unless_bad};
 use serde_json::Value;
 use std::alloc::{AllocError, Global};
+use std::fmt;
+use std::fmt::{Display, Formatter, Write};
 use thiserror::Error;
 
 /// A field of a delivery.
@@ -59,6 +61,12 @@ impl Field {
     }
 }
 
+impl Display for Field {
+    fn fmt<W: Write>(&self, f: &mut Formatter<W>) -> Result<(), fmt::Error> {
+        f.write_str(self.name())
+    }
+}
+
 /// Why a text is no delivery. The first check that fails is answered: JSON, the identifier, the event, its fields.
 #[derive(Clone, Copy, Debug, PartialEq, Eq, Error)]
 pub enum DeliveryFault {
@@ -66,7 +74,7 @@ pub enum DeliveryFault {
     #[error("not a JSON object")]
     NotJson,
     /// A field is missing, or isn't of its kind.
-    #[error("bad field")]
+    #[error("bad field \"{0}\"")]
     BadField(Field),
     /// No event has this name.
     #[error("unknown event")]
@@ -91,20 +99,14 @@ impl From<AllocError> for DeliveryFault {
 fn at_field<T>(field: Field, read: Result<T, TextFault>) -> Result<T, DeliveryFault>
     ensures { result ≡ deliveries.at_field field read }
 {
-    match read {
-        Ok(value) => Ok(value),
-        Err(TextFault::Memory) => Err(DeliveryFault::Memory),
-        Err(_) => Err(DeliveryFault::BadField(field)),
-    }
+    unless_bad(read)?.ok_or(DeliveryFault::BadField(field))
 }
 
 fn text_at(field: Field, value: &Value) -> Result<&str, DeliveryFault>
     ensures { Reads (deliveries.now_of result) (deliveries.text_at field (view value.now)) }
 {
-    match value.get(field.name()).and_then(Value::as_str) {
-        Some(text) => Ok(text),
-        None => Err(DeliveryFault::BadField(field)),
-    }
+    let text = value.get(field.name()).and_then(Value::as_str);
+    text.ok_or(DeliveryFault::BadField(field))
 }
 
 fn id_at(alloc: Global, value: &Value) -> Result<DeliveryId, DeliveryFault>
@@ -138,23 +140,16 @@ fn label_at(alloc: Global, value: &Value) -> Result<Label, DeliveryFault>
 fn approves_at(value: &Value) -> Result<bool, DeliveryFault>
     ensures { Reads result (deliveries.approves_at (view value.now)) }
 {
-    match value.get(Field::Approves.name()).and_then(Value::as_bool) {
-        Some(approves) => Ok(approves),
-        None => Err(DeliveryFault::BadField(Field::Approves)),
-    }
+    let approves = value.get(Field::Approves.name()).and_then(Value::as_bool);
+    approves.ok_or(DeliveryFault::BadField(Field::Approves))
 }
 
 fn change_at(value: &Value) -> Result<ChangeNo, DeliveryFault>
     ensures { Reads result (deliveries.change_at (view value.now)) }
 {
-    match value
-        .get(Field::Change.name())
-        .and_then(Value::as_u64)
-        .and_then(ChangeNo::from_number)
-    {
-        Some(change) => Ok(change),
-        None => Err(DeliveryFault::BadField(Field::Change)),
-    }
+    let number = value.get(Field::Change.name()).and_then(Value::as_u64);
+    let change = number.and_then(ChangeNo::from_number);
+    change.ok_or(DeliveryFault::BadField(Field::Change))
 }
 
 fn role_at(value: &Value) -> Result<Role, DeliveryFault>

@@ -2,6 +2,7 @@ pub mod Approvals
 pub mod Changes
 pub mod Facts
 pub mod Fitness
+pub mod Lanes
 pub mod Law
 pub mod Next
 pub mod Premises

@@ -7,8 +7,7 @@ use Rattle.std.specs.List.{fold, list_any}
 use Rattle.std.specs.Option.{unwrap_or, option_or, option_map_or}
 use Rattle.std.specs.Ordering.{nat_cmp}
 use Rattle.std.specs.Str.{bytes_eq}
-use Rattle.gate_text.proofs.Lists.{known_by_order}
-use Rattle.gate_text.specs.Finite.{contains-each}
+use Rattle.gate_text.specs.Finite.{contains-each, known_by_order}
 use Rattle.gate_text.specs.declared.command.Command.TheVariants.{Ping, Approve, ApproveFor, Withdraw, Priority, Try, TryCancel, DelegateAuthor, DelegateTo, DelegateNone, Retry}
 use Rattle.gate_text.specs.declared.command.Spoken.TheVariants.{Known, Unknown}
 use Rattle.gate_queue.specs.History.{Event, did, gave, last_of, author_back, moves, with_author, labels_after, labels_back, reviews_back, delegates_after, delegates_back}

@@ -2,10 +2,13 @@
 use Rattle.std.proofs.Common.{◌≡◌, ◌⊎◌, Bool, true, false, ◌&&◌, ◌||◌, List, [], ◌∷◌, ◌++◌, Option, Some, None, refl, sym, ◌∙◌, ap, inl, inr}
 use Rattle.std.specs.Cmp.{first_so, second_so}
 use Rattle.std.specs.Option.{option_or}
-use Rattle.gate_text.proofs.Tools.{either}
 use Rattle.gate_queue.specs.History.{Event, said_by, last_of, since}
 use Rattle.gate_queue.specs.Words.{AllKept, StartedAndKept, AllSilent, SaidLast}
 use Rattle.gate_queue.specs.declared.act.Act.{Act}
+
+either : (b c : Bool) → b || c ≡ true → (b ≡ true) ⊎ (c ≡ true)
+either true c is = inl refl
+either false c is = inr is
 
 -- SINCE
 module _ (start keep : Event → List Event → Bool) where

@@ -3,16 +3,25 @@
 #![tactic(auto)]
 
 mod act;
+mod batch;
 mod changing;
+mod choice;
 mod fault;
 mod gate;
 mod judging;
+mod lane;
 mod laws;
 mod performing;
+mod queue;
 mod reply;
+mod waiting;
 
 pub use act::Act;
+pub use batch::{Batch, Branch, Changes, Report, Reports, Stage};
+pub use choice::{AllBut, Choice};
 pub use fault::Fault;
 pub use gate::{Gate, empty_history_is_legal};
+pub use lane::{Batches, Lane};
 pub use laws::{law_of_sets, law_of_since, law_of_the_last};
+pub use queue::Queue;
 pub use reply::{Order, Orders, Reply, Why};

@@ -1,89 +1,122 @@
 mod approvals;
 mod facts;
+mod lanes;
 mod many;
 mod reading;
 mod same;
 mod settings;
 mod stories;
 
-use crate::readers::{name, number};
+use crate::readers::{check_that, check_words, cut, is_change, name, number, row_of};
 use gate_queue::{Fault, Gate, Reply};
-use gate_rules::Role;
-use reading::{read_act, read_change, shown};
+use gate_rules::{Desk, Rule};
+use gate_text::Settings;
+use reading::{read_act, shown};
 use std::alloc::{AllocError, Global};
 use std::process::Abort;
 
 // What most tables begin with: two people with roles, settings, a base, and three changes.
-const START: [&str; 7] = [
-    "role alice reviewer",
-    "role mia member",
-    "settings status = [\"ci\", \"lint\"]\nblock_labels = [\"hold\"]",
-    "base 0",
-    "opened 1 carol a",
-    "opened 2 carol b",
-    "opened 3 dave c",
-];
+const START: &str = "\
+    role alice reviewer\n\
+    role mia member\n\
+    settings status = [\"ci\", \"lint\"]|block_labels = [\"hold\"]\n\
+    base 0\n\
+    opened 1 carol a\n\
+    opened 2 carol b\n\
+    opened 3 dave c";
 
-// Lets the act of a line step, and answers the gate after it and the reply in words. What `refusal` says before it is what
-// the act is denied by.
-fn step(rt: &impl Abort, alloc: Global, gate: Gate, line: &str) -> (Gate, String) {
-    let act = read_act(rt, alloc, line);
-    let refusal = gate.refusal(alloc, &act).expect(rt, "memory");
-    let (gate, reply) = gate.act(alloc, &act).expect(rt, "memory");
-    let denial = match &reply {
-        Reply::Done(_) => None,
-        Reply::Denied(rule) => Some(rule),
-    };
-    assert_eq!(rt; refusal.as_ref(), denial, "{line}");
-    (gate, shown(rt, alloc, &reply))
+// Whether a reply denies by just the rule that a refusal names.
+fn is_denied(refusal: &Option<Rule>, reply: &Reply) -> bool {
+    match (refusal, reply) {
+        (None, Reply::Done(_)) => true,
+        (Some(rule), Reply::Denied(denial)) => rule == denial,
+        _ => false,
+    }
+}
+
+// A reply is these words, and denies by what `refusal` said before it.
+fn check_reply(
+    rt: &impl Abort,
+    alloc: Global,
+    line: &str,
+    refusal: &Option<Rule>,
+    reply: &Reply,
+    words: &str,
+) {
+    check_that(rt, line, is_denied(refusal, reply));
+    check_words(rt, line, shown(rt, alloc, reply).as_str(), words);
 }
 
 // The gate after the act of a line, which is answered so.
-fn stepped(rt: &impl Abort, alloc: Global, gate: Gate, line: &str, reply: &str) -> Gate {
-    let (gate, found) = step(rt, alloc, gate, line);
-    assert_eq!(rt; found.as_str(), reply, "{line}");
+fn stepped(rt: &impl Abort, alloc: Global, gate: Gate, line: &str, words: &str) -> Gate {
+    let act = read_act(rt, alloc, line);
+    let refusal = gate.refusal(alloc, &act).expect(rt, "memory");
+    let (gate, reply) = gate.act(alloc, &act).expect(rt, "memory");
+    check_reply(rt, alloc, line, &refusal, &reply, words);
     gate
 }
 
 // A gate that stands where the lines of `START` have led.
 fn started(rt: &impl Abort, alloc: Global) -> Gate {
     let mut gate = Gate::new(alloc);
-    for line in START {
+    for line in START.lines() {
         gate = stepped(rt, alloc, gate, line, "done");
     }
     gate
 }
 
-// The change of the number that a text begins with is the one that the text tells of.
-fn check_change(rt: &impl Abort, alloc: Global, gate: &Gate, text: &str) {
-    let (number, change) = read_change(rt, alloc, text);
-    assert_eq!(rt; gate.change(number), change.as_ref(), "{text}");
-    assert_eq!(rt; gate.desk().change(number), change.as_ref(), "{text}");
+// The base by its first digit, the role of a person and the time limit of the settings.
+fn desk_words(rt: &impl Abort, alloc: Global, desk: &Desk, person: &str) -> String {
+    let role = desk.role(&name(rt, alloc, person));
+    let timeout = desk.settings().map_or(0, Settings::timeout_sec);
+    let base = desk.base();
+    let digit = match &base {
+        Some(base) => base.text().split_at(1).0,
+        None => "none",
+    };
+    format!(in alloc; "{digit} {role:?} {timeout}").expect(rt, "memory")
 }
 
-// Each row has an act, what it is answered, and a change after it.
-fn check_story(rt: &impl Abort, alloc: Global, gate: Gate, story: &[(&str, &str, &str)]) {
+// The gate shows what a text tells: of `desk eve` the words of `desk_words`, and of a number the change.
+fn check_shown(rt: &impl Abort, alloc: Global, gate: &Gate, text: &str) {
+    let (word, rest) = cut(text);
+    if word == "desk" {
+        let (person, words) = cut(rest);
+        let found = desk_words(rt, alloc, gate.desk(), person);
+        check_words(rt, text, found.as_str(), words);
+    } else {
+        let number = number(rt, word);
+        check_that(rt, text, is_change(rt, alloc, gate.change(number), rest));
+        check_that(
+            rt,
+            text,
+            is_change(rt, alloc, gate.desk().change(number), rest),
+        );
+    }
+}
+
+// Each row has an act, what it is answered, and what the gate shows after it.
+fn check_story(rt: &impl Abort, alloc: Global, gate: Gate, story: &str) {
     let mut gate = gate;
-    for (line, reply, change) in story {
-        gate = stepped(rt, alloc, gate, line, reply);
-        check_change(rt, alloc, &gate, change);
+    for line in story.lines() {
+        if let Some((act, rest)) = row_of(rt, line) {
+            let (reply, text) = rest.split_once(" => ").expect(rt, "what is shown");
+            gate = stepped(rt, alloc, gate, act, reply);
+            check_shown(rt, alloc, &gate, text);
+        }
     }
 }
 
 #[test]
 fn an_empty_gate(rt: HostRuntime) {
     let gate = Gate::new(rt.alloc());
-    assert!(rt; gate.change(number(&rt, "1")).is_none());
-    assert!(rt; gate.desk().settings().is_none() && gate.desk().base().is_none());
-    assert_eq!(rt; gate.desk().clock(), 0);
-    assert_eq!(rt;
-        gate.desk().role(&name(&rt, rt.alloc(), "alice")),
-        Role::Nobody
-    );
+    check_shown(&rt, rt.alloc(), &gate, "1 none");
+    check_shown(&rt, rt.alloc(), &gate, "desk alice none Nobody 0");
+    check_that(&rt, "the clock", gate.desk().clock() == 0);
     gate_queue::empty_history_is_legal();
 }
 
 #[test]
 fn the_fault_of_memory(rt: HostRuntime) {
-    assert_eq!(rt; Fault::from(AllocError), Fault::Memory);
+    check_that(&rt, "a fault", Fault::from(AllocError) == Fault::Memory);
 }

@@ -1,20 +1,57 @@
-use gate_rules::{Change, Phase, Repeat};
+use gate_rules::{Change, Phase, Repeat, Role, Rule};
 use gate_text::{ChangeNo, Commit, Label, LabelSet, Name, NameSet, Names};
 use std::alloc::Global;
+use std::ops::Range;
 use std::process::Abort;
+
+// The answer to a row is these words. An assertion is dear to prove where many values are alive, so nearly all stand here.
+pub(crate) fn check_words(rt: &impl Abort, row: &str, found: &str, words: &str) {
+    assert_eq!(rt; found, words, "{row:?}");
+}
+
+// What was asked about a row is so.
+pub(crate) fn check_that(rt: &impl Abort, row: &str, is_so: bool) {
+    assert!(rt; is_so, "{row:?}");
+}
+
+// Two texts of a table say the same just if they are the same text.
+pub(crate) fn check_pair(rt: &impl Abort, one: &str, other: &str, are_equal: bool) {
+    assert!(rt; are_equal == (one == other), "{one:?} and {other:?}");
+}
 
 // The first word of a text, and the rest.
 pub(crate) fn cut(text: &str) -> (&str, &str) {
     text.split_once(' ').unwrap_or((text, ""))
 }
 
-// A row of a table: two texts parted by ` => `. A blank line and one that begins with `//` is none.
+// A row of a table: a text, and behind ` =>` what is answered to it. Rows are indented by eight spaces, and what stands
+// behind these counts; a blank line is none, and `//` begins a remark.
 pub(crate) fn row_of<'a>(rt: &impl Abort, line: &'a str) -> Option<(&'a str, &'a str)> {
-    let line = line.trim();
-    if line.is_empty() || line.starts_with("//") {
+    let Some(row) = line.strip_prefix("        ") else {
+        check_that(rt, line, line.trim().is_empty());
+        return None;
+    };
+    if row.starts_with("//") {
         return None;
     }
-    Some(line.split_once(" => ").expect(rt, "a row"))
+    let (row, answer) = row.split_once(" =>").expect(rt, "a row");
+    Some((row, answer.trim_start()))
+}
+
+// Numbers upwards in one text, with something between each two.
+pub(crate) fn counted(
+    rt: &impl Abort,
+    alloc: Global,
+    numbers: Range<u32>,
+    parting: &str,
+) -> String {
+    let first = numbers.start;
+    let mut words = String::new(alloc);
+    for number in numbers {
+        let before = if number == first { "" } else { parting };
+        write!(words, "{before}{number}").expect(rt, "memory");
+    }
+    words
 }
 
 pub(crate) fn name(rt: &impl Abort, alloc: Global, text: &str) -> Name {
@@ -66,6 +103,14 @@ pub(crate) fn label_set(rt: &impl Abort, alloc: Global, list: &str) -> LabelSet 
     set
 }
 
+pub(crate) fn role(word: &str) -> Role {
+    match word {
+        "reviewer" => Role::Reviewer,
+        "member" => Role::Member,
+        _ => Role::Nobody,
+    }
+}
+
 fn phase(word: &str) -> Phase {
     match word {
         "opened" => Phase::Opened,
@@ -81,15 +126,18 @@ fn approvers(rt: &impl Abort, alloc: Global, list: &str) -> Option<Names> {
     }
 }
 
+fn repeat(rt: &impl Abort, alloc: Global, word: &str) -> Repeat {
+    match word {
+        "r+" => Repeat::Approve,
+        "try" => Repeat::Try,
+        list => Repeat::ApproveFor(names(rt, alloc, list.trim_start_matches("r="))),
+    }
+}
+
 fn last(rt: &impl Abort, alloc: Global, word: &str) -> Option<Repeat> {
     match word {
         "-" => None,
-        "r+" => Some(Repeat::Approve),
-        "try" => Some(Repeat::Try),
-        list => {
-            let list = list.strip_prefix("r=").expect(rt, "`r=`");
-            Some(Repeat::ApproveFor(names(rt, alloc, list)))
-        }
+        word => Some(repeat(rt, alloc, word)),
     }
 }
 
@@ -115,4 +163,32 @@ pub(crate) fn change(rt: &impl Abort, alloc: Global, text: &str) -> Change {
         approved: approvers(rt, alloc, approver_list),
         last: last(rt, alloc, last_word),
     }
+}
+
+// Whether a change is the one of a text, which is `none` if there is no such change.
+pub(crate) fn is_change(
+    rt: &impl Abort,
+    alloc: Global,
+    found: Option<&Change>,
+    text: &str,
+) -> bool {
+    match found {
+        None => text == "none",
+        Some(found) => text != "none" && *found == change(rt, alloc, text),
+    }
+}
+
+// A rule by its name and what it names.
+pub(crate) fn rule_words(rt: &impl Abort, alloc: Global, rule: &Rule) -> String {
+    let mut words = String::from_str(alloc, rule.word()).expect(rt, "memory");
+    match rule {
+        Rule::NotPermitted(level) => write!(words, " {}", level.word()).expect(rt, "memory"),
+        Rule::Blocked(label) => write!(words, " {}", label.text()).expect(rt, "memory"),
+        Rule::TooFewReviews(have, need) => {
+            write!(words, " {have} {need}").expect(rt, "memory");
+        }
+        Rule::BadSettings(number) => write!(words, " {number}").expect(rt, "memory"),
+        _ => {}
+    }
+    words
 }

@@ -5,15 +5,15 @@ use Rattle.std.proofs.lemmas.Iterator.{YieldsList}
 use Rattle.std.proofs.lemmas.Iterator.Consumers.{YieldsList-turn, YieldsList-end}
 use Rattle.std.proofs.lemmas.List.{drop_all}
 use Rattle.std.specs.Iterator.{Yields}
-use Rattle.std.proofs.lemmas.Map.Text.{is_eq-slice_cmp}
 use Rattle.std.specs.Cmp.Lexicographic.{slice_cmp, nat_list_cmp_total, nat_list_eq_equiv}
 use Rattle.std.specs.FinSet as set
 use Rattle.std.specs.FinSet.{slice_cmp-IsAntisymmetric, nat_cmp-IsAntisymmetric}
 use Rattle.std.specs.List.{list_any}
-use Rattle.std.specs.Ordering.{eq_by_cmp, nat_cmp}
+use Rattle.std.specs.Ordering.{nat_cmp}
 use Rattle.std.specs.Str.{bytes_eq}
 use Rattle.std.specs.Option.{option_map}
 use Rattle.gate_text.specs.Arguments.{all_of, with_name}
+use Rattle.gate_text.specs.Finite.{known_by_order}
 
 -- `YieldsList-turn` and `YieldsList-end` with the list last, when its iterator is known
 module _ {S A B : Type 0} {steps : S → Option A → S → Type 0} {v : A → B} {s : S} {all : List B} (xs : List A) (t : S) (yielded : Yields steps s xs t) (r : Option A) (u : S) where
@@ -55,10 +55,6 @@ items_end read joined front items n is = rw (drop_all n items (omega arith)) ref
 pub same_either_way : (name : List ℕ) (names : List (List ℕ)) → list_any (bytes_eq name) names ≡ list_any (λ other. bytes_eq other name) names
 same_either_way name [] = refl
 same_either_way name (other ∷ names) = λ i. nat_list_eq_equiv.symm name other i || same_either_way name names i
-
-pub known_by_order : (name : List ℕ) (names : List (List ℕ)) → list_any (eq_by_cmp (slice_cmp nat_cmp) name) names ≡ list_any (bytes_eq name) names
-known_by_order name [] = refl
-known_by_order name (other ∷ names) = λ i. is_eq-slice_cmp name other i || known_by_order name names i
 
 -- whether the set of the names has one is whether the list has it
 pub known-is : (names : List (List ℕ)) (name : List ℕ) → set.contains (set.from_list {R = slice_cmp nat_cmp} names) name ≡ list_any (λ other. bytes_eq other name) names

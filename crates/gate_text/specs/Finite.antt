@@ -18,9 +18,11 @@ use Rattle.std.specs.BTreeSet as tree_set
 use Rattle.std.specs.BTreeSet.{BTreeSet}
 use Rattle.std.specs.List.{AllByRecursion, fold, list_any}
 use Rattle.std.proofs.lemmas.Float.{T_from_true}
+use Rattle.std.proofs.lemmas.Map.Text.{is_eq-slice_cmp}
 use Rattle.std.specs.FinMap.Entries.{below_all}
 use Rattle.std.specs.Map.{keys_of, lookup}
 use Rattle.std.specs.Option.{option_map}
+use Rattle.std.specs.Str.{bytes_eq}
 
 -- the codes of finite maps and sets, by which a record that has them as fields is a model's value
 pub ruleset finite_codes = (map.code, set.code)
@@ -186,3 +188,8 @@ module _ {K : Type 0} {R : K → K → Ordering} (total : IsTotalOrder R) where
 
 pub is_same_words-equiv : IsEquivalence (is_same {R = slice_cmp nat_cmp})
 is_same_words-equiv = is_same-equiv nat_list_cmp_total (slice_cmp-IsAntisymmetric nat_cmp-IsAntisymmetric)
+
+-- a text is in a list by its order exactly if it is by its bytes
+pub known_by_order : (name : List ℕ) (names : List (List ℕ)) → list_any (eq_by_cmp (slice_cmp nat_cmp) name) names ≡ list_any (bytes_eq name) names
+known_by_order name [] = refl
+known_by_order name (other ∷ names) = λ i. is_eq-slice_cmp name other i || known_by_order name names i

@@ -4,7 +4,7 @@ ghost use Rattle.std.specs.FinSet as set;
 ghost use Rattle.std.specs.List.{list_all};
 ghost use Rattle.gate_text.specs.Arguments as arguments;
 
-use crate::fault::TextFault;
+use crate::fault::unless_bad;
 use crate::name::Name;
 use crate::names::{NameSet, Names};
 use crate::spaces::trim;
@@ -36,7 +36,7 @@ fn magnitude_of(text: &[u8]) -> Option<u16>
 }
 
 // The number of an optional `-` and one to four digits, and nothing for another text.
-pub fn number_of(text: &[u8]) -> Option<i32>
+pub(crate) fn number_of(text: &[u8]) -> Option<i32>
     ensures { result ≡ arguments.number_of text.now }
 {
     match text.strip_prefix(b"-".as_slice()) {
@@ -68,15 +68,11 @@ fn add_name(
 fn name_in(alloc: Global, item: &[u8]) -> Result<Option<Name>, AllocError>
     ensures { IfOk result (λ name. name ≡ arguments.name_in item.now) }
 {
-    match Name::from_bytes(alloc, trim(item)) {
-        Ok(name) => Ok(Some(name)),
-        Err(TextFault::Memory) => Err(AllocError),
-        Err(_) => Ok(None),
-    }
+    unless_bad(Name::from_bytes(alloc, trim(item)))
 }
 
 // The names of a list, and nothing for another text.
-pub fn names_of(alloc: Global, list: &[u8]) -> Result<Option<Names>, AllocError>
+pub(crate) fn names_of(alloc: Global, list: &[u8]) -> Result<Option<Names>, AllocError>
     ensures { IfOk result (λ names. names ≡ arguments.names_of list.now) }
 {
     let mut names = Vec::new(alloc);

@@ -113,7 +113,11 @@ fn push_approvals(alloc: Global, spoken: &mut Vec<Spoken>, body: &[u8]) -> Resul
 }
 
 // Adds what a body says.
-pub fn push_body(alloc: Global, spoken: &mut Vec<Spoken>, body: &[u8]) -> Result<(), AllocError>
+pub(crate) fn push_body(
+    alloc: Global,
+    spoken: &mut Vec<Spoken>,
+    body: &[u8],
+) -> Result<(), AllocError>
     ensures { OnOk result (spoken.new.items ≡ spoken.old.items ++ reading.body_says body.now) }
 {
     match command_of(alloc, body)? {

@@ -1,3 +1,6 @@
+ghost use Rattle.std.specs.Prelude.{◌≡◌, ◌↔◌, IfOk, IsErr, Err};
+ghost use Rattle.std.specs.Result.{result_ok};
+
 use std::alloc::AllocError;
 use thiserror::Error;
 
@@ -15,7 +18,7 @@ pub enum TextFault {
     #[error("no allowed byte at place {0}")]
     BadByte(usize),
     /// The digits are no change number: they begin with `0`, or the number is too great.
-    #[error("the number is out of range")]
+    #[error("the digits begin with 0, or their number is too great")]
     BadNumber,
     /// The allocator had no memory for a text that is good.
     #[error("out of memory")]
@@ -30,5 +33,17 @@ impl From<AllocError> for TextFault {
 
     fn from(_error: AllocError) -> TextFault {
         TextFault::Memory
+    }
+}
+
+/// What was read, and nothing if the text is bad. `AllocError` if there was no memory to read it.
+pub fn unless_bad<T>(read: Result<T, TextFault>) -> Result<Option<T>, AllocError>
+    ensures value { IfOk result (λ value. value ≡ result_ok read) }
+    ensures memory { IsErr result ↔ (read ≡ Err TextFault.Memory) }
+{
+    match read {
+        Ok(value) => Ok(Some(value)),
+        Err(TextFault::Memory) => Err(AllocError),
+        Err(_) => Ok(None),
     }
 }

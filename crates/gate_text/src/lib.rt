@@ -28,7 +28,7 @@ pub use comment::{one_reading, read_comment};
 pub use commit::Commit;
 pub use context::Context;
 pub use delivery_id::DeliveryId;
-pub use fault::TextFault;
+pub use fault::{TextFault, unless_bad};
 pub use label::Label;
 pub use list::{List, TryCopy};
 pub use name::Name;

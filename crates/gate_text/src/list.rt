@@ -1,4 +1,6 @@
-ghost use Rattle.std.specs.Prelude.{◌≡◌, IfOk};
+ghost use Rattle.std.specs.Prelude.{◌≡◌, ◌++◌, ◌∷◌, [], IfOk, OnOk, OnErr};
+ghost use Rattle.std.specs.Fn.{CalledAt};
+ghost use Rattle.std.specs.List.Retain.{IsFiltered};
 
 use std::alloc::{AllocError, Global};
 use std::marker::Model;
@@ -38,6 +40,27 @@ impl<T> List<T> {
     {
         let List { items } = self;
         items
+    }
+
+    /// Adds a value behind the others. If there is no memory for it, the list stays as it was.
+    pub fn push(&mut self, item: T) -> Result<(), AllocError>
+    where
+        T: Drop,
+        ensures ok { OnOk result (self.new ≡ self.old ++ item ∷ []) }
+        ensures err { OnErr result (self.new ≡ self.old) }
+    {
+        self.items.push(item)?;
+        Ok(())
+    }
+
+    /// Drops the values for which the test gives `false`. It takes no memory.
+    pub fn retain<F: FnMut(&T) -> bool>(&mut self, test: F)
+    where
+        T: Drop,
+        requires { F.IsAlwaysCallable test }
+        ensures filtered { IsFiltered (CalledAt F.FnMut) test self.old self.new }
+    {
+        self.items.retain(test);
     }
 }
 

@@ -19,7 +19,7 @@ fn first_control_byte(text: &[u8]) -> Option<usize>
 /// Reads a text without control characters. Refusals, in their order: `Empty`, `TooLong` (more than 255 bytes),
 /// `BadByte` (a byte below a space, or DEL), `Memory`.
 #[tactic(auto, using(crate::proofs::Refusals::refused), unfolding(crate::specs::SmallTexts::plain_of))]
-pub fn read_plain(alloc: Global, text: &str) -> Result<Text, TextFault>
+pub(crate) fn read_plain(alloc: Global, text: &str) -> Result<Text, TextFault>
     ensures value { Reads result (plain_of text.now) }
 {
     if let Some(fault) = first_fault(text.len(), MAX_LEN, first_control_byte(text.as_bytes())) {

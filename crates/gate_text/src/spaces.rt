@@ -13,7 +13,7 @@ fn trim_start(text: &[u8]) -> &[u8]
 }
 
 // The text without the spaces at its end.
-pub fn trim_end(text: &[u8]) -> &[u8]
+pub(crate) fn trim_end(text: &[u8]) -> &[u8]
     ensures { result.now ≡ spaces.trim_end text.now }
 {
     let mut rest = text;
@@ -24,14 +24,14 @@ pub fn trim_end(text: &[u8]) -> &[u8]
 }
 
 // The text without the spaces at either end.
-pub fn trim(text: &[u8]) -> &[u8]
+pub(crate) fn trim(text: &[u8]) -> &[u8]
     ensures { result.now ≡ spaces.trim text.now }
 {
     trim_end(trim_start(text))
 }
 
 // The place of the last space.
-pub fn last_space(text: &[u8]) -> Option<usize>
+pub(crate) fn last_space(text: &[u8]) -> Option<usize>
     ensures value { result ≡ spaces.last_space text.now }
     ensures within { IfSome result (λ place. place < length text.now) }
 {

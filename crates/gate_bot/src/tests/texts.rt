@@ -1,14 +1,12 @@
-use crate::delivery::acts_of;
+use crate::answers::answer_text;
+use crate::errors::error_text;
 use crate::lines::HookFault;
-use crate::reading::{DeliveryFault, Field, read_delivery};
-use crate::writing::{answer_text, error_text};
-use gate_queue::{Act, Fault, Order, Orders, Reply, Why};
+use crate::reading::{DeliveryFault, Field};
+use gate_queue::{Fault, Order, Orders, Reply, Why};
 use gate_rules::{Level, Rule};
-use gate_text::{ChangeNo, Label, Spoken};
+use gate_text::{ChangeNo, Label};
 use std::alloc::Global;
 use std::process::Abort;
-
-const HEAD: &str = "0123456789abcdef0123456789abcdef01234567";
 
 fn error(rt: &impl Abort, alloc: Global, fault: DeliveryFault) -> String {
     error_text(alloc, &fault).expect(rt, "memory")
@@ -63,6 +61,17 @@ fn words_of_faults(rt: HostRuntime) {
         let printed = format!(in rt.alloc(); "{fault}").expect(&rt, "memory");
         assert_eq!(rt; printed.as_str(), word);
     }
+    let field = DeliveryFault::BadField(Field::Approves);
+    let printed = format!(in rt.alloc();
+        "{}; {}; {field}",
+        DeliveryFault::NotJson,
+        DeliveryFault::UnknownEvent
+    );
+    let printed = printed.expect(&rt, "memory");
+    assert_eq!(rt;
+        printed.as_str(),
+        r#"not a JSON object; unknown event; bad field "approves""#
+    );
 }
 
 // The text of the answer that is this denial.
@@ -140,131 +149,4 @@ fn texts_of_notices(rt: HostRuntime) {
     let replies: [Reply; 0] = [];
     let empty = answer_text(rt.alloc(), replies.as_slice()).expect(&rt, "memory");
     assert_eq!(rt; empty.as_str(), "[]");
-}
-
-fn said(rt: &impl Abort, alloc: Global, spoken: &Spoken) -> String {
-    format!(in alloc; "{spoken:?}").expect(rt, "memory")
-}
-
-// An act in words.
-fn act_words(rt: &impl Abort, alloc: Global, act: &Act) -> String {
-    let words = match act {
-        Act::Spoken {
-            change,
-            person,
-            spoken,
-        } => {
-            format!(in alloc;
-                "{} {} {}",
-                change.number(),
-                person.text(),
-                said(rt, alloc, spoken)
-            )
-        }
-        Act::Role { person, role } => format!(in alloc; "role {} {role:?}", person.text()),
-        Act::Settings { text } => format!(in alloc; "settings {}", text.as_str()),
-        Act::Base { commit } => format!(in alloc; "base {}", commit.text()),
-        Act::Opened {
-            change,
-            author,
-            head,
-        } => format!(in alloc;
-            "opened {} {} {}",
-            change.number(),
-            author.text(),
-            head.text()
-        ),
-        Act::Pushed { change, head } => {
-            format!(in alloc; "pushed {} {}", change.number(), head.text())
-        }
-        Act::Closed { change } => format!(in alloc; "closed {}", change.number()),
-        Act::Labeled { change, label } => {
-            format!(in alloc; "labeled {} {}", change.number(), label.text())
-        }
-        Act::Unlabeled { change, label } => {
-            format!(in alloc; "unlabeled {} {}", change.number(), label.text())
-        }
-        Act::Review {
-            change,
-            person,
-            head,
-            approves,
-        } => {
-            format!(in alloc;
-                "review {} {} {} {approves}",
-                change.number(),
-                person.text(),
-                head.text()
-            )
-        }
-    };
-    words.expect(rt, "memory")
-}
-
-// The acts of the delivery of an event, in words.
-fn acts_words(rt: &impl Abort, alloc: Global, event: &str) -> String {
-    let line = format!(in alloc; r#"{{"id":"d-1","event":{event}}}"#).expect(rt, "memory");
-    let line = line.replace(alloc, "#", HEAD).expect(rt, "memory");
-    let delivery = read_delivery(alloc, line.as_bytes()).expect(rt, "a delivery");
-    assert_eq!(rt; delivery.id.text(), "d-1");
-    let mut words = String::new(alloc);
-    for act in acts_of(alloc, &delivery).expect(rt, "memory").iter() {
-        write!(words, "{};", act_words(rt, alloc, act)).expect(rt, "memory");
-    }
-    words
-}
-
-// A `#` stands for a commit.
-#[test]
-fn acts_of_deliveries(rt: HostRuntime) {
-    for (event, acts) in [
-        (
-            r#""comment","change":7,"person":"@Alice","text":"Thanks!\nbors r+\nbors dance\r\nfine\nBors: ping""#,
-            "7 alice Known(Approve);7 alice Unknown;7 alice Known(Ping);",
-        ),
-        (
-            r#""comment","change":7,"person":"alice","text":"Thanks!\n bors r+\nborsalino""#,
-            "",
-        ),
-        (
-            r#""comment","change":7,"person":"alice","text":"bors r+ p=-5""#,
-            "7 alice Known(Priority(-5));7 alice Known(Approve);",
-        ),
-        (
-            r#""role","person":"mia","role":"nobody""#,
-            "role mia Nobody;",
-        ),
-        (
-            r#""role","person":"mia","role":"member""#,
-            "role mia Member;",
-        ),
-        (
-            r#""role","person":"Mia","role":"reviewer""#,
-            "role mia Reviewer;",
-        ),
-        (r#""settings","text":"any é""#, "settings any é;"),
-        (r##""base","commit":"#""##, "base #;"),
-        (
-            r##""opened","change":4294967295,"author":"Carol[bot]","head":"#""##,
-            "opened 4294967295 carol[bot] #;",
-        ),
-        (r##""pushed","change":3,"head":"#""##, "pushed 3 #;"),
-        (r#""closed","change":3"#, "closed 3;"),
-        (r#""labeled","change":3,"label":"a b""#, "labeled 3 a b;"),
-        (
-            r#""unlabeled","change":3,"label":"a b""#,
-            "unlabeled 3 a b;",
-        ),
-        (
-            r##""review","change":3,"person":"mia","head":"#","approves":true"##,
-            "review 3 mia # true;",
-        ),
-        (
-            r##""review","change":3,"person":"mia","head":"#","approves":false"##,
-            "review 3 mia # false;",
-        ),
-    ] {
-        let acts = acts.replace(rt.alloc(), "#", HEAD).expect(&rt, "memory");
-        assert_eq!(rt; acts_words(&rt, rt.alloc(), event), acts, "{event}");
-    }
 }

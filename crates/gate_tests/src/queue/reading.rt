@@ -1,6 +1,5 @@
-use crate::readers::{change, commit, cut, label, name, number};
+use crate::readers::{commit, cut, label, name, number, role, rule_words};
 use gate_queue::{Act, Order, Reply};
-use gate_rules::{Change, Role, Rule};
 use gate_text::{ChangeNo, Spoken, Text, read_comment};
 use std::alloc::Global;
 use std::process::Abort;
@@ -10,12 +9,10 @@ fn spoken(rt: &impl Abort, alloc: Global, line: &str) -> Spoken {
     spoken.pop().expect(rt, "a command line")
 }
 
-fn role(word: &str) -> Role {
-    match word {
-        "reviewer" => Role::Reviewer,
-        "member" => Role::Member,
-        _ => Role::Nobody,
-    }
+// The text of settings, in which a `|` stands for a line feed.
+fn settings(rt: &impl Abort, alloc: Global, text: &str) -> Text {
+    let text = text.replace(alloc, "|", "\n").expect(rt, "memory");
+    Text::from_str(alloc, text.as_str()).expect(rt, "memory")
 }
 
 // The act of a line: a fact's name and its fields, or `1 alice bors r+` for a comment.
@@ -28,7 +25,7 @@ pub(crate) fn read_act(rt: &impl Abort, alloc: Global, line: &str) -> Act {
             role: role(fields),
         },
         "settings" => Act::Settings {
-            text: Text::from_str(alloc, rest).expect(rt, "memory"),
+            text: settings(rt, alloc, rest),
         },
         "base" => Act::Base {
             commit: commit(rt, alloc, rest),
@@ -84,7 +81,7 @@ fn read_review(rt: &impl Abort, alloc: Global, change: ChangeNo, person: &str, r
 pub(crate) fn shown(rt: &impl Abort, alloc: Global, reply: &Reply) -> String {
     match reply {
         Reply::Done(orders) => shown_orders(rt, alloc, orders.as_slice()),
-        Reply::Denied(rule) => shown_rule(rt, alloc, rule),
+        Reply::Denied(rule) => rule_words(rt, alloc, rule),
     }
 }
 
@@ -95,30 +92,4 @@ fn shown_orders(rt: &impl Abort, alloc: Global, orders: &[Order]) -> String {
         write!(words, " {} {why:?}", change.number()).expect(rt, "memory");
     }
     words
-}
-
-fn shown_rule(rt: &impl Abort, alloc: Global, rule: &Rule) -> String {
-    let word = rule.word();
-    let words = match rule {
-        Rule::NotPermitted(level) => format!(in alloc; "{word} {}", level.word()),
-        Rule::Blocked(label) => format!(in alloc; "{word} {}", label.text()),
-        Rule::TooFewReviews(have, need) => format!(in alloc; "{word} {have} {need}"),
-        Rule::BadSettings(number) => format!(in alloc; "{word} {number}"),
-        _ => String::from_str(alloc, word),
-    };
-    words.expect(rt, "memory")
-}
-
-// The change of a line: its number, and then `none`, or what `change` of the readers takes.
-pub(crate) fn read_change(
-    rt: &impl Abort,
-    alloc: Global,
-    line: &str,
-) -> (ChangeNo, Option<Change>) {
-    let (word, rest) = cut(line);
-    let found = match rest {
-        "none" => None,
-        fields => Some(change(rt, alloc, fields)),
-    };
-    (number(rt, word), found)
 }

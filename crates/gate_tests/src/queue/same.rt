@@ -1,8 +1,8 @@
 ghost use Rattle.std.specs.Prelude.{◌≡◌, ◌↔◌, IsTrue, IfOk};
 
 use super::reading::read_act;
-use crate::readers::number;
-use gate_queue::{Order, Orders, Reply, Why};
+use crate::readers::{check_pair, number};
+use gate_queue::{Act, Order, Orders, Reply, Why};
 use gate_rules::Rule;
 use std::alloc::{AllocError, Global};
 use std::process::Abort;
@@ -36,100 +36,110 @@ fn reasons_and_orders(rt: HostRuntime) {
 }
 
 // Acts, no two of which are the same.
-const ACTS: &[&str] = &[
-    "1 alice bors r+",
-    "2 alice bors r+",
-    "1 mia bors r+",
-    "1 alice bors ping",
-    "1 alice bors r-",
-    "1 alice bors r=zoe",
-    "1 alice bors r=al",
-    "1 alice bors r=zoe,al",
-    "1 alice bors r=al,zoe",
-    "1 alice bors p=1",
-    "1 alice bors p=-1",
-    "1 alice bors try",
-    "1 alice bors try-",
-    "1 alice bors d+",
-    "1 alice bors d=zoe",
-    "1 alice bors d=al",
-    "1 alice bors d-",
-    "1 alice bors retry",
-    "1 alice bors dance",
-    "role alice member",
-    "role alice reviewer",
-    "role mia member",
-    "settings a",
-    "settings b",
-    "base a",
-    "base b",
-    "opened 1 carol a",
-    "opened 2 carol a",
-    "opened 1 dave a",
-    "opened 1 carol b",
-    "pushed 1 a",
-    "pushed 2 a",
-    "pushed 1 b",
-    "closed 1",
-    "closed 2",
-    "labeled 1 a",
-    "labeled 2 a",
-    "labeled 1 b",
-    "unlabeled 1 a",
-    "unlabeled 2 a",
-    "unlabeled 1 b",
-    "review 1 mia a yes",
-    "review 2 mia a yes",
-    "review 1 al a yes",
-    "review 1 mia b yes",
-    "review 1 mia a no",
-];
+const ACTS: &str = "\
+    1 alice bors r+\n\
+    2 alice bors r+\n\
+    1 mia bors r+\n\
+    1 alice bors ping\n\
+    1 alice bors r-\n\
+    1 alice bors r=zoe\n\
+    1 alice bors r=al\n\
+    1 alice bors r=zoe,al\n\
+    1 alice bors r=al,zoe\n\
+    1 alice bors p=1\n\
+    1 alice bors p=-1\n\
+    1 alice bors try\n\
+    1 alice bors try-\n\
+    1 alice bors d+\n\
+    1 alice bors d=zoe\n\
+    1 alice bors d=al\n\
+    1 alice bors d-\n\
+    1 alice bors retry\n\
+    1 alice bors dance\n\
+    role alice member\n\
+    role alice reviewer\n\
+    role mia member\n\
+    settings a\n\
+    settings b\n\
+    base a\n\
+    base b\n\
+    opened 1 carol a\n\
+    opened 2 carol a\n\
+    opened 1 dave a\n\
+    opened 1 carol b\n\
+    pushed 1 a\n\
+    pushed 2 a\n\
+    pushed 1 b\n\
+    closed 1\n\
+    closed 2\n\
+    labeled 1 a\n\
+    labeled 2 a\n\
+    labeled 1 b\n\
+    unlabeled 1 a\n\
+    unlabeled 2 a\n\
+    unlabeled 1 b\n\
+    review 1 mia a yes\n\
+    review 2 mia a yes\n\
+    review 1 al a yes\n\
+    review 1 mia b yes\n\
+    review 1 mia a no";
 
-fn is_same_act(rt: &impl Abort, alloc: Global, one: &str, other: &str) -> bool {
-    read_act(rt, alloc, one) == read_act(rt, alloc, other)
+fn is_act(rt: &impl Abort, alloc: Global, act: &Act, line: &str) -> bool {
+    *act == read_act(rt, alloc, line)
+}
+
+// The act of a line is equal to no act of another line.
+fn check_act(rt: &impl Abort, alloc: Global, act: &Act, line: &str) {
+    for other in ACTS.lines() {
+        check_pair(rt, line, other, is_act(rt, alloc, act, other));
+    }
 }
 
 #[test]
 fn acts_that_are_equal(rt: HostRuntime) {
-    for one in ACTS {
-        for other in ACTS {
-            let found = is_same_act(&rt, rt.alloc(), one, other);
-            assert_eq!(rt; found, one == other, "{one} and {other}");
-        }
+    for line in ACTS.lines() {
+        check_act(&rt, rt.alloc(), &read_act(&rt, rt.alloc(), line), line);
     }
 }
 
-// The reply of a text: a notice for each change that it lists, or a denial if it lists none.
-fn reply(rt: &impl Abort, alloc: Global, text: &str) -> Reply {
+// A notice for each of these changes.
+fn notices(rt: &impl Abort, alloc: Global, numbers: &str) -> Orders {
     let mut orders = Vec::new(alloc);
-    match text {
-        "unknown" => return Reply::Denied(Rule::UnknownChange),
-        "closed" => return Reply::Denied(Rule::NotOpen),
-        "few" => return Reply::Denied(Rule::TooFewReviews(0, 1)),
-        "fewer" => return Reply::Denied(Rule::TooFewReviews(0, 2)),
-        _ => {}
-    }
-    for word in text.split_ascii_whitespace() {
-        let why = if word == "1" {
-            Why::Closed
-        } else {
-            Why::Pushed
-        };
+    for word in numbers.split_ascii_whitespace() {
         let change = number(rt, word);
+        let why = match word {
+            "1" => Why::Closed,
+            _ => Why::Pushed,
+        };
         orders
             .push(Order::Notice { change, why })
             .expect(rt, "memory");
     }
-    Reply::Done(Orders::from(orders))
+    Orders::from(orders)
+}
+
+// The reply of a text: a denial, or a notice for each change that it lists.
+fn reply(rt: &impl Abort, alloc: Global, text: &str) -> Reply {
+    match text {
+        "unknown" => Reply::Denied(Rule::UnknownChange),
+        "closed" => Reply::Denied(Rule::NotOpen),
+        "few" => Reply::Denied(Rule::TooFewReviews(0, 1)),
+        "fewer" => Reply::Denied(Rule::TooFewReviews(0, 2)),
+        numbers => Reply::Done(notices(rt, alloc, numbers)),
+    }
+}
+
+fn is_reply(rt: &impl Abort, alloc: Global, found: &Reply, text: &str) -> bool {
+    *found == reply(rt, alloc, text)
 }
 
 #[test]
 fn replies_that_are_equal(rt: HostRuntime) {
     let replies = "|1|2|1 2|2 1|1 1|unknown|closed|few|fewer";
     for one in replies.split('|') {
+        let found = reply(&rt, rt.alloc(), one);
         for other in replies.split('|') {
-            let found = reply(&rt, rt.alloc(), one) == reply(&rt, rt.alloc(), other);
-            assert_eq!(rt; found, one == other, "{one} and {other}");
+            check_pair(&rt, one, other, is_reply(&rt, rt.alloc(), &found, other));
         }
     }
 }

@@ -2,203 +2,92 @@ use super::{check_story, started};
 
 #[test]
 fn reviews(rt: HostRuntime) {
-    let opened = "1 carol a opened 0 - - - - -";
-    let story = [
-        (
-            "settings status = [\"ci\"]\nrequired_approvals = 1",
-            "done",
-            opened,
-        ),
-        ("1 alice bors r+", "TooFewReviews 0 1", opened),
-        ("review 1 mia e yes", "StaleHead", opened),
-        ("review 1 carol a yes", "NotMember", opened),
-        ("review 1 eve b yes", "StaleHead", opened),
-        ("role carol member", "done", opened),
-        ("review 1 carol a yes", "OwnChange", opened),
-        ("review 9 mia a yes", "UnknownChange", opened),
-        (
-            "review 1 mia a yes",
-            "done",
-            "1 carol a opened 0 - mia - - -",
-        ),
-        (
-            "1 alice bors r+",
-            "done",
-            "1 carol a opened 0 - mia - alice r+",
-        ),
+    let story = r#"
+        settings status = ["ci"]|required_approvals = 1 => done => 1 carol a opened 0 - - - - -
+        1 alice bors r+ => TooFewReviews 0 1 => 1 carol a opened 0 - - - - -
+        review 1 mia e yes => StaleHead => 1 carol a opened 0 - - - - -
+        review 1 carol a yes => NotMember => 1 carol a opened 0 - - - - -
+        review 1 eve b yes => StaleHead => 1 carol a opened 0 - - - - -
+        role carol member => done => 1 carol a opened 0 - - - - -
+        review 1 carol a yes => OwnChange => 1 carol a opened 0 - - - - -
+        review 9 mia a yes => UnknownChange => 1 carol a opened 0 - - - - -
+        review 1 mia a yes => done => 1 carol a opened 0 - mia - - -
+        1 alice bors r+ => done => 1 carol a opened 0 - mia - alice r+
         // A second review does no harm, and one of a reviewer counts as well.
-        (
-            "review 1 mia a yes",
-            "done",
-            "1 carol a opened 0 - mia - alice r+",
-        ),
-        (
-            "review 1 alice a yes",
-            "done",
-            "1 carol a opened 0 - alice,mia - alice r+",
-        ),
-        (
-            "review 1 mia a no",
-            "done",
-            "1 carol a opened 0 - alice - alice r+",
-        ),
-        (
-            "review 1 mia a no",
-            "done",
-            "1 carol a opened 0 - alice - alice r+",
-        ),
-        (
-            "review 1 alice a no",
-            "done 1 Reviews",
-            "1 carol a opened 0 - - - - r+",
-        ),
-        ("review 1 mia a no", "done", "1 carol a opened 0 - - - - r+"),
-        (
-            "1 alice bors r-",
-            "NotApproved",
-            "1 carol a opened 0 - - - - r+",
-        ),
-    ];
-    check_story(&rt, rt.alloc(), started(&rt, rt.alloc()), story.as_slice());
+        review 1 mia a yes => done => 1 carol a opened 0 - mia - alice r+
+        review 1 alice a yes => done => 1 carol a opened 0 - alice,mia - alice r+
+        review 1 mia a no => done => 1 carol a opened 0 - alice - alice r+
+        review 1 mia a no => done => 1 carol a opened 0 - alice - alice r+
+        review 1 alice a no => done 1 Reviews => 1 carol a opened 0 - - - - r+
+        review 1 mia a no => done => 1 carol a opened 0 - - - - r+
+        1 alice bors r- => NotApproved => 1 carol a opened 0 - - - - r+
+    "#;
+    check_story(&rt, rt.alloc(), started(&rt, rt.alloc()), story);
 }
 
 #[test]
 fn a_head_that_comes_back(rt: HostRuntime) {
-    let at_b = "1 carol b opened 0 - - - - r+";
-    let back = "1 carol a opened 0 - - - - r+";
-    let approved = "1 carol a opened 0 - mia - alice r+";
-    let story = [
-        (
-            "settings status = [\"ci\"]\nrequired_approvals = 1",
-            "done",
-            "1 carol a opened 0 - - - - -",
-        ),
-        (
-            "review 1 mia a yes",
-            "done",
-            "1 carol a opened 0 - mia - - -",
-        ),
-        ("1 alice bors r+", "done", approved),
+    let story = r#"
+        settings status = ["ci"]|required_approvals = 1 => done => 1 carol a opened 0 - - - - -
+        review 1 mia a yes => done => 1 carol a opened 0 - mia - - -
+        1 alice bors r+ => done => 1 carol a opened 0 - mia - alice r+
         // The same head does nothing.
-        ("pushed 1 a", "done", approved),
-        ("1 alice bors r+", "AlreadyApproved", approved),
-        ("pushed 2 c", "done", approved),
-        ("pushed 1 b", "done 1 Pushed", at_b),
-        ("review 1 mia a yes", "StaleHead", at_b),
-        ("pushed 1 b", "done", at_b),
-        ("pushed 1 a", "done", back),
-        ("1 alice bors r-", "NotApproved", back),
-        ("1 alice bors r+", "TooFewReviews 0 1", back),
-        ("pushed 9 a", "UnknownChange", "9 none"),
-        ("pushed 2 c", "done", "2 carol c opened 0 - - - - -"),
-    ];
-    check_story(&rt, rt.alloc(), started(&rt, rt.alloc()), story.as_slice());
+        pushed 1 a => done => 1 carol a opened 0 - mia - alice r+
+        1 alice bors r+ => AlreadyApproved => 1 carol a opened 0 - mia - alice r+
+        pushed 2 c => done => 1 carol a opened 0 - mia - alice r+
+        pushed 1 b => done 1 Pushed => 1 carol b opened 0 - - - - r+
+        review 1 mia a yes => StaleHead => 1 carol b opened 0 - - - - r+
+        pushed 1 b => done => 1 carol b opened 0 - - - - r+
+        pushed 1 a => done => 1 carol a opened 0 - - - - r+
+        1 alice bors r- => NotApproved => 1 carol a opened 0 - - - - r+
+        1 alice bors r+ => TooFewReviews 0 1 => 1 carol a opened 0 - - - - r+
+        pushed 9 a => UnknownChange => 9 none
+        pushed 2 c => done => 2 carol c opened 0 - - - - -
+    "#;
+    check_story(&rt, rt.alloc(), started(&rt, rt.alloc()), story);
 }
 
 #[test]
 fn closed_and_opened_again(rt: HostRuntime) {
-    let approved = "1 carol a opened -7 bug mia al,zoe vera,bob r=vera,bob";
-    let closed = "1 carol a closed -7 bug mia al,zoe - r=vera,bob";
-    let again = "1 dave a opened -7 bug - al,zoe - r=vera,bob";
-    let story = [
-        ("labeled 1 bug", "done", "1 carol a opened 0 bug - - - -"),
-        (
-            "1 alice bors p=-7",
-            "done",
-            "1 carol a opened -7 bug - - - -",
-        ),
-        (
-            "1 alice bors d=zoe,al",
-            "done",
-            "1 carol a opened -7 bug - al,zoe - -",
-        ),
-        (
-            "review 1 mia a yes",
-            "done",
-            "1 carol a opened -7 bug mia al,zoe - -",
-        ),
-        ("1 zoe bors r=vera,bob", "done", approved),
-        ("opened 1 dave a", "AlreadyOpen", approved),
-        ("closed 1", "done 1 Closed", closed),
-        ("closed 1", "NotOpen", closed),
-        ("pushed 1 b", "NotOpen", closed),
-        ("labeled 1 hold", "NotOpen", closed),
-        ("unlabeled 1 bug", "NotOpen", closed),
-        ("review 1 mia e no", "NotOpen", closed),
-        ("1 alice bors r+", "NotOpen", closed),
-        ("1 mia bors r+", "NotPermitted ReviewerOrDelegate", closed),
-        ("opened 1 dave a", "done", again),
-        (
-            "1 zoe bors r+",
-            "done",
-            "1 dave a opened -7 bug - al,zoe zoe r+",
-        ),
-        ("closed 2", "done", "2 carol b closed 0 - - - - -"),
-        ("closed 9", "UnknownChange", "9 none"),
-    ];
-    check_story(&rt, rt.alloc(), started(&rt, rt.alloc()), story.as_slice());
+    let story = "
+        labeled 1 bug => done => 1 carol a opened 0 bug - - - -
+        1 alice bors p=-7 => done => 1 carol a opened -7 bug - - - -
+        1 alice bors d=zoe,al => done => 1 carol a opened -7 bug - al,zoe - -
+        review 1 mia a yes => done => 1 carol a opened -7 bug mia al,zoe - -
+        1 zoe bors r=vera,bob => done => 1 carol a opened -7 bug mia al,zoe vera,bob r=vera,bob
+        opened 1 dave a => AlreadyOpen => 1 carol a opened -7 bug mia al,zoe vera,bob r=vera,bob
+        closed 1 => done 1 Closed => 1 carol a closed -7 bug mia al,zoe - r=vera,bob
+        closed 1 => NotOpen => 1 carol a closed -7 bug mia al,zoe - r=vera,bob
+        pushed 1 b => NotOpen => 1 carol a closed -7 bug mia al,zoe - r=vera,bob
+        labeled 1 hold => NotOpen => 1 carol a closed -7 bug mia al,zoe - r=vera,bob
+        unlabeled 1 bug => NotOpen => 1 carol a closed -7 bug mia al,zoe - r=vera,bob
+        review 1 mia e no => NotOpen => 1 carol a closed -7 bug mia al,zoe - r=vera,bob
+        1 alice bors r+ => NotOpen => 1 carol a closed -7 bug mia al,zoe - r=vera,bob
+        1 mia bors r+ => NotPermitted ReviewerOrDelegate => 1 carol a closed -7 bug mia al,zoe - r=vera,bob
+        opened 1 dave a => done => 1 dave a opened -7 bug - al,zoe - r=vera,bob
+        1 zoe bors r+ => done => 1 dave a opened -7 bug - al,zoe zoe r+
+        closed 2 => done => 2 carol b closed 0 - - - - -
+        closed 9 => UnknownChange => 9 none
+    ";
+    check_story(&rt, rt.alloc(), started(&rt, rt.alloc()), story);
 }
 
 #[test]
 fn labels(rt: HostRuntime) {
-    let story = [
-        (
-            "1 alice bors r+",
-            "done",
-            "1 carol a opened 0 - - - alice r+",
-        ),
+    let story = "
+        1 alice bors r+ => done => 1 carol a opened 0 - - - alice r+
         // Only a blocking label ends an approval, and labels are told apart by their bytes.
-        (
-            "labeled 1 Hold",
-            "done",
-            "1 carol a opened 0 Hold - - alice r+",
-        ),
-        (
-            "labeled 1 hold",
-            "done 1 Labeled",
-            "1 carol a opened 0 Hold,hold - - - r+",
-        ),
-        (
-            "labeled 1 hold",
-            "done",
-            "1 carol a opened 0 Hold,hold - - - r+",
-        ),
-        (
-            "1 alice bors r+",
-            "Blocked hold",
-            "1 carol a opened 0 Hold,hold - - - r+",
-        ),
-        (
-            "unlabeled 1 bug",
-            "done",
-            "1 carol a opened 0 Hold,hold - - - r+",
-        ),
-        (
-            "unlabeled 1 hold",
-            "done",
-            "1 carol a opened 0 Hold - - - r+",
-        ),
-        (
-            "1 alice bors r+",
-            "done",
-            "1 carol a opened 0 Hold - - alice r+",
-        ),
-        (
-            "unlabeled 1 Hold",
-            "done",
-            "1 carol a opened 0 - - - alice r+",
-        ),
-        (
-            "labeled 2 hold",
-            "done",
-            "1 carol a opened 0 - - - alice r+",
-        ),
-        ("labeled 9 hold", "UnknownChange", "9 none"),
-        (
-            "unlabeled 9 hold",
-            "UnknownChange",
-            "2 carol b opened 0 hold - - - -",
-        ),
-    ];
-    check_story(&rt, rt.alloc(), started(&rt, rt.alloc()), story.as_slice());
+        labeled 1 Hold => done => 1 carol a opened 0 Hold - - alice r+
+        labeled 1 hold => done 1 Labeled => 1 carol a opened 0 Hold,hold - - - r+
+        labeled 1 hold => done => 1 carol a opened 0 Hold,hold - - - r+
+        1 alice bors r+ => Blocked hold => 1 carol a opened 0 Hold,hold - - - r+
+        unlabeled 1 bug => done => 1 carol a opened 0 Hold,hold - - - r+
+        unlabeled 1 hold => done => 1 carol a opened 0 Hold - - - r+
+        1 alice bors r+ => done => 1 carol a opened 0 Hold - - alice r+
+        unlabeled 1 Hold => done => 1 carol a opened 0 - - - alice r+
+        labeled 2 hold => done => 1 carol a opened 0 - - - alice r+
+        labeled 9 hold => UnknownChange => 9 none
+        unlabeled 9 hold => UnknownChange => 2 carol b opened 0 hold - - - -
+    ";
+    check_story(&rt, rt.alloc(), started(&rt, rt.alloc()), story);
 }

@@ -1,8 +1,8 @@
 use super::desks::desk;
-use super::words::check_levels;
-use crate::readers::{name, number};
-use gate_rules::{Level, Role};
-use gate_text::Command;
+use super::words::check_table;
+use crate::readers::{name, number, role};
+use gate_rules::{Desk, Level, Role};
+use gate_text::{Command, Name};
 use std::alloc::Global;
 use std::process::Abort;
 
@@ -40,7 +40,7 @@ fn levels_of_commands(rt: HostRuntime) {
         zoe 1 bors retry => Member false
         mia 9 bors retry => Member true
     ";
-    check_levels(&rt, rt.alloc(), &desk, table);
+    check_table(&rt, rt.alloc(), &desk, "permission", table);
 }
 
 // `retry` needs what the command needs that it repeats, on its own change.
@@ -63,11 +63,22 @@ fn levels_of_retry(rt: HostRuntime) {
         mia 4 bors retry => MemberOrDelegate true
         zoe 4 bors retry => MemberOrDelegate true
     ";
-    check_levels(&rt, rt.alloc(), &desk, table);
+    check_table(&rt, rt.alloc(), &desk, "permission", table);
 }
 
-// Whether nobody, a member and a reviewer have a level, and then the same as delegates of the change.
-fn admitted(rt: &impl Abort, alloc: Global, level: Level) -> String {
+fn level(word: &str) -> Level {
+    match word {
+        "Anyone" => Level::Anyone,
+        "Member" => Level::Member,
+        "MemberOrDelegate" => Level::MemberOrDelegate,
+        "ReviewerOrDelegate" => Level::ReviewerOrDelegate,
+        _ => Level::Reviewer,
+    }
+}
+
+// A level, whether nobody, a member and a reviewer have it, and then the same as delegates of the change.
+pub(crate) fn admitted(rt: &impl Abort, alloc: Global, row: &str) -> String {
+    let level = level(row);
     let mut words = String::from_str(alloc, level.word()).expect(rt, "memory");
     for is_delegate in [false, true] {
         for role in [Role::Nobody, Role::Member, Role::Reviewer] {
@@ -80,41 +91,40 @@ fn admitted(rt: &impl Abort, alloc: Global, level: Level) -> String {
 
 #[test]
 fn who_has_which_level(rt: HostRuntime) {
-    for (level, words) in [
-        (Level::Anyone, "Anyone true true true true true true"),
-        (Level::Member, "Member false true true false true true"),
-        (
-            Level::MemberOrDelegate,
-            "MemberOrDelegate false true true true true true",
-        ),
-        (
-            Level::ReviewerOrDelegate,
-            "ReviewerOrDelegate false false true true true true",
-        ),
-        (
-            Level::Reviewer,
-            "Reviewer false false true false false true",
-        ),
-    ] {
-        assert_eq!(rt; admitted(&rt, rt.alloc(), level).as_str(), words);
-    }
+    let desk = Desk::new(rt.alloc());
+    let table = "
+        Anyone => Anyone true true true true true true
+        Member => Member false true true false true true
+        MemberOrDelegate => MemberOrDelegate false true true true true true
+        ReviewerOrDelegate => ReviewerOrDelegate false false true true true true
+        Reviewer => Reviewer false false true false false true
+    ";
+    check_table(&rt, rt.alloc(), &desk, "level", table);
 }
 
-// Sets the role of mia anew, and tells whether she may approve.
-fn with_role(rt: &impl Abort, alloc: Global, role: Role) -> bool {
+// The role of mia, whether she may approve, and whether the role is a member's and a reviewer's.
+fn role_words(rt: &impl Abort, alloc: Global, desk: &Desk, mia: &Name) -> String {
+    let role = desk.role(mia);
+    let may = desk.permits(mia, number(rt, "1"), &Command::Approve);
+    let (member, reviewer) = (role.is_member(), role.is_reviewer());
+    format!(in alloc; "{role:?} {may} {member} {reviewer}").expect(rt, "memory")
+}
+
+// Sets the role of mia anew, and tells `role_words`.
+pub(crate) fn with_role(rt: &impl Abort, alloc: Global, row: &str) -> String {
     let mut desk = desk(rt, alloc, TWO);
     let mia = name(rt, alloc, "mia");
-    desk.set_role(alloc, &mia, role).expect(rt, "memory");
-    assert_eq!(rt; desk.role(&mia), role);
-    desk.permits(&mia, number(rt, "1"), &Command::Approve)
+    desk.set_role(alloc, &mia, role(row)).expect(rt, "memory");
+    role_words(rt, alloc, &desk, &mia)
 }
 
 #[test]
 fn roles_that_are_set_anew(rt: HostRuntime) {
-    assert!(rt; with_role(&rt, rt.alloc(), Role::Reviewer));
-    assert!(rt; !with_role(&rt, rt.alloc(), Role::Member));
-    assert!(rt; !with_role(&rt, rt.alloc(), Role::Nobody));
-    assert!(rt; Role::Member.is_member() && !Role::Member.is_reviewer());
-    assert!(rt; Role::Reviewer.is_member() && Role::Reviewer.is_reviewer());
-    assert!(rt; !Role::Nobody.is_member() && !Role::Nobody.is_reviewer());
+    let desk = Desk::new(rt.alloc());
+    let table = "
+        reviewer => Reviewer true true true
+        member => Member false true false
+        nobody => Nobody false false false
+    ";
+    check_table(&rt, rt.alloc(), &desk, "role", table);
 }

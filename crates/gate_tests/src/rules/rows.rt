@@ -1,10 +1,7 @@
 use super::desks::{desk, strict};
-use super::words::check_rules;
+use super::words::check_table;
 use crate::readers::commit;
-use gate_rules::Desk;
 use gate_text::read_settings;
-use std::alloc::Global;
-use std::process::Abort;
 
 // Change 1 is open, 2 open and approved, 3 closed, 4 landed.
 const PLAIN: &[&str] = &[
@@ -39,7 +36,7 @@ fn rows_without_settings(rt: HostRuntime) {
         eve 1 bors retry => 2 NotACommand
         alice 9 bors try => 1 UnknownChange
     ";
-    check_rules(&rt, rt.alloc(), &desk, table);
+    check_table(&rt, rt.alloc(), &desk, "rule", table);
 }
 
 #[test]
@@ -56,31 +53,27 @@ fn rows_without_a_base(rt: HostRuntime) {
         alice 1 bors p=5 => done
         alice 1 bors d+ => done
     ";
-    check_rules(&rt, rt.alloc(), &desk, table);
+    check_table(&rt, rt.alloc(), &desk, "rule", table);
 }
 
-// A desk with strict settings and a base. Change 1 is fit, and so is 2, which is approved.
-fn strict_desk(rt: &impl Abort, alloc: Global) -> Desk {
-    let changes = [
-        "1 carol a opened 0 bug mia,zoe - - -",
-        "2 carol a opened 0 - mia,zoe - alice r+",
-        "3 carol a closed 0 - - - - -",
-        "4 carol a landed 0 - - - - -",
-        "5 carol a opened 0 wip,hold mia,zoe - - -",
-        "6 carol a opened 0 bug,wip - - - -",
-        "7 carol a opened 0 - - - - -",
-        "8 carol a opened 0 Hold mia - - -",
-        "10 carol a opened 0 wip - - alice r+",
-    ];
-    let mut desk = desk(rt, alloc, changes.as_slice());
-    desk.set_settings(strict(rt, alloc));
-    desk.set_base(commit(rt, alloc, "0"));
-    desk
-}
+// Under strict settings change 1 is fit, and so is 2, which is approved.
+const FIT_AND_UNFIT: &[&str] = &[
+    "1 carol a opened 0 bug mia,zoe - - -",
+    "2 carol a opened 0 - mia,zoe - alice r+",
+    "3 carol a closed 0 - - - - -",
+    "4 carol a landed 0 - - - - -",
+    "5 carol a opened 0 wip,hold mia,zoe - - -",
+    "6 carol a opened 0 bug,wip - - - -",
+    "7 carol a opened 0 - - - - -",
+    "8 carol a opened 0 Hold mia - - -",
+    "10 carol a opened 0 wip - - alice r+",
+];
 
 #[test]
-fn rows_of_approvals(rt: HostRuntime) {
-    let desk = strict_desk(&rt, rt.alloc());
+fn rows_with_settings_and_a_base(rt: HostRuntime) {
+    let mut desk = desk(&rt, rt.alloc(), FIT_AND_UNFIT);
+    desk.set_settings(strict(&rt, rt.alloc()));
+    desk.set_base(commit(&rt, rt.alloc(), "0"));
     let table = "
         eve 9 bors r+ => 1 UnknownChange
         mia 3 bors r=zoe => 3 NotPermitted ReviewerOrDelegate
@@ -94,14 +87,7 @@ fn rows_of_approvals(rt: HostRuntime) {
         alice 8 bors r=zoe,mia => 11 TooFewReviews 1 2
         alice 1 bors r+ => done
         alice 1 bors r=zoe,mia => done
-    ";
-    check_rules(&rt, rt.alloc(), &desk, table);
-}
-
-#[test]
-fn rows_of_other_commands(rt: HostRuntime) {
-    let desk = strict_desk(&rt, rt.alloc());
-    let table = "
+        // Commands that approve nothing.
         eve 9 bors r- => 1 UnknownChange
         mia 2 bors r- => 3 NotPermitted ReviewerOrDelegate
         alice 3 bors r- => 4 NotOpen
@@ -121,5 +107,5 @@ fn rows_of_other_commands(rt: HostRuntime) {
         eve 7 bors ping => done
         alice 7 bors dance => 2 NotACommand
     ";
-    check_rules(&rt, rt.alloc(), &desk, table);
+    check_table(&rt, rt.alloc(), &desk, "rule", table);
 }

@@ -29,7 +29,7 @@ fn bodies_without_arguments(rt: HostRuntime) {
         "R+|R-|Merge|MERGE-|Ping|Try-|D+|Retry|r|+|r +|r++|+r|r+r+|r+ r+|r--|merge+|merge it|\
         merged|merge -|r- now|pin|pings|ping.|retry-|try--|d|delegate|d +|d++|d--|d+ x|d- x|d+=a|\
         dance|r+ é|ré|r＋|r−|рing";
-    check_unknown(&rt, rt.alloc(), "", bodies);
+    check_unknown(&rt, rt.alloc(), "bors ", bodies);
 }
 
 #[test]
@@ -48,7 +48,7 @@ fn tries(rt: HostRuntime) {
     ";
     check_said(&rt, rt.alloc(), table);
     let bodies = "try\tnow|tryon|try-me|try, now|try+|try=a|tré|tryé|tr|Try|TRY now";
-    check_unknown(&rt, rt.alloc(), "", bodies);
+    check_unknown(&rt, rt.alloc(), "bors ", bodies);
 }
 
 #[test]
@@ -72,11 +72,17 @@ fn numbers(rt: HostRuntime) {
     let numbers =
         "|-|+1|--1|-+1|+|1-|10000|-10000|00000|00007|-00001|65541| 5|- 5|5 5|5\t|\t5|5p|a|/|:|0x5|\
         1.0|1e1|1_0|1,000|=5|5 p=6|5 r+|5 now|−5|５|٣|5é";
-    for before in ["p=", "r+ p=", "merge p=", "r=zoe p=", "merge=zoe p="] {
-        check_unknown(&rt, rt.alloc(), before, numbers);
+    for front in [
+        "bors p=",
+        "bors r+ p=",
+        "bors merge p=",
+        "bors r=zoe p=",
+        "bors merge=zoe p=",
+    ] {
+        check_unknown(&rt, rt.alloc(), front, numbers);
     }
     let bodies = "p|p5|p =5|p:5|P=5|-p=5";
-    check_unknown(&rt, rt.alloc(), "", bodies);
+    check_unknown(&rt, rt.alloc(), "bors ", bodies);
 }
 
 #[test]
@@ -106,11 +112,11 @@ fn lists(rt: HostRuntime) {
     let lists =
         "| |,|,,|a,|,a|a,,b|a, ,b| ,a|@|a,@|@,a|@@a|@ a|a@|a b|a, b c|a b, c|a/b|a;b|a:b|a+b|a=b|\
         =a|p=5| p=5|a\tb|\ta|a,\tb|a\0|a\r,b|\"a\"|`a`|{a}|é|aé|a,é,b|a，b|a\u{a0}|\u{212a}|ſ";
-    for before in ["r=", "merge=", "d=", "delegate="] {
-        check_unknown(&rt, rt.alloc(), before, lists);
+    for front in ["bors r=", "bors merge=", "bors d=", "bors delegate="] {
+        check_unknown(&rt, rt.alloc(), front, lists);
     }
     let bodies = "R=a|Merge=a|D=a|r =a|d =a|r+=a|ra|da";
-    check_unknown(&rt, rt.alloc(), "", bodies);
+    check_unknown(&rt, rt.alloc(), "bors ", bodies);
 }
 
 #[test]
@@ -147,7 +153,7 @@ fn priorities_of_approvals(rt: HostRuntime) {
     let bodies =
         "r+p=5|mergep=5|r+\tp=5|r+ \tp=5|r+ P=5|r+ p5|r+, p=5|r p=5|R+ p=5|r- p=5|ping p=5|\
         try- p=5|d+ p=5|d- p=5";
-    check_unknown(&rt, rt.alloc(), "", bodies);
+    check_unknown(&rt, rt.alloc(), "bors ", bodies);
 }
 
 #[test]
@@ -179,5 +185,5 @@ fn priorities_of_lists(rt: HostRuntime) {
     ";
     check_said(&rt, rt.alloc(), table);
     let bodies = "r=ap=5|r=a,p=5|r=a\tp=5|r=a P=5|r=a p5";
-    check_unknown(&rt, rt.alloc(), "", bodies);
+    check_unknown(&rt, rt.alloc(), "bors ", bodies);
 }

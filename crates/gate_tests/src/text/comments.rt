@@ -1,3 +1,4 @@
+use crate::readers::{check_that, check_words, counted, cut, row_of};
 use gate_text::{Command, Names, Spoken, read_comment};
 use std::alloc::Global;
 use std::process::Abort;
@@ -52,23 +53,17 @@ fn said(rt: &impl Abort, alloc: Global, comment: &str) -> String {
     words
 }
 
-// The comment and the words of a row, which are parted by ` =>`. Rows are indented by eight spaces, and what stands behind
-// these counts; `//` begins a remark.
-fn row_of<'a>(rt: &impl Abort, line: &'a str) -> Option<(&'a str, &'a str)> {
-    let row = line.strip_prefix("        ")?;
-    if row.starts_with("//") {
-        return None;
-    }
-    Some(row.split_once(" =>").expect(rt, "a row"))
+// A comment says these words.
+fn check_comment(rt: &impl Abort, alloc: Global, comment: &str, words: &str) {
+    check_words(rt, comment, said(rt, alloc, comment).as_str(), words);
 }
 
 // Each comment of the table says the words beside it. A `|` in a comment stands for a line feed.
 pub(crate) fn check_said(rt: &impl Abort, alloc: Global, table: &str) {
     for line in table.lines() {
-        if let Some((comment, words)) = row_of(rt, line) {
-            let comment = comment.replace(alloc, "|", "\n").expect(rt, "memory");
-            let found = said(rt, alloc, comment.as_str());
-            assert_eq!(rt; found.as_str(), words.trim_start(), "{comment:?}");
+        if let Some((row, words)) = row_of(rt, line) {
+            let comment = row.replace(alloc, "|", "\n").expect(rt, "memory");
+            check_comment(rt, alloc, comment.as_str(), words);
         }
     }
 }
@@ -77,18 +72,13 @@ pub(crate) fn check_said(rt: &impl Abort, alloc: Global, table: &str) {
 fn check_each(rt: &impl Abort, alloc: Global, front: &str, texts: &str, words: &str) {
     for text in texts.split('|') {
         let comment = format!(in alloc; "{front}{text}").expect(rt, "memory");
-        assert_eq!(rt;
-            said(rt, alloc, comment.as_str()).as_str(),
-            words,
-            "{comment:?}"
-        );
+        check_comment(rt, alloc, comment.as_str(), words);
     }
 }
 
-// Each body, with the same text before it, is one `Unknown`.
-pub(crate) fn check_unknown(rt: &impl Abort, alloc: Global, before: &str, bodies: &str) {
-    let front = format!(in alloc; "bors {before}").expect(rt, "memory");
-    check_each(rt, alloc, front.as_str(), bodies, "unknown");
+// Each body, with the same front, is one `Unknown`.
+pub(crate) fn check_unknown(rt: &impl Abort, alloc: Global, front: &str, bodies: &str) {
+    check_each(rt, alloc, front, bodies, "unknown");
 }
 
 #[test]
@@ -145,7 +135,7 @@ fn spaces_round_bodies(rt: HostRuntime) {
     check_said(&rt, rt.alloc(), table);
     // A tab is no space.
     let bodies = "\t|\tr+| \tr+|r+\t|r+\t |r+ \t|r\t+";
-    check_unknown(&rt, rt.alloc(), "", bodies);
+    check_unknown(&rt, rt.alloc(), "bors ", bodies);
 }
 
 #[test]
@@ -209,15 +199,20 @@ fn comments_of_many_lines(rt: HostRuntime) {
 fn long_comment(rt: &impl Abort, alloc: Global, row: &str) -> String {
     let (front, rest) = row.split_once('<').expect(rt, "a text");
     let (text, end) = rest.split_once('>').expect(rt, "an end");
-    let mut comment = String::from_str(alloc, front).expect(rt, "memory");
-    for _ in 0..65_536 {
-        if comment.len().saturating_add(end.len()) < 65_536 {
-            comment.push_str(text).expect(rt, "memory");
-        }
-    }
-    comment.push_str(end).expect(rt, "memory");
-    assert_eq!(rt; comment.len(), 65_536, "{row}");
-    comment
+    let room = 65_536_usize
+        .saturating_sub(front.len())
+        .saturating_sub(end.len());
+    let times = room.checked_div(text.len()).expect(rt, "a text");
+    let between = text.repeat(alloc, times).expect(rt, "memory");
+    format!(in alloc; "{front}{between}{end}").expect(rt, "memory")
+}
+
+// The long comment of a row, in which a `|` stands for a line feed, says these words.
+fn check_long(rt: &impl Abort, alloc: Global, row: &str, words: &str) {
+    let text = row.replace(alloc, "|", "\n").expect(rt, "memory");
+    let comment = long_comment(rt, alloc, text.as_str());
+    check_that(rt, row, comment.len() == 65_536);
+    check_words(rt, row, said(rt, alloc, comment.as_str()).as_str(), words);
 }
 
 #[test]
@@ -241,54 +236,51 @@ fn long_lines(rt: HostRuntime) {
     ";
     for line in table.lines() {
         if let Some((row, words)) = row_of(&rt, line) {
-            let row = row.replace(rt.alloc(), "|", "\n").expect(&rt, "memory");
-            let comment = long_comment(&rt, rt.alloc(), row.as_str());
-            let found = said(&rt, rt.alloc(), comment.as_str());
-            assert_eq!(rt; found.as_str(), words.trim_start(), "{row:?}");
+            check_long(&rt, rt.alloc(), row, words);
         }
     }
 }
 
 // A comment of the same line so many times says so many commands, each by the same words.
-fn check_lines(rt: &impl Abort, alloc: Global, line: &str, times: usize, words: &str) {
+fn check_lines(rt: &impl Abort, alloc: Global, row: &str, words: &str) {
+    let (times, line) = cut(row);
+    let times = times.parse::<usize>().expect(rt, "a number");
+    let line = format!(in alloc; "{line}\n").expect(rt, "memory");
     let comment = line.repeat(alloc, times).expect(rt, "memory");
-    let spoken = read_comment(alloc, comment.as_str()).expect(rt, "memory");
-    assert_eq!(rt; spoken.len(), times, "{line:?}");
-    for one in spoken.iter() {
-        assert_eq!(rt; spoken_of(rt, alloc, one).as_str(), words, "{line:?}");
-    }
+    let found = said(rt, alloc, comment.as_str());
+    let one = format!(in alloc; "; {words}").expect(rt, "memory");
+    let all = one.repeat(alloc, times).expect(rt, "memory");
+    check_that(rt, row, all.strip_prefix("; ") == Some(found.as_str()));
 }
 
 #[test]
 fn many_command_lines(rt: HostRuntime) {
-    check_lines(&rt, rt.alloc(), "bors r+\n", 500, "approve");
-    check_lines(
-        &rt,
-        rt.alloc(),
-        "bors d=zoe,al,vera\n",
-        500,
-        "delegate to zoe, al, vera",
-    );
-    check_lines(&rt, rt.alloc(), "bors:d+\n", 8_192, "delegate the author");
-    check_lines(&rt, rt.alloc(), "bors:\n", 10_922, "unknown");
+    let table = "
+        500 bors r+ => approve
+        500 bors d=zoe,al,vera => delegate to zoe, al, vera
+        8192 bors:d+ => delegate the author
+        10922 bors: => unknown
+    ";
+    for line in table.lines() {
+        if let Some((row, words)) = row_of(&rt, line) {
+            check_lines(&rt, rt.alloc(), row, words);
+        }
+    }
 }
 
-// The names 0, 1, 2 and so on, all different: none is dropped.
-fn counted(rt: &impl Abort, alloc: Global, front: &str, count: usize, parting: &str) -> String {
-    let mut words = String::from_str(alloc, front).expect(rt, "memory");
-    for number in 0..count {
-        let before = if number == 0 { "" } else { parting };
-        write!(words, "{before}{number}").expect(rt, "memory");
-    }
-    words
+// So many names, all different, are read: none is dropped.
+fn check_names(rt: &impl Abort, alloc: Global, count: u32) {
+    let names = counted(rt, alloc, 0..count, ",");
+    let comment = format!(in alloc; "bors r={names}").expect(rt, "memory");
+    let names = counted(rt, alloc, 0..count, ", ");
+    let words = format!(in alloc; "approve for {names}").expect(rt, "memory");
+    check_that(rt, "its length", comment.len() <= 65_536);
+    check_comment(rt, alloc, comment.as_str(), words.as_str());
 }
 
 #[test]
 fn many_names(rt: HostRuntime) {
     for count in [64, 1_000, 12_000] {
-        let comment = counted(&rt, rt.alloc(), "bors r=", count, ",");
-        assert!(rt; comment.len() <= 65_536);
-        let words = counted(&rt, rt.alloc(), "approve for ", count, ", ");
-        assert_eq!(rt; said(&rt, rt.alloc(), comment.as_str()), words, "{count}");
+        check_names(&rt, rt.alloc(), count);
     }
 }

@@ -1,7 +1,21 @@
-use crate::readers::{label, label_set, name, name_set, row_of};
-use gate_text::{NameSet, Set, Word};
+use crate::readers::{check_that, check_words, counted, label, label_set, name, name_set, row_of};
+use gate_text::{Set, Word};
 use std::alloc::Global;
 use std::process::Abort;
+
+// Whether a copy of a set equals it, and without this word the other set.
+fn copied<T: Word + Drop>(
+    rt: &impl Abort,
+    alloc: Global,
+    set: &Set<T>,
+    word: &T,
+    other: &Set<T>,
+) -> (bool, bool) {
+    let mut copy = set.copy(alloc).expect(rt, "memory");
+    let is_copied = copy == *set && copy.is_subset(set) && set.is_subset(&copy);
+    copy.remove(word);
+    (is_copied, copy == *other)
+}
 
 // How many words a set has, whether it has this one, whether a copy without that word is the other set, and whether each of
 // the two sets is within the other.
@@ -12,10 +26,9 @@ fn told<T: Word + Drop>(
     word: &T,
     other: &Set<T>,
 ) -> String {
-    let mut copy = set.copy(alloc).expect(rt, "memory");
-    assert!(rt; copy == *set && copy.is_subset(set) && set.is_subset(&copy));
-    copy.remove(word);
-    let (count, has, is_other) = (set.len(), set.contains(word), copy == *other);
+    let (is_copied, is_other) = copied(rt, alloc, set, word, other);
+    check_that(rt, "a copy", is_copied);
+    let (count, has) = (set.len(), set.contains(word));
     let (within, without) = (other.is_subset(set), set.is_subset(other));
     format!(in alloc; "{count} {has} {is_other} {within} {without}").expect(rt, "memory")
 }
@@ -39,6 +52,19 @@ fn labels(rt: &impl Abort, alloc: Global, row: &str) -> String {
     told(rt, alloc, &set, &label(rt, alloc, word), &other)
 }
 
+// Each row of the table is answered by the words beside it.
+fn check_sets(rt: &impl Abort, alloc: Global, kind: &str, table: &str) {
+    for line in table.lines() {
+        if let Some((row, words)) = row_of(rt, line) {
+            let found = match kind {
+                "names" => names(rt, alloc, row),
+                _ => labels(rt, alloc, row),
+            };
+            check_words(rt, row, found.as_str(), words);
+        }
+    }
+}
+
 #[test]
 fn sets_of_names(rt: HostRuntime) {
     let table = "
@@ -51,11 +77,7 @@ fn sets_of_names(rt: HostRuntime) {
         al,zoe,al Al zoe,vera => 2 true false false false
         al al zoe,vera => 1 true false false false
     ";
-    for line in table.lines() {
-        if let Some((row, words)) = row_of(&rt, line) {
-            assert_eq!(rt; names(&rt, rt.alloc(), row).as_str(), words, "{row}");
-        }
-    }
+    check_sets(&rt, rt.alloc(), "names", table);
 }
 
 // Labels are told apart by their bytes.
@@ -66,30 +88,24 @@ fn sets_of_labels(rt: HostRuntime) {
         Hold,hold,hold Hold hold => 2 true true true false
         Hold,hold HOLD hold => 2 false false true false
     ";
-    for line in table.lines() {
-        if let Some((row, words)) = row_of(&rt, line) {
-            assert_eq!(rt; labels(&rt, rt.alloc(), row).as_str(), words, "{row}");
-        }
-    }
+    check_sets(&rt, rt.alloc(), "labels", table);
 }
 
-// The set of the names 0, 1, 2 and so on.
-fn counted(rt: &impl Abort, alloc: Global, count: usize) -> NameSet {
-    let mut set = NameSet::new(alloc);
-    for number in 0..count {
-        let word = format!(in alloc; "{number}").expect(rt, "memory");
-        set.insert(name(rt, alloc, word.as_str()))
-            .expect(rt, "memory");
-    }
-    set
+// Whether a set of these names has so many, and its copy is the same.
+fn is_copied(rt: &impl Abort, alloc: Global, list: &str, count: usize) -> bool {
+    let set = name_set(rt, alloc, list);
+    let copy = set.copy(alloc).expect(rt, "memory");
+    copy.len() == count && copy == set
 }
 
 #[test]
 fn sets_of_many(rt: HostRuntime) {
-    for count in [5, 64, 1_000] {
-        let set = counted(&rt, rt.alloc(), count);
-        let copy = set.copy(rt.alloc()).expect(&rt, "memory");
-        assert_eq!(rt; copy.len(), count);
-        assert!(rt; copy == set, "{count}");
+    for (last, count) in [(5, 5), (64, 64), (1_000, 1_000)] {
+        let list = counted(&rt, rt.alloc(), 0..last, ",");
+        check_that(
+            &rt,
+            "a copy",
+            is_copied(&rt, rt.alloc(), list.as_str(), count),
+        );
     }
 }

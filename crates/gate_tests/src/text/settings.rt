@@ -1,3 +1,4 @@
+use crate::readers::{check_pair, check_that, check_words, counted, cut, row_of};
 use gate_text::{Key, Settings, SettingsFault, read_settings};
 use std::alloc::{AllocError, Global};
 use std::process::Abort;
@@ -26,16 +27,21 @@ fn labels_of(rt: &impl Abort, alloc: Global, settings: &Settings) -> String {
     words
 }
 
+fn limit_of(rt: &impl Abort, alloc: Global, settings: &Settings) -> String {
+    let words = match settings.max_batch_size() {
+        Some(size) => format!(in alloc; "{size}"),
+        None => String::from_str(alloc, "no limit"),
+    };
+    words.expect(rt, "memory")
+}
+
 // Settings in words, as `ci,lint; 3600; hold; 0; no limit`: the values in the order of their checks.
 fn words_of(rt: &impl Abort, alloc: Global, settings: &Settings) -> String {
     let statuses = statuses_of(rt, alloc, settings);
     let labels = labels_of(rt, alloc, settings);
+    let limit = limit_of(rt, alloc, settings);
     let (timeout, approvals) = (settings.timeout_sec(), settings.required_approvals());
-    let words = match settings.max_batch_size() {
-        Some(size) => { format!(in alloc; "{statuses}; {timeout}; {labels}; {approvals}; {size}") }
-        None => format!(in alloc; "{statuses}; {timeout}; {labels}; {approvals}; no limit"),
-    };
-    words.expect(rt, "memory")
+    format!(in alloc; "{statuses}; {timeout}; {labels}; {approvals}; {limit}").expect(rt, "memory")
 }
 
 // A refusal by its number, and the key that it names.
@@ -48,38 +54,112 @@ fn refusal_of(rt: &impl Abort, alloc: Global, fault: SettingsFault) -> String {
     words.expect(rt, "memory")
 }
 
-// A copy of what a text is read as, in words, or its refusal.
+// Settings in words, by a copy that equals them.
+fn copy_words(rt: &impl Abort, alloc: Global, settings: &Settings) -> String {
+    let copy = settings.copy(alloc).expect(rt, "memory");
+    check_that(rt, "a copy", copy == *settings);
+    words_of(rt, alloc, &copy)
+}
+
+// What a text is read as, in words, or its refusal.
 fn told(rt: &impl Abort, alloc: Global, text: &str) -> String {
-    match read_settings(alloc, text) {
+    match &read_settings(alloc, text) {
+        Ok(settings) => copy_words(rt, alloc, settings),
+        Err(fault) => refusal_of(rt, alloc, *fault),
+    }
+}
+
+// A text behind the front of its table; a `|` in it stands for a line feed.
+fn written(rt: &impl Abort, alloc: Global, front: &str, text: &str) -> String {
+    let text = text.replace(alloc, "|", "\n").expect(rt, "memory");
+    format!(in alloc; "{front}{text}").expect(rt, "memory")
+}
+
+// A text is read as these words, or refused by them.
+fn check_text(rt: &impl Abort, alloc: Global, text: &str, words: &str) {
+    check_words(rt, text, told(rt, alloc, text).as_str(), words);
+}
+
+// How many statuses and labels a text has, after a copy, or none if it is refused.
+fn counts(rt: &impl Abort, alloc: Global, front: &str, list: &str) -> (usize, usize) {
+    let text = written(rt, alloc, front, list);
+    match read_settings(alloc, text.as_str()) {
         Ok(settings) => {
             let copy = settings.copy(alloc).expect(rt, "memory");
-            assert!(rt; copy == settings, "{text:?}");
-            words_of(rt, alloc, &copy)
+            (copy.status().len(), copy.block_labels().len())
         }
-        Err(fault) => refusal_of(rt, alloc, fault),
+        Err(_) => (0, 0),
     }
 }
 
-// Each row is a text and what it is read as, parted by ` => `; a `|` stands for a line feed. All texts have the same front.
-fn check_table(rt: &impl Abort, alloc: Global, front: &str, table: &str) {
+// How many statuses are read of a list, and how many labels, or 0 where it is refused.
+fn count_words(rt: &impl Abort, alloc: Global, list: &str) -> String {
+    let statuses = counts(rt, alloc, "status = ", list).0;
+    let labels = counts(rt, alloc, "status = ['ci']\nblock_labels = ", list).1;
+    format!(in alloc; "{statuses} {labels}").expect(rt, "memory")
+}
+
+// The list of a row: so many items, which are different or the same, or one of so many letters.
+fn list_of(rt: &impl Abort, alloc: Global, row: &str) -> String {
+    let (kind, number) = cut(row);
+    let list = match kind {
+        "different" => {
+            let last = number.parse::<u32>().expect(rt, "a number");
+            format!(in alloc; "['{}',]", counted(rt, alloc, 0..last, "','"))
+        }
+        "same" => format!(in alloc; "[{}]", repeated(rt, alloc, "'a',", number)),
+        letter => format!(in alloc; "['{}']", repeated(rt, alloc, letter, number)),
+    };
+    list.expect(rt, "memory")
+}
+
+fn repeated(rt: &impl Abort, alloc: Global, text: &str, number: &str) -> String {
+    let times = number.parse::<usize>().expect(rt, "a number");
+    text.repeat(alloc, times).expect(rt, "memory")
+}
+
+fn fault(word: &str) -> SettingsFault {
+    match word {
+        "no TOML" => SettingsFault::NotToml,
+        "no status" => SettingsFault::NoStatus,
+        "status" => SettingsFault::BadKey(Key::Status),
+        "timeout_sec" => SettingsFault::BadKey(Key::TimeoutSec),
+        "block_labels" => SettingsFault::BadKey(Key::BlockLabels),
+        "required_approvals" => SettingsFault::BadKey(Key::RequiredApprovals),
+        "max_batch_size" => SettingsFault::BadKey(Key::MaxBatchSize),
+        _ => SettingsFault::from(AllocError),
+    }
+}
+
+// A refusal as it is printed.
+fn printed(rt: &impl Abort, alloc: Global, fault: SettingsFault) -> String {
+    format!(in alloc; "{} {fault}", fault.number()).expect(rt, "memory")
+}
+
+// The answer to a row of a table by what is asked about it: about a text, its front.
+fn answer(rt: &impl Abort, alloc: Global, question: &str, row: &str) -> String {
+    match question {
+        "items" => count_words(rt, alloc, list_of(rt, alloc, row).as_str()),
+        "refusal" => printed(rt, alloc, fault(row)),
+        front => told(rt, alloc, written(rt, alloc, front, row).as_str()),
+    }
+}
+
+// Each row of the table is answered by the words beside it.
+fn check_answers(rt: &impl Abort, alloc: Global, question: &str, table: &str) {
     for line in table.lines() {
-        let line = line.trim();
-        if !line.is_empty() {
-            let (text, words) = line.split_once(" =>").expect(rt, "a row");
-            let text = format!(in alloc; "{front}{text}").expect(rt, "memory");
-            let text = text.replace(alloc, "|", "\n").expect(rt, "memory");
-            let found = told(rt, alloc, text.as_str());
-            assert_eq!(rt; found.as_str(), words.trim_start(), "{text:?}");
+        if let Some((row, words)) = row_of(rt, line) {
+            let found = answer(rt, alloc, question, row);
+            check_words(rt, row, found.as_str(), words);
         }
     }
 }
 
-// Each text is refused so.
-fn check_refused(rt: &impl Abort, alloc: Global, front: &str, texts: &[&str], refusal: &str) {
-    for text in texts {
-        let text = format!(in alloc; "{front}{text}").expect(rt, "memory");
-        let found = told(rt, alloc, text.as_str());
-        assert_eq!(rt; found.as_str(), refusal, "{text:?}");
+// Each line of the texts, behind the same front, is read as the same words.
+fn check_each(rt: &impl Abort, alloc: Global, front: &str, texts: &str, words: &str) {
+    for line in texts.trim().lines() {
+        let text = written(rt, alloc, front, line.trim());
+        check_text(rt, alloc, text.as_str(), words);
     }
 }
 
@@ -99,9 +179,9 @@ fn settings_that_are_read(rt: HostRuntime) {
         status=["\u0063i"] => ci; 3600; ; 0; no limit
         status=["\x63i"] => ci; 3600; ; 0; no limit
     "#;
-    check_table(&rt, rt.alloc(), "", table);
-    let found = told(&rt, rt.alloc(), "timeout_sec = 4\r\nstatus = ['a']\r\n");
-    assert_eq!(rt; found.as_str(), "a; 4; ; 0; no limit");
+    check_answers(&rt, rt.alloc(), "", table);
+    let text = "timeout_sec = 4\r\nstatus = ['a']\r\n";
+    check_text(&rt, rt.alloc(), text, "a; 4; ; 0; no limit");
 }
 
 #[test]
@@ -128,8 +208,8 @@ fn texts_that_are_no_toml(rt: HostRuntime) {
         x = => 1
         {"status": ["ci"]} => 1
     "#;
-    check_table(&rt, rt.alloc(), "", table);
-    check_refused(&rt, rt.alloc(), "status = [\"c\0i\"]", &[""], "1");
+    check_answers(&rt, rt.alloc(), "", table);
+    check_text(&rt, rt.alloc(), "status = [\"c\0i\"]", "1");
 }
 
 #[test]
@@ -145,7 +225,7 @@ fn keys_that_stand_twice(rt: HostRuntime) {
         status = ['ci']|x = 1|x = 1 => 1
         timeout_sec = 60|timeout_sec = 60 => 1
     "#;
-    check_table(&rt, rt.alloc(), "", table);
+    check_answers(&rt, rt.alloc(), "", table);
 }
 
 // A missing status is told before any bad value.
@@ -165,8 +245,8 @@ fn settings_without_a_status(rt: HostRuntime) {
         [a]|status = ['ci'] => 2
         [[a]]|status = ['ci'] => 2
     "#;
-    check_table(&rt, rt.alloc(), "", table);
-    check_refused(&rt, rt.alloc(), "", &[""], "2");
+    check_answers(&rt, rt.alloc(), "", table);
+    check_text(&rt, rt.alloc(), "", "2");
 }
 
 #[test]
@@ -199,8 +279,8 @@ fn statuses_that_are_refused(rt: HostRuntime) {
         timeout_sec = 0|status = [] => 3 status
         max_batch_size = 0|status = 'ci' => 3 status
     "#;
-    check_table(&rt, rt.alloc(), "", table);
-    check_refused(&rt, rt.alloc(), "status = ['a\tb']", &[""], "3 status");
+    check_answers(&rt, rt.alloc(), "", table);
+    check_text(&rt, rt.alloc(), "status = ['a\tb']", "3 status");
 }
 
 // There is no wildcard, and nothing to be decoded. One letter and two code points are different names.
@@ -216,9 +296,9 @@ fn statuses_that_are_read(rt: HostRuntime) {
         [|  'a', # the first|  "b",|] => a,b; 3600; ; 0; no limit
         ["""ci""", '''lint'''] => ci,lint; 3600; ; 0; no limit
     "#;
-    check_table(&rt, rt.alloc(), "status = ", table);
-    let found = told(&rt, rt.alloc(), "status = ['é', \"e\\u0301\"]");
-    assert_eq!(rt; found.as_str(), "é,e\u{301}; 3600; ; 0; no limit");
+    check_answers(&rt, rt.alloc(), "status = ", table);
+    let text = "status = ['é', \"e\\u0301\"]";
+    check_text(&rt, rt.alloc(), text, "é,e\u{301}; 3600; ; 0; no limit");
 }
 
 #[test]
@@ -249,110 +329,72 @@ fn labels(rt: HostRuntime) {
         ['wip', "\u007f"] => 3 block_labels
         ['a', 'a', ''] => 3 block_labels
     "#;
-    check_table(&rt, rt.alloc(), "status = ['ci']\nblock_labels = ", table);
+    check_answers(&rt, rt.alloc(), "status = ['ci']\nblock_labels = ", table);
     let tables = r#"
         [block_labels] => 3 block_labels
         [[block_labels]] => 3 block_labels
         block_labels.wip = true => 3 block_labels
     "#;
-    check_table(&rt, rt.alloc(), "status = ['ci']\n", tables);
+    check_answers(&rt, rt.alloc(), "status = ['ci']\n", tables);
 }
 
-// A list of the texts 0, 1, 2 and so on.
-fn different_texts(rt: &impl Abort, alloc: Global, count: usize) -> String {
-    let mut list = String::from_str(alloc, "[").expect(rt, "memory");
-    for number in 0..count {
-        write!(list, "'{number}',").expect(rt, "memory");
-    }
-    list.push(']').expect(rt, "memory");
-    list
-}
-
-// How many statuses and labels a text has, after a copy, or none if it is refused.
-fn counts(alloc: Global, text: &str) -> Option<(usize, usize)> {
-    let settings = read_settings(alloc, text).ok()?;
-    let copy = settings.copy(alloc).ok()?;
-    Some((copy.status().len(), copy.block_labels().len()))
-}
-
-// A list has so many statuses and so many labels, or is refused at a key if that is 0.
-fn check_counts(rt: &impl Abort, alloc: Global, list: &str, statuses: usize, labels: usize) {
-    let text = format!(in alloc; "status = {list}").expect(rt, "memory");
-    let found = counts(alloc, text.as_str()).map_or(0, |found| found.0);
-    assert_eq!(rt; found, statuses, "{list}");
-    let text = format!(in alloc; "status = ['ci']\nblock_labels = {list}").expect(rt, "memory");
-    let found = counts(alloc, text.as_str()).map_or(0, |found| found.1);
-    assert_eq!(rt; found, labels, "{list}");
-}
-
-// The items are counted before repeats are dropped.
 #[test]
-fn numbers_of_items(rt: HostRuntime) {
-    for (count, most) in [(9, 9), (64, 64), (65, 0)] {
-        let list = different_texts(&rt, rt.alloc(), count);
-        check_counts(&rt, rt.alloc(), list.as_str(), most, most);
-    }
-    for (count, labels) in [(64, 1), (65, 0)] {
-        let items = "'a',".repeat(rt.alloc(), count).expect(&rt, "memory");
-        let list = format!(in rt.alloc(); "[{items}]").expect(&rt, "memory");
-        check_counts(&rt, rt.alloc(), list.as_str(), 0, labels);
-    }
-}
-
-// A status and a label of 255 bytes are read, and of 256 bytes, which may be 128 characters, refused.
-#[test]
-fn lengths_of_items(rt: HostRuntime) {
-    for (letter, times, count) in [("a", 255, 1), ("a", 256, 0), ("é", 127, 1), ("é", 128, 0)] {
-        let item = letter.repeat(rt.alloc(), times).expect(&rt, "memory");
-        let list = format!(in rt.alloc(); "['{item}']").expect(&rt, "memory");
-        check_counts(&rt, rt.alloc(), list.as_str(), count, count);
-    }
+fn numbers_and_lengths_of_items(rt: HostRuntime) {
+    let table = "
+        different 9 => 9 9
+        different 64 => 64 64
+        different 65 => 0 0
+        // The items are counted before repeats are dropped.
+        same 64 => 0 1
+        same 65 => 0 0
+        // An item of 255 bytes is read, and of 256 bytes, which may be 128 characters, refused.
+        a 255 => 1 1
+        a 256 => 0 0
+        é 127 => 1 1
+        é 128 => 0 0
+    ";
+    check_answers(&rt, rt.alloc(), "items", table);
 }
 
 // Values that are no whole number, or a number outside of every limit, at each key of a number. The last four would be
 // within the limits if they were cut to 32 bits.
 #[test]
 fn values_that_are_no_numbers(rt: HostRuntime) {
-    let values = [
-        "-1",
-        "-60",
-        "1.0",
-        "60.0",
-        "3600.0",
-        "6e1",
-        "inf",
-        "nan",
-        "\"60\"",
-        "'1'",
-        "\"\"",
-        "true",
-        "false",
-        "[]",
-        "[60]",
-        "{}",
-        "{x=60}",
-        "07:32:00",
-        "1979-05-27",
-        "1979-05-27T07:32:00Z",
-        "2147483648",
-        "9223372036854775807",
-        "-9223372036854775808",
-        "4294967296",
-        "4294967297",
-        "4294967356",
-        "-4294967236",
-    ];
-    for key in ["timeout_sec", "required_approvals", "max_batch_size"] {
-        let front = format!(in rt.alloc(); "status = ['ci']\n{key} = ").expect(&rt, "memory");
-        let refusal = format!(in rt.alloc(); "3 {key}").expect(&rt, "memory");
-        check_refused(
-            &rt,
-            rt.alloc(),
-            front.as_str(),
-            values.as_slice(),
-            refusal.as_str(),
-        );
-    }
+    let values = r#"
+        -1
+        -60
+        1.0
+        60.0
+        3600.0
+        6e1
+        inf
+        nan
+        "60"
+        '1'
+        ""
+        true
+        false
+        []
+        [60]
+        {}
+        {x=60}
+        07:32:00
+        1979-05-27
+        1979-05-27T07:32:00Z
+        2147483648
+        9223372036854775807
+        -9223372036854775808
+        4294967296
+        4294967297
+        4294967356
+        -4294967236
+    "#;
+    let front = "status = ['ci']\ntimeout_sec = ";
+    check_each(&rt, rt.alloc(), front, values, "3 timeout_sec");
+    let front = "status = ['ci']\nrequired_approvals = ";
+    check_each(&rt, rt.alloc(), front, values, "3 required_approvals");
+    let front = "status = ['ci']\nmax_batch_size = ";
+    check_each(&rt, rt.alloc(), front, values, "3 max_batch_size");
 }
 
 #[test]
@@ -391,7 +433,7 @@ fn numbers(rt: HostRuntime) {
         [max_batch_size] => 3 max_batch_size
         max_batch_size.x = 1 => 3 max_batch_size
     ";
-    check_table(&rt, rt.alloc(), "status = ['ci']\n", table);
+    check_answers(&rt, rt.alloc(), "status = ['ci']\n", table);
 }
 
 // The key that is checked first is told, whichever stands first in the text.
@@ -406,117 +448,105 @@ fn first_bad_keys(rt: HostRuntime) {
         max_batch_size = 0|required_approvals = 101 => 3 required_approvals
         max_batch_size = 0|use_codeowners = 1 => 3 max_batch_size
     ";
-    check_table(&rt, rt.alloc(), "status = ['ci']\n", table);
+    check_answers(&rt, rt.alloc(), "status = ['ci']\n", table);
 }
 
 // Each line has a key that is ignored, whatever its value. In a table the same names are other keys.
 #[test]
 fn ignored_keys(rt: HostRuntime) {
-    let lines = [
-        "use_squash_merge = true",
-        "use_squash_merge = 'maybe'",
-        "cut_body_after = \"---\"",
-        "cut_body_after = 1.5",
-        "delete_merged_branches = true",
-        "use_codeowners = [[], {}]",
-        "commit_title = \"Merge ${PR_REFS}\"",
-        "up_to_date_approvals = false",
-        "prerun_timeout_sec = 0",
-        "update_base_for_deletes = nan",
-        "pr_status = []",
-        "pr_status = ['a', 'a']",
-        "colour = \"red\"",
-        "committer = { name = 'x', email = 'y' }",
-        "[committer]\nname = 'x'\nemail = 'y'",
-        "[committer]\nstatus = []\ntimeout_sec = 0\nmax_batch_size = 0",
-        "[[committer]]\nblock_labels = 1",
-        "committer.required_approvals = 101",
-        "date = 1979-05-27",
-        "Timeout_sec = 0",
-        "timeout = 0",
-        "\"\" = 1",
-        "'block_labels ' = 0",
-        "date = 07:32",
-        "committer = {\n  name = 'x',\n}",
-    ];
+    let lines = r#"
+        use_squash_merge = true
+        use_squash_merge = 'maybe'
+        cut_body_after = "---"
+        cut_body_after = 1.5
+        delete_merged_branches = true
+        use_codeowners = [[], {}]
+        commit_title = "Merge ${PR_REFS}"
+        up_to_date_approvals = false
+        prerun_timeout_sec = 0
+        update_base_for_deletes = nan
+        pr_status = []
+        pr_status = ['a', 'a']
+        colour = "red"
+        committer = { name = 'x', email = 'y' }
+        [committer]|name = 'x'|email = 'y'
+        [committer]|status = []|timeout_sec = 0|max_batch_size = 0
+        [[committer]]|block_labels = 1
+        committer.required_approvals = 101
+        date = 1979-05-27
+        Timeout_sec = 0
+        timeout = 0
+        "" = 1
+        'block_labels ' = 0
+        date = 07:32
+        committer = {|  name = 'x',|}
+    "#;
     let words = "ci; 3600; ; 0; no limit";
-    check_refused(
-        &rt,
-        rt.alloc(),
-        "status = ['ci']\n",
-        lines.as_slice(),
-        words,
-    );
-}
-
-// Whether two texts, with a `|` for each line feed, say the same settings.
-fn are_equal(rt: &impl Abort, alloc: Global, one: &str, other: &str) -> bool {
-    let one = one.replace(alloc, "|", "\n").expect(rt, "memory");
-    let other = other.replace(alloc, "|", "\n").expect(rt, "memory");
-    let one = read_settings(alloc, one.as_str()).expect(rt, "settings");
-    let other = read_settings(alloc, other.as_str()).expect(rt, "settings");
-    one == other
+    check_each(&rt, rt.alloc(), "status = ['ci']\n", lines, words);
 }
 
 // Texts of settings, by what they say: two are equal if their number is the same.
-const SETTINGS: &[(u8, &str)] = &[
-    (0, "status = ['a', 'b']"),
-    (0, "status = ['a', 'b']|timeout_sec = 3600"),
-    (
-        0,
-        "status = ['a', 'b']|required_approvals = 0|pr_status = ['a']",
-    ),
-    (1, "status = ['b', 'a']"),
-    (2, "status = ['a']"),
-    (3, "status = ['a', 'b', 'c']"),
-    (4, "status = ['a', 'b']|timeout_sec = 3601"),
-    (5, "status = ['a', 'b']|required_approvals = 1"),
-    (6, "status = ['a', 'b']|max_batch_size = 2"),
-    (7, "status = ['a', 'b']|max_batch_size = 3"),
-    (8, "status = ['a', 'b']|block_labels = ['a', 'b']"),
-    (8, "status = ['a', 'b']|block_labels = ['a', 'b', 'a']"),
-    (9, "status = ['a', 'b']|block_labels = ['b', 'a']"),
-    (10, "status = ['a', 'b']|block_labels = ['a']"),
-];
+const SETTINGS: &str = "
+        0 => status = ['a', 'b']
+        0 => status = ['a', 'b']|timeout_sec = 3600
+        0 => status = ['a', 'b']|required_approvals = 0|pr_status = ['a']
+        1 => status = ['b', 'a']
+        2 => status = ['a']
+        3 => status = ['a', 'b', 'c']
+        4 => status = ['a', 'b']|timeout_sec = 3601
+        5 => status = ['a', 'b']|required_approvals = 1
+        6 => status = ['a', 'b']|max_batch_size = 2
+        7 => status = ['a', 'b']|max_batch_size = 3
+        8 => status = ['a', 'b']|block_labels = ['a', 'b']
+        8 => status = ['a', 'b']|block_labels = ['a', 'b', 'a']
+        9 => status = ['a', 'b']|block_labels = ['b', 'a']
+        10 => status = ['a', 'b']|block_labels = ['a']
+    ";
 
-#[test]
-fn settings_that_are_equal(rt: HostRuntime) {
-    for (number, one) in SETTINGS {
-        for (other_number, other) in SETTINGS {
-            let found = are_equal(&rt, rt.alloc(), one, other);
-            assert_eq!(rt; found, number == other_number, "{one} and {other}");
+fn settings_of(rt: &impl Abort, alloc: Global, text: &str) -> Settings {
+    let text = written(rt, alloc, "", text);
+    read_settings(alloc, text.as_str()).expect(rt, "settings")
+}
+
+fn are_said(rt: &impl Abort, alloc: Global, settings: &Settings, text: &str) -> bool {
+    *settings == settings_of(rt, alloc, text)
+}
+
+// These settings are equal to those of the same number alone.
+fn check_equal(rt: &impl Abort, alloc: Global, number: &str, settings: &Settings) {
+    for line in SETTINGS.lines() {
+        if let Some((other_number, text)) = row_of(rt, line) {
+            check_pair(
+                rt,
+                number,
+                other_number,
+                are_said(rt, alloc, settings, text),
+            );
         }
     }
 }
 
-// A refusal as it is printed.
-fn printed(rt: &impl Abort, alloc: Global, fault: SettingsFault) -> String {
-    format!(in alloc; "{} {fault}", fault.number()).expect(rt, "memory")
+#[test]
+fn settings_that_are_equal(rt: HostRuntime) {
+    for line in SETTINGS.lines() {
+        if let Some((number, text)) = row_of(&rt, line) {
+            let settings = settings_of(&rt, rt.alloc(), text);
+            check_equal(&rt, rt.alloc(), number, &settings);
+        }
+    }
 }
 
 #[test]
 fn refusals_that_are_printed(rt: HostRuntime) {
-    for (key, words) in [
-        (Key::Status, "3 the key status has a bad value"),
-        (Key::TimeoutSec, "3 the key timeout_sec has a bad value"),
-        (Key::BlockLabels, "3 the key block_labels has a bad value"),
-        (
-            Key::RequiredApprovals,
-            "3 the key required_approvals has a bad value",
-        ),
-        (
-            Key::MaxBatchSize,
-            "3 the key max_batch_size has a bad value",
-        ),
-    ] {
-        let found = printed(&rt, rt.alloc(), SettingsFault::BadKey(key));
-        assert_eq!(rt; found.as_str(), words);
-    }
-    for (fault, words) in [
-        (SettingsFault::NotToml, "1 the text is no TOML"),
-        (SettingsFault::NoStatus, "2 the key status is missing"),
-        (SettingsFault::from(AllocError), "4 out of memory"),
-    ] {
-        assert_eq!(rt; printed(&rt, rt.alloc(), fault).as_str(), words);
-    }
+    let table = "
+        status => 3 the key status has a bad value
+        timeout_sec => 3 the key timeout_sec has a bad value
+        block_labels => 3 the key block_labels has a bad value
+        required_approvals => 3 the key required_approvals has a bad value
+        max_batch_size => 3 the key max_batch_size has a bad value
+        no TOML => 1 the text is no TOML
+        no status => 2 the key status is missing
+        no memory => 4 out of memory
+    ";
+    check_answers(&rt, rt.alloc(), "refusal", table);
 }

@@ -1,4 +1,4 @@
-use crate::readers::row_of;
+use crate::readers::{self, check_that, check_words, row_of};
 use gate_text::{
     ChangeNo, Commit, Context, DeliveryId, Label, List, Name, Text, TextFault, TryCopy,
 };
@@ -99,7 +99,8 @@ fn check_reader(rt: &impl Abort, alloc: Global, reader: &str, table: &str) {
             let text = text.strip_suffix('>').expect(rt, "a bracket");
             let text = written_out(rt, alloc, text);
             let words = written_out(rt, alloc, words);
-            assert_eq!(rt; answer(rt, alloc, reader, text.as_str()), words, "{text:?}");
+            let found = answer(rt, alloc, reader, text.as_str());
+            check_words(rt, text.as_str(), found.as_str(), words.as_str());
         }
     }
 }
@@ -153,11 +154,15 @@ fn change_numbers(rt: HostRuntime) {
     ";
     check_reader(&rt, rt.alloc(), "change", table);
     for number in [0, 4_294_967_296, 4_294_967_297, u64::MAX] {
-        assert!(rt; ChangeNo::from_number(number).is_none(), "{number}");
+        check_that(
+            &rt,
+            "too great, or 0",
+            ChangeNo::from_number(number).is_none(),
+        );
     }
     for number in [1, 4_294_967_295] {
         let change = ChangeNo::from_number(number).expect(&rt, "a change");
-        assert_eq!(rt; u64::from(change.number()), number);
+        check_that(&rt, "a number", u64::from(change.number()) == number);
     }
 }
 
@@ -194,13 +199,13 @@ fn labels_and_names_of_statuses(rt: HostRuntime) {
     ";
     check_reader(&rt, rt.alloc(), "label", table);
     check_reader(&rt, rt.alloc(), "context", table);
-    assert_eq!(rt; label(&rt, rt.alloc(), " ").as_str(), " ");
+    check_words(&rt, "a space", label(&rt, rt.alloc(), " ").as_str(), " ");
 }
 
 #[test]
 fn any_text_is_kept(rt: HostRuntime) {
     for text in ["", "bors r+\r\n", "é\0"] {
-        assert_eq!(rt; any(&rt, rt.alloc(), text).as_str(), text);
+        check_words(&rt, text, any(&rt, rt.alloc(), text).as_str(), text);
     }
 }
 
@@ -209,20 +214,24 @@ fn count_of<T: TryCopy + Drop>(rt: &impl Abort, alloc: Global, items: Vec<T>) ->
     let list = List::from(items);
     let copy = list.copy(alloc).expect(rt, "memory");
     let count = copy.as_slice().len();
-    assert_eq!(rt; copy.into_vec().len(), count);
+    check_that(rt, "a list", copy.into_vec().len() == count);
     count
 }
 
 #[test]
 fn lists(rt: HostRuntime) {
     let mut names = Vec::new(rt.alloc());
+    for text in ["zoe", "al", "vera"] {
+        names
+            .push(readers::name(&rt, rt.alloc(), text))
+            .expect(&rt, "memory");
+    }
+    check_that(&rt, "names", count_of(&rt, rt.alloc(), names) == 3);
     let mut labels = Vec::new(rt.alloc());
     for text in ["zoe", "al", "vera"] {
-        let name = Name::read(rt.alloc(), text).expect(&rt, "a name");
-        names.push(name).expect(&rt, "memory");
-        let label = Label::read(rt.alloc(), text).expect(&rt, "a label");
-        labels.push(label).expect(&rt, "memory");
+        labels
+            .push(readers::label(&rt, rt.alloc(), text))
+            .expect(&rt, "memory");
     }
-    assert_eq!(rt; count_of(&rt, rt.alloc(), names), 3);
-    assert_eq!(rt; count_of(&rt, rt.alloc(), labels), 3);
+    check_that(&rt, "labels", count_of(&rt, rt.alloc(), labels) == 3);
 }

@@ -67,7 +67,7 @@ fn statuses_at(alloc: Global, value: &Value) -> Result<Contexts, SettingsFault>
 }
 
 // The settings of a table.
-pub fn settings_in(alloc: Global, table: &Table) -> Result<Settings, SettingsFault>
+pub(crate) fn settings_in(alloc: Global, table: &Table) -> Result<Settings, SettingsFault>
     ensures { Gives result (settings.settings_in (table_view table.now)) }
 {
     let Some(value) = value_at(table, Key::Status) else {

@@ -6,7 +6,7 @@ ghost use Rattle.gate_text.specs.Arguments.{all_of, with_name};
 ghost use Rattle.gate_text.specs.Settings as settings;
 
 use crate::context::Context;
-use crate::fault::TextFault;
+use crate::fault::unless_bad;
 use crate::label::Label;
 use crate::names::{Contexts, Labels};
 use std::alloc::{AllocError, Global};
@@ -16,7 +16,7 @@ use toml::Value;
 const MAX_ITEMS: usize = 64;
 
 // A whole number from the least to the most, and nothing for another value.
-pub fn number_in(value: &Value, least: u32, most: u32) -> Option<u32>
+pub(crate) fn number_in(value: &Value, least: u32, most: u32) -> Option<u32>
     ensures { result ≡ settings.whole_in least most (view value.now) }
 {
     let number = u32::try_from(value.as_integer()?).ok()?;
@@ -46,11 +46,7 @@ fn context_in(alloc: Global, value: &Value) -> Result<Option<Context>, AllocErro
     let Some(text) = value.as_str() else {
         return Ok(None);
     };
-    match Context::read(alloc, text) {
-        Ok(context) => Ok(Some(context)),
-        Err(TextFault::Memory) => Err(AllocError),
-        Err(_) => Ok(None),
-    }
+    unless_bad(Context::read(alloc, text))
 }
 
 // The label that a value is, and nothing for another value.
@@ -60,11 +56,7 @@ fn label_in(alloc: Global, value: &Value) -> Result<Option<Label>, AllocError>
     let Some(text) = value.as_str() else {
         return Ok(None);
     };
-    match Label::read(alloc, text) {
-        Ok(label) => Ok(Some(label)),
-        Err(TextFault::Memory) => Err(AllocError),
-        Err(_) => Ok(None),
-    }
+    unless_bad(Label::read(alloc, text))
 }
 
 fn are_distinct(contexts: &[Context]) -> bool
@@ -115,7 +107,7 @@ fn labels_of(alloc: Global, items: &[Value]) -> Result<Option<Labels>, AllocErro
 }
 
 // The required statuses that a value lists: 1 to 64, no two the same, and nothing for another value.
-pub fn statuses_in(alloc: Global, value: &Value) -> Result<Option<Contexts>, AllocError>
+pub(crate) fn statuses_in(alloc: Global, value: &Value) -> Result<Option<Contexts>, AllocError>
     ensures { IfOk result (λ contexts. contexts ≡ settings.statuses_in (view value.now)) }
 {
     let Some(items) = items_in(value, 1, MAX_ITEMS) else {
@@ -128,7 +120,7 @@ pub fn statuses_in(alloc: Global, value: &Value) -> Result<Option<Contexts>, All
 }
 
 // The blocking labels that a value lists: at most 64, of which later repeats are dropped, and nothing for another value.
-pub fn labels_in(alloc: Global, value: &Value) -> Result<Option<Labels>, AllocError>
+pub(crate) fn labels_in(alloc: Global, value: &Value) -> Result<Option<Labels>, AllocError>
     ensures { IfOk result (λ labels. labels ≡ settings.labels_in (view value.now)) }
 {
     match items_in(value, 0, MAX_ITEMS) {

@@ -1,9 +1,11 @@
-use Rattle.std.proofs.Common.{◌≡◌, ◌++◌, drop}
-use Rattle.gate_bot.specs.Run.{replies_to, after_all}
+use Rattle.std.proofs.Common.{◌≡◌, ◌++◌, List, drop, take}
+use Rattle.gate_queue.specs.History.{Entry, Legal}
+use Rattle.gate_bot.specs.Run.{Tells, replies_to, after_all}
 use Rattle.gate_bot.proofs.machine.step_all.Given as goal
 
 abbrev pub invariant-loop-act : goal.invariant-loop-act
 invariant-loop-act l = record {
   told : l.replies.items ++ replies_to l.gate (drop l.act-index l.acts) ≡ replies_to l.fn.gate l.acts;
   led : after_all l.gate (drop l.act-index l.acts) ≡ after_all l.fn.gate l.acts;
+  history : (history : List Entry) → Legal history l.fn.gate → Tells history l.fn.gate (take l.act-index l.acts) l.replies.items l.gate;
 }

@@ -1,0 +1,111 @@
+ghost use Rattle.std.specs.Prelude.{◌≡◌, IfOk};
+ghost use Rattle.std.specs.Option.{option_map};
+ghost use Rattle.std.specs.String.{string_bytes};
+ghost use Rattle.serde_json.specs.View.{view};
+ghost use Rattle.gate_bot.specs.Answers.{detail_of, order_data, orders_data, why_word_of, reply_data, answer_data, answer_text_of};
+ghost use Rattle.gate_queue.specs.declared.reply.Reply.TheVariants.{Denied};
+
+use gate_queue::{Order, Reply, Why};
+use gate_rules::Rule;
+use serde_json::{Value, json};
+use std::alloc::{AllocError, Global};
+
+/// What one delivery is answered: a reply for each of its acts, in order.
+pub type Answer = Vec<Reply>;
+
+// What a denial tells beside the number and the name of its rule.
+fn detail_value(alloc: Global, rule: &Rule) -> Result<Option<Value>, AllocError>
+    ensures { IfOk result (λ detail. option_map view detail ≡ detail_of rule.now) }
+{
+    let detail = match rule {
+        Rule::NotPermitted(level) => json!(in alloc; level.word())?,
+        Rule::Blocked(label) => json!(in alloc; label.text())?,
+        Rule::TooFewReviews(have, need) => json!(in alloc; [*have, *need])?,
+        Rule::BadSettings(refusal) => json!(in alloc; *refusal)?,
+        _ => return Ok(None),
+    };
+    Ok(Some(detail))
+}
+
+// A denial as JSON.
+fn denied_value(alloc: Global, rule: &Rule) -> Result<Value, AllocError>
+    ensures { IfOk result (λ value. view value ≡ reply_data (Denied rule.now)) }
+{
+    let number = rule.number();
+    let word = rule.word();
+    match detail_value(alloc, rule)? {
+        Some(detail) => {
+            json!(in alloc; {"detail": detail, "number": number, "rule": word, "verdict": "denied"})
+        }
+        None => json!(in alloc; {"number": number, "rule": word, "verdict": "denied"}),
+    }
+}
+
+// The name of a reason, as notices write it.
+fn why_word(why: Why) -> &'static str
+    ensures { result.now ≡ why_word_of why }
+{
+    match why {
+        Why::Pushed => "Pushed",
+        Why::Closed => "Closed",
+        Why::Labeled => "Labeled",
+        Why::Reviews => "Reviews",
+        Why::Settings => "Settings",
+    }
+}
+
+// An order as JSON.
+fn order_value(alloc: Global, order: &Order) -> Result<Value, AllocError>
+    ensures { IfOk result (λ value. view value ≡ order_data order.now) }
+{
+    match order {
+        Order::Notice { change, why } => {
+            let number = change.number();
+            let word = why_word(*why);
+            json!(in alloc; {"change": number, "order": "notice", "why": word})
+        }
+    }
+}
+
+// Orders as JSON.
+fn orders_value(alloc: Global, orders: &[Order]) -> Result<Value, AllocError>
+    ensures { IfOk result (λ value. view value ≡ orders_data orders.now) }
+{
+    let mut values = Vec::new(alloc);
+    for order in orders {
+        values.push(order_value(alloc, order)?)?;
+    }
+    Ok(Value::from(values))
+}
+
+// A reply as JSON.
+fn reply_value(alloc: Global, reply: &Reply) -> Result<Value, AllocError>
+    ensures { IfOk result (λ value. view value ≡ reply_data reply.now) }
+{
+    match reply {
+        Reply::Done(orders) => {
+            let orders = orders_value(alloc, orders.as_slice())?;
+            json!(in alloc; {"orders": orders, "verdict": "done"})
+        }
+        Reply::Denied(rule) => denied_value(alloc, rule),
+    }
+}
+
+// An answer as JSON.
+fn answer_value(alloc: Global, answer: &[Reply]) -> Result<Value, AllocError>
+    ensures { IfOk result (λ value. view value ≡ answer_data answer.now) }
+{
+    let mut replies = Vec::new(alloc);
+    for reply in answer {
+        replies.push(reply_value(alloc, reply)?)?;
+    }
+    Ok(Value::from(replies))
+}
+
+/// The text of an answer: a JSON list with one object for each reply, compact, names in the order of their bytes.
+/// `AllocError` if there is no memory for it.
+pub fn answer_text(alloc: Global, answer: &[Reply]) -> Result<String, AllocError>
+    ensures { IfOk result (λ text. string_bytes text ≡ answer_text_of answer.now) }
+{
+    answer_value(alloc, answer)?.to_string(alloc)
+}

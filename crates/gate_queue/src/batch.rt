@@ -1,0 +1,104 @@
+ghost use Rattle.std.specs.Prelude.{◌≡◌};
+ghost use Rattle.std.specs.FinMap.{empty};
+
+use gate_text::{ChangeNo, Commit, Context, List};
+use std::alloc::Global;
+use std::collections::BTreeMap;
+use std::marker::Model;
+
+/// A branch on which batches are tested.
+#[derive(Clone, Copy, Debug, PartialEq, Eq)]
+pub enum Branch {
+    /// What is to land is tested here.
+    Staging,
+    /// What somebody wants to try is tested here, and doesn't land.
+    Trying,
+}
+
+/// What was last told of a required status.
+#[derive(Clone, Copy, Debug, PartialEq, Eq)]
+pub enum Report {
+    /// It has succeeded.
+    Success,
+    /// It goes on.
+    Pending,
+}
+
+/// The last report of each required status that one has come of. A contract sees it as the finite map.
+#[derive(Debug, Drop)]
+pub struct Reports {
+    reports: BTreeMap<Context, Report>,
+}
+
+impl Model for Reports {
+    ghost use Rattle.std.specs.Cmp.Lexicographic.{slice_cmp};
+    ghost use Rattle.std.specs.Coded.{codes};
+    ghost use Rattle.std.specs.FinMap as map;
+    ghost use Rattle.std.specs.FinMap.{FinMap};
+    ghost use Rattle.std.specs.Ordering.{nat_cmp};
+    ghost use Rattle.gate_text.specs.Finite.{finite_codes};
+    ghost use Rattle.gate_queue.specs.declared.batch.Report.{Report as ReportOf};
+
+    ghost Value = { FinMap (slice_cmp nat_cmp) ReportOf };
+
+    ghost coded = { Prim.hlevel (codes, finite_codes) };
+
+    ghost view = { λ r. map.from_entries r.reports.entries };
+}
+
+impl Reports {
+    /// No reports. It takes no memory; the map keeps the allocator.
+    pub fn new(alloc: Global) -> Reports
+        ensures value { result ≡ empty }
+    {
+        Reports {
+            reports: BTreeMap::new(alloc),
+        }
+    }
+}
+
+/// Where a batch stands. Moments are readings of the clock, in seconds.
+#[derive(Debug, Drop)]
+pub enum Stage {
+    /// It waits for its branch.
+    Waiting,
+    /// The host was ordered to stage it.
+    Ordered {
+        /// When.
+        since: u64,
+    },
+    /// It is tested.
+    Staged {
+        /// Since when.
+        since: u64,
+        /// The commit that is tested.
+        commit: Commit,
+        /// What its required statuses have told.
+        reports: Reports,
+    },
+    /// All required statuses have succeeded, and the host was ordered to land it.
+    Landing {
+        /// The commit that is to land.
+        commit: Commit,
+    },
+}
+
+/// Changes in an order. A contract sees them as the list of their numbers.
+pub type Changes = List<ChangeNo>;
+
+/// Changes that are tested together, on one branch.
+#[derive(Debug, Drop)]
+pub struct Batch {
+    /// Its number, which no other batch ever has.
+    pub number: u64,
+    /// The branch.
+    pub branch: Branch,
+    /// The priority of its changes; 0 on `Trying`.
+    pub priority: i32,
+    /// Whether its changes were in a batch before.
+    pub again: bool,
+    /// Where it stands.
+    pub stage: Stage,
+    /// Its changes, in the order in which they are merged.
+    pub changes: Changes,
+}

@@ -1,0 +1,177 @@
+ghost use Rattle.std.specs.Prelude.{◌≡◌, ◌<◌, None, Some, IfOk};
+ghost use Rattle.gate_queue.specs.Lanes as lanes;
+
+use crate::batch::{Batch, Stage};
+use crate::choice::Choice;
+use crate::waiting::{
+    MAX_NUMBER, enter, has_all, has_several, is_landing, keep, left, put_back, split_into,
+};
+use gate_text::{ChangeNo, List};
+use std::alloc::{AllocError, Global};
+
+/// Batches in order of service. A contract sees them as the list of the batches.
+pub type Batches = List<Batch>;
+
+/// The batches of one branch.
+#[derive(Debug, Drop)]
+pub struct Lane {
+    /// The batch that is tested or lands, if there is one.
+    pub running: Option<Batch>,
+    /// The others, in order of service.
+    pub waiting: Batches,
+}
+
+impl Lane {
+    /// A lane without batches. It takes no memory; its list keeps the allocator.
+    pub fn new(alloc: Global) -> Lane
+        ensures value { result ≡ lanes.empty_lane }
+    {
+        Lane {
+            running: None,
+            waiting: Batches::from(Vec::new(alloc)),
+        }
+    }
+
+    /// Queues a change: it joins the last fresh batch of its priority, if that has fewer changes than `size`, or is a batch of
+    /// its own, under `number`. With it comes how many numbers were used. `AllocError` if there is no memory for it.
+    pub fn enqueue(
+        self,
+        alloc: Global,
+        number: u64,
+        priority: i32,
+        change: ChangeNo,
+        size: Option<u32>,
+    ) -> Result<(Lane, u64), AllocError>
+        ensures lane { IfOk result (λ done. done.0 ≡ lanes.enqueued size number priority change self) }
+        ensures uses { IfOk result (λ done. done.1 ≡ lanes.enqueue_uses size priority self) }
+    {
+        let Lane { running, waiting } = self;
+        let mut waiting = waiting.into_vec();
+        let used = enter(&mut waiting, alloc, number, priority, change, size)?;
+        let waiting = Batches::from(waiting);
+        Ok((Lane { running, waiting }, used))
+    }
+
+    /// Lets only the chosen changes stay. A waiting batch keeps its number, and one that is left empty is dropped. A running
+    /// batch that loses a change waits again with the others, under `number`, unless it is landing. With it comes how many
+    /// numbers were used. `AllocError` if there is no memory for it.
+    pub fn take_out<C: Choice>(
+        self,
+        alloc: Global,
+        number: u64,
+        choice: &C,
+    ) -> Result<(Lane, u64), AllocError>
+        ensures lane { IfOk result (λ done. done.0 ≡ lanes.taken_out (λ change. C.chooses change choice.now) number self) }
+        ensures uses { IfOk result (λ done. done.1 ≡ lanes.taken_out_uses (λ change. C.chooses change choice.now) self) }
+    {
+        let Lane { running, waiting } = self;
+        let waiting = left(alloc, waiting.into_vec(), choice)?;
+        match running {
+            Some(batch) => take_from_running(batch, waiting, number, choice),
+            None => Ok((waiting_only(waiting), 0)),
+        }
+    }
+
+    /// Lets the running batch wait again, under `number`, unless it is landing. With it comes how many numbers were used.
+    /// `AllocError` if there is no memory for it.
+    pub fn restart(self, number: u64) -> Result<(Lane, u64), AllocError>
+        ensures lane { IfOk result (λ done. done.0 ≡ lanes.restarted number self) }
+        ensures uses { IfOk result (λ done. done.1 ≡ lanes.restarted_uses self) }
+    {
+        let Lane { running, waiting } = self;
+        let mut waiting = waiting.into_vec();
+        let Some(batch) = running else {
+            return Ok((waiting_only(waiting), 0));
+        };
+        if is_landing(&batch) {
+            return Ok((running_before(batch, waiting), 0));
+        }
+        let used = put_back(&mut waiting, number, batch)?;
+        Ok((waiting_only(waiting), used))
+    }
+
+    /// Ends the running batch: one of several changes is split, and its halves wait again, under `number` and the next one;
+    /// another is dropped. With it comes how many numbers were used. `AllocError` if there is no memory for it.
+    pub fn fail(self, alloc: Global, number: u64) -> Result<(Lane, u64), AllocError>
+        requires { number < MAX_NUMBER }
+        ensures lane { IfOk result (λ done. done.0 ≡ lanes.failed number self) }
+        ensures uses { IfOk result (λ done. done.1 ≡ lanes.failed_uses self) }
+    {
+        let Lane { running, waiting } = self;
+        let mut waiting = waiting.into_vec();
+        let Some(batch) = running else {
+            return Ok((waiting_only(waiting), 0));
+        };
+        if !has_several(&batch) {
+            return Ok((waiting_only(waiting), 0));
+        }
+        split_into(&mut waiting, alloc, number, &batch)?;
+        Ok((waiting_only(waiting), 2))
+    }
+
+    /// Lets the first waiting batch run, ordered at this reading of the clock, if no batch runs. It takes no memory.
+    pub fn start(self, now: u64) -> Lane
+        ensures value { result ≡ lanes.started now self }
+    {
+        let Lane { running, waiting } = self;
+        let waiting = waiting.into_vec();
+        match running {
+            Some(batch) => running_before(batch, waiting),
+            None => first_started(waiting, now),
+        }
+    }
+
+    /// Drops the running batch.
+    pub fn drop_running(self) -> Lane
+        ensures value { result ≡ lanes.dropped self }
+    {
+        waiting_only(self.waiting.into_vec())
+    }
+}
+
+// Lets only the chosen changes of a running batch stay.
+fn take_from_running<C: Choice>(
+    mut batch: Batch,
+    mut waiting: Vec<Batch>,
+    number: u64,
+    choice: &C,
+) -> Result<(Lane, u64), AllocError>
+    ensures lane { IfOk result (λ done. done.0 ≡ lanes.running_back (lanes.loses (λ change. C.chooses change choice.now) batch) number batch (lanes.only (λ change. C.chooses change choice.now) batch) waiting.items) }
+    ensures uses { IfOk result (λ done. done.1 ≡ lanes.running_back_uses (lanes.loses (λ change. C.chooses change choice.now) batch) batch (lanes.only (λ change. C.chooses change choice.now) batch)) }
+{
+    if has_all(choice, batch.changes.as_slice()) || is_landing(&batch) {
+        return Ok((running_before(batch, waiting), 0));
+    }
+    keep(&mut batch, choice);
+    let used = put_back(&mut waiting, number, batch)?;
+    Ok((waiting_only(waiting), used))
+}
+
+fn first_started(mut waiting: Vec<Batch>, now: u64) -> Lane
+    ensures { result ≡ lanes.first_started now waiting.items }
+{
+    if waiting.is_empty() {
+        return waiting_only(waiting);
+    }
+    let mut batch = waiting.remove(0);
+    batch.stage = Stage::Ordered { since: now };
+    running_before(batch, waiting)
+}
+
+fn waiting_only(waiting: Vec<Batch>) -> Lane
+    ensures { result ≡ record { running = None; waiting = waiting.items } }
+{
+    Lane {
+        running: None,
+        waiting: Batches::from(waiting),
+    }
+}
+
+fn running_before(batch: Batch, waiting: Vec<Batch>) -> Lane
+    ensures { result ≡ record { running = Some batch; waiting = waiting.items } }
+{
+    Lane {
+        running: Some(batch),
+        waiting: Batches::from(waiting),
+    }
+}

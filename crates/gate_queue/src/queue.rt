@@ -1,0 +1,178 @@
+ghost use Rattle.std.specs.Prelude.{◌≡◌, ◌<◌, ◌+◌, ◌++◌, ◌∷◌, [], ℕ, map, IfOk, OnOk};
+ghost use Rattle.gate_queue.specs.Lanes as lanes;
+ghost use Rattle.gate_queue.specs.Queue as specs;
+
+use crate::batch::{Batch, Branch};
+use crate::choice::Choice;
+use crate::lane::Lane;
+use crate::waiting::MAX_NUMBER;
+use gate_text::ChangeNo;
+use std::alloc::{AllocError, Global};
+
+/// The batches of both branches, and the number of the next batch.
+#[derive(Debug, Drop)]
+pub struct Queue {
+    /// What is to land.
+    pub staging: Lane,
+    /// What people try.
+    pub trying: Lane,
+    /// The number that the next batch is given; all before it are used.
+    pub next: u64,
+}
+
+impl Queue {
+    /// A queue without batches. It takes no memory; its lists keep the allocator.
+    pub fn new(alloc: Global, next: u64) -> Queue
+        ensures value { result ≡ specs.empty_queue next }
+    {
+        Queue {
+            staging: Lane::new(alloc),
+            trying: Lane::new(alloc),
+            next,
+        }
+    }
+
+    /// The numbers of all batches, in order of service: those of `Staging` first, and of a branch the running batch first.
+    /// `AllocError` if there is no memory for them.
+    pub fn numbers(&self, alloc: Global) -> Result<Vec<u64>, AllocError>
+        ensures value { IfOk result (λ numbers. numbers.items ≡ specs.numbers_of self.now) }
+    {
+        let mut numbers = Vec::new(alloc);
+        push_numbers_of(&mut numbers, &self.staging)?;
+        push_numbers_of(&mut numbers, &self.trying)?;
+        Ok(numbers)
+    }
+
+    /// Queues a change of this priority on `Staging`, in a batch of `size` changes at most. `AllocError` if there is no memory
+    /// for it.
+    pub fn enqueue(
+        self,
+        alloc: Global,
+        change: ChangeNo,
+        priority: i32,
+        size: Option<u32>,
+    ) -> Result<Queue, AllocError>
+        requires { self.next < MAX_NUMBER }
+        ensures value { IfOk result (λ queue. queue ≡ specs.enqueued size priority change self) }
+    {
+        let Queue {
+            staging,
+            trying,
+            next,
+        } = self;
+        let (staging, used) = staging.enqueue(alloc, next, priority, change, size)?;
+        Ok(Queue {
+            staging,
+            trying,
+            next: next + used,
+        })
+    }
+
+    /// Lets only the chosen changes stay on `Staging`. `AllocError` if there is no memory for it.
+    pub fn take_out<C: Choice>(self, alloc: Global, choice: &C) -> Result<Queue, AllocError>
+        requires { self.next < MAX_NUMBER }
+        ensures value { IfOk result (λ queue. queue ≡ specs.taken_out (λ change. C.chooses change choice.now) self) }
+    {
+        let Queue {
+            staging,
+            trying,
+            next,
+        } = self;
+        let (staging, used) = staging.take_out(alloc, next, choice)?;
+        Ok(Queue {
+            staging,
+            trying,
+            next: next + used,
+        })
+    }
+
+    /// Lets the running batch of a branch wait again, unless it is landing. `AllocError` if there is no memory for it.
+    pub fn restart(self, branch: Branch) -> Result<Queue, AllocError>
+        requires { self.next < MAX_NUMBER }
+        ensures value { IfOk result (λ queue. queue ≡ specs.restarted branch self) }
+    {
+        let next = self.next;
+        let (lane, other) = lanes_of(self, branch);
+        let (lane, used) = lane.restart(next)?;
+        Ok(of_lanes(branch, lane, other, next + used))
+    }
+
+    /// Ends the running batch of a branch: one of several changes is split, another is dropped. `AllocError` if there is no
+    /// memory for it.
+    pub fn fail(self, alloc: Global, branch: Branch) -> Result<Queue, AllocError>
+        requires { self.next < MAX_NUMBER }
+        ensures value { IfOk result (λ queue. queue ≡ specs.failed branch self) }
+    {
+        let next = self.next;
+        let (lane, other) = lanes_of(self, branch);
+        let (lane, used) = lane.fail(alloc, next)?;
+        Ok(of_lanes(branch, lane, other, next + used))
+    }
+
+    /// Lets the first waiting batch of a branch run, ordered at this reading of the clock, if none runs there.
+    pub fn start(self, branch: Branch, now: u64) -> Queue
+        ensures value { result ≡ specs.started branch now self }
+    {
+        let next = self.next;
+        let (lane, other) = lanes_of(self, branch);
+        of_lanes(branch, lane.start(now), other, next)
+    }
+
+    /// Drops the running batch of a branch.
+    pub fn drop_running(self, branch: Branch) -> Queue
+        ensures value { result ≡ specs.dropped branch self }
+    {
+        let next = self.next;
+        let (lane, other) = lanes_of(self, branch);
+        of_lanes(branch, lane.drop_running(), other, next)
+    }
+}
+
+// The lane of a branch, and that of the other.
+fn lanes_of(queue: Queue, branch: Branch) -> (Lane, Lane)
+    ensures lane { result.0 ≡ specs.lane_of branch queue }
+    ensures other { result.1 ≡ specs.other_lane branch queue }
+{
+    let Queue {
+        staging,
+        trying,
+        next: _next,
+    } = queue;
+    match branch {
+        Branch::Staging => (staging, trying),
+        Branch::Trying => (trying, staging),
+    }
+}
+
+// The queue of the lane of a branch and that of the other.
+fn of_lanes(branch: Branch, lane: Lane, other: Lane, next: u64) -> Queue
+    ensures { result ≡ specs.of_lanes branch lane other next }
+{
+    let (staging, trying) = match branch {
+        Branch::Staging => (lane, other),
+        Branch::Trying => (other, lane),
+    };
+    Queue {
+        staging,
+        trying,
+        next,
+    }
+}
+
+fn push_numbers(numbers: &mut Vec<u64>, batches: &[Batch]) -> Result<(), AllocError>
+    ensures { OnOk result (numbers.new.items ≡ numbers.old.items ++ map (λ batch. batch.number) batches.now) }
+{
+    for batch in batches {
+        numbers.push(batch.number)?;
+    }
+    Ok(())
+}
+
+fn push_numbers_of(numbers: &mut Vec<u64>, lane: &Lane) -> Result<(), AllocError>
+    ensures { OnOk result (numbers.new.items ≡ numbers.old.items ++ map (λ batch. batch.number) (lanes.batches_of lane.now)) }
+{
+    if let Some(batch) = &lane.running {
+        numbers.push(batch.number)?;
+    }
+    push_numbers(numbers, lane.waiting.as_slice())
+}
