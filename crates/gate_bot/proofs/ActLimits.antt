@@ -6,7 +6,7 @@ use Rattle.gate_text.specs.Limits.{KeepsLimits}
 use Rattle.gate_text.specs.declared.command.Spoken.{Spoken}
 use Rattle.gate_queue.specs.declared.act.Act.{Act}
 use Rattle.gate_queue.specs.declared.act.Act.TheVariants as act
-use Rattle.gate_bot.specs.Acts.{ActKeepsLimits}
+use Rattle.gate_queue.specs.Acts.{ActKeepsLimits}
 
 pub one_keeps : (a : Act) → ActKeepsLimits a → All ActKeepsLimits (a ∷ [])
 one_keeps a keeps = All-cons ActKeepsLimits a [] keeps (All-nil ActKeepsLimits)

@@ -1,6 +1,5 @@
 -- THE ACTS OF AN EVENT.
-use Rattle.std.specs.Prelude.{ℕ, ⊤, List, [], ◌∷◌, map}
-use Rattle.gate_text.specs.Limits.{KeepsLimits}
+use Rattle.std.specs.Prelude.{ℕ, List, [], ◌∷◌, map}
 use Rattle.gate_text.specs.Reading.{comment_says}
 use Rattle.gate_queue.specs.declared.act.Act.{Act}
 use Rattle.gate_queue.specs.declared.act.Act.TheVariants as act
@@ -23,8 +22,3 @@ acts_of_event (Closed change) = act.Closed change ∷ []
 acts_of_event (Labeled change label) = act.Labeled change label ∷ []
 acts_of_event (Unlabeled change label) = act.Unlabeled change label ∷ []
 acts_of_event (Review change person head approves) = act.Review change person head approves ∷ []
-
--- what a comment says keeps its limits in its acts
-abbrev pub ActKeepsLimits : Act → Type 0
-ActKeepsLimits (act.Spoken change person spoken) = KeepsLimits spoken
-ActKeepsLimits _ = ⊤

@@ -13,8 +13,8 @@ use Rattle.gate_queue.specs.declared.reply.Why.TheVariants as why
 use Rattle.gate_queue.specs.declared.reply.Reply.{Reply}
 use Rattle.gate_queue.specs.declared.reply.Reply.TheVariants.{Done, Denied}
 
-abbrev denial : Rule → Members
-denial rule =
+abbrev denied_members : Rule → Members
+denied_members rule =
     member (codes "number") (number (unsigned (number_of rule)))
     (member (codes "rule") (string (word_of rule))
     (member (codes "verdict") (string (codes "denied")) no_members))
@@ -62,7 +62,7 @@ abbrev pub reply_data : Reply → Data
 reply_data (Done orders) =
     object (member (codes "orders") (orders_data orders)
     (member (codes "verdict") (string (codes "done")) no_members))
-reply_data (Denied rule) = object (with_detail (detail_of rule) (denial rule))
+reply_data (Denied rule) = object (with_detail (detail_of rule) (denied_members rule))
 
 -- an answer: a list with one object for each reply
 abbrev pub answer_data : List Reply → Data

@@ -1,6 +1,7 @@
 ghost use Rattle.std.specs.Prelude.{◌≡◌, map, IfOk};
 ghost use Rattle.std.specs.List.{All};
-ghost use Rattle.gate_bot.specs.Acts.{ActKeepsLimits, acts_of_event, spoken_acts_of};
+ghost use Rattle.gate_queue.specs.Acts.{ActKeepsLimits};
+ghost use Rattle.gate_bot.specs.Acts.{acts_of_event, spoken_acts_of};
 
 use gate_queue::Act;
 use gate_rules::Role;

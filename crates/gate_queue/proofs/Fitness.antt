@@ -7,15 +7,16 @@ use Rattle.std.specs.List.{find}
 use Rattle.std.specs.Option.{option_map}
 use Rattle.std.specs.Ordering.{eq_by_cmp, nat_cmp}
 use Rattle.gate_text.specs.Settings.{SettingsView}
-use Rattle.gate_rules.specs.Rules.{unless, first_failing, of_both, unless_blocked, unless_too_few, is_opened, is_blocked, has_too_few_reviews, is_fit, blocking_label}
-use Rattle.gate_rules.specs.View.{without_approval, settled}
+use Rattle.gate_rules.specs.Rules.{Texts, asks, first_failing, of_both, blocked_rule, too_few_rule, is_open_phase, is_blocked, has_too_few_reviews, is_fit, blocking_label}
+use Rattle.gate_rules.specs.View.{without_approval}
 use Rattle.gate_rules.specs.declared.change.Change.{Change}
+use Rattle.gate_rules.specs.declared.change.Phase.{Phase}
 use Rattle.gate_rules.specs.declared.rule.Rule.{Rule}
 use Rattle.gate_rules.specs.declared.rule.Rule.TheVariants.{Blocked}
-use Rattle.gate_queue.specs.Machine.{unless_against}
+use Rattle.gate_queue.specs.Machine.{unless_against, settled}
 
 -- A ROW THAT HOLDS
-pub passed : (b : Bool) (rule : Rule) (others : List (Option Rule)) → first_failing (unless b rule ∷ others) ≡ None → (b ≡ true) × (first_failing others ≡ None)
+pub passed : (b : Bool) (rule : Rule) (others : List (Option Rule)) → first_failing (asks b rule ∷ others) ≡ None → (b ≡ true) × (first_failing others ≡ None)
 passed true rule others holds = (refl, holds)
 passed false rule others holds = cc holds
 
@@ -27,22 +28,16 @@ not_blocked : (label : Option (List ℕ)) → option_map Blocked label ≡ None 
 not_blocked None none = refl
 not_blocked (Some label) none = cc none
 
-unless_so : (b : Bool) (rule : Rule) → unless b rule ≡ None → b ≡ true
+unless_so : (b : Bool) (rule : Rule) → asks b rule ≡ None → b ≡ true
 unless_so true rule none = refl
 unless_so false rule none = cc none
 
 -- an open change that the rules of an approval let pass is fit
-pub fit_by_rules : (settings : Option SettingsView) (change : Change) → is_some settings ≡ true → is_opened change.phase ≡ true
-    → of_both unless_blocked settings (Some change) ≡ None → of_both unless_too_few settings (Some change) ≡ None → is_fit settings change ≡ true
+pub fit_by_rules : (settings : Option SettingsView) (change : Change) → is_some settings ≡ true → is_open_phase change.phase ≡ true
+    → of_both blocked_rule settings (Some change) ≡ None → of_both too_few_rule settings (Some change) ≡ None → is_fit settings change.phase change.labels change.reviews ≡ true
 fit_by_rules None change some opened blocked few = cc some
 fit_by_rules (Some settings) change some opened blocked few =
-    rw (opened, not_blocked (blocking_label settings change) blocked) (unless_so (not (has_too_few_reviews settings change)) _ few)
-
--- fitness reads the phase, the labels and the reviews alone
-pub same_fit : (settings : Option SettingsView) (one other : Change) → one.phase ≡ other.phase → one.labels ≡ other.labels → one.reviews ≡ other.reviews
-    → is_fit settings one ≡ is_fit settings other
-same_fit None one other phase labels reviews = refl
-same_fit (Some settings) one other phase labels reviews = rw (phase, labels, reviews) refl
+    rw (opened, not_blocked (blocking_label settings change.labels) blocked) (unless_so (not (has_too_few_reviews settings change.reviews)) _ few)
 
 -- AN APPROVAL BY THE TESTS
 none_anyway : {X : Type 0} (b : Bool) → ◌≡◌ {A = Option X} (cond b None None) None
@@ -90,33 +85,38 @@ settled_approval false change None = refl
 settled_approval true change (Some approvers) = refl
 settled_approval false change (Some approvers) = refl
 
--- `before` is the change as it was and `now` as it is, each without its approval; it had the approvers where `had`
-module _ (had : Bool) (last : Option (List (List ℕ))) (before now : Change) where
-  pub labeled_approval : (settings : Option SettingsView) → (had ≡ true → is_fit settings before ≡ true) → now.phase ≡ before.phase → now.reviews ≡ before.reviews
-      → unless_against is_blocked settings (record now { approved = cond had last None }) ≡ record now { approved = cond (is_fit settings now) (cond had last None) None }
-  labeled_approval None so phase reviews = λ i. record now { approved = (sym (nothing_standing had last so)) i }
-  labeled_approval (Some settings) so phase reviews =
-      tested (is_blocked settings now) (record now { approved = cond had last None })
+-- `now` is the change as it is, without its approval; it had the approvers if `had`
+module _ (had : Bool) (last : Option (List (List ℕ))) (now : Change) where
+  pub labeled_approval : (settings : Option SettingsView) (before : Texts) → (had ≡ true → is_fit settings now.phase before now.reviews ≡ true)
+      → unless_against (λ s c. is_blocked s c.labels) settings (record now { approved = cond had last None })
+      ≡ record now { approved = cond (is_fit settings now.phase now.labels now.reviews) (cond had last None) None }
+  labeled_approval None before so = λ i. record now { approved = (sym (nothing_standing had last so)) i }
+  labeled_approval (Some settings) before so =
+      tested (is_blocked settings now.labels) (record now { approved = cond had last None })
       ∙ (λ i. record now {
-        approved = fit_label (is_blocked settings now) (is_opened now.phase) (has_too_few_reviews settings now) had (is_blocked settings before) last
-            (λ yes. rw (phase, reviews) (so yes)) i;
+        approved = fit_label (is_blocked settings now.labels) (is_open_phase now.phase) (has_too_few_reviews settings now.reviews) had (is_blocked settings before) last so i;
       })
 
-  pub reviewed_approval : (settings : Option SettingsView) → (had ≡ true → is_fit settings before ≡ true) → now.phase ≡ before.phase → now.labels ≡ before.labels
-      → unless_against has_too_few_reviews settings (record now { approved = cond had last None }) ≡ record now { approved = cond (is_fit settings now) (cond had last None) None }
-  reviewed_approval None so phase labels = λ i. record now { approved = (sym (nothing_standing had last so)) i }
-  reviewed_approval (Some settings) so phase labels =
-      tested (has_too_few_reviews settings now) (record now { approved = cond had last None })
+  pub reviewed_approval : (settings : Option SettingsView) (before : Texts) → (had ≡ true → is_fit settings now.phase now.labels before ≡ true)
+      → unless_against (λ s c. has_too_few_reviews s c.reviews) settings (record now { approved = cond had last None })
+      ≡ record now { approved = cond (is_fit settings now.phase now.labels now.reviews) (cond had last None) None }
+  reviewed_approval None before so = λ i. record now { approved = (sym (nothing_standing had last so)) i }
+  reviewed_approval (Some settings) before so =
+      tested (has_too_few_reviews settings now.reviews) (record now { approved = cond had last None })
       ∙ (λ i. record now {
-        approved = fit_review (has_too_few_reviews settings now) (is_opened now.phase) (is_blocked settings now) had (has_too_few_reviews settings before) last
-            (λ yes. rw (phase, labels) (so yes)) i;
+        approved = fit_review (has_too_few_reviews settings now.reviews) (is_open_phase now.phase) (is_blocked settings now.labels) had (has_too_few_reviews settings before) last so i;
       })
 
-pub settled_as_fit : (had : Bool) (last : Option (List (List ℕ))) (change : Change) (settings : SettingsView) → (had ≡ true → is_opened change.phase ≡ true)
-    → settled settings (record change { approved = cond had last None }) ≡ record change { approved = cond (is_fit (Some settings) change) (cond had last None) None }
-settled_as_fit had last change settings so =
-    settled_approval (is_blocked settings change || has_too_few_reviews settings change) change (cond had last None)
-    ∙ (λ i. record change { approved = fit_settled (is_opened change.phase) (is_blocked settings change) (has_too_few_reviews settings change) had last so i })
+  pub settled_as_fit : (settings : SettingsView) → (had ≡ true → is_open_phase now.phase ≡ true)
+      → settled settings (record now { approved = cond had last None }) ≡ record now { approved = cond (is_fit (Some settings) now.phase now.labels now.reviews) (cond had last None) None }
+  settled_as_fit settings so =
+      settled_approval (is_blocked settings now.labels || has_too_few_reviews settings now.reviews) now (cond had last None)
+      ∙ (λ i. record now { approved = fit_settled (is_open_phase now.phase) (is_blocked settings now.labels) (has_too_few_reviews settings now.reviews) had last so i })
+
+-- what is fit is open
+pub opened_so : (settings : Option SettingsView) (phase : Phase) (labels reviews : Texts) → is_fit settings phase labels reviews ≡ true → is_open_phase phase ≡ true
+opened_so None phase labels reviews fit = cc fit
+opened_so (Some settings) phase labels reviews fit = first_so (is_open_phase phase) _ fit
 
 -- FEWER LABELS
 fewer_step : (one other : Bool) (label : List ℕ) (rest fewer : Option (List ℕ)) → (one ≡ false → other ≡ false) → (is_some rest ≡ false → is_some fewer ≡ false)
@@ -145,12 +145,12 @@ not_so : (b : Bool) → not b ≡ true → b ≡ false
 not_so true is = cc is
 not_so false is = refl
 
-pub still_fit : (settings : Option SettingsView) (change : Change) (label : List ℕ) → is_fit settings change ≡ true
-    → is_fit settings (record change { labels = set.remove change.labels label }) ≡ true
-still_fit None change label fit = cc fit
-still_fit (Some settings) change label fit =
-    let opened = first_so (is_opened change.phase) _ fit in
-    let rest = second_so (is_opened change.phase) _ fit in
-    let unblocked = not_so (is_blocked settings change) (first_so (not (is_blocked settings change)) _ rest) in
-    let reviewed = second_so (not (is_blocked settings change)) (not (has_too_few_reviews settings change)) rest in
-    rw (opened, still_unblocked settings change.labels label unblocked) reviewed
+pub still_fit : (settings : Option SettingsView) (phase : Phase) (labels reviews : Texts) (label : List ℕ) → is_fit settings phase labels reviews ≡ true
+    → is_fit settings phase (set.remove labels label) reviews ≡ true
+still_fit None phase labels reviews label fit = cc fit
+still_fit (Some settings) phase labels reviews label fit =
+    let opened = first_so (is_open_phase phase) _ fit in
+    let rest = second_so (is_open_phase phase) _ fit in
+    let unblocked = not_so (is_blocked settings labels) (first_so (not (is_blocked settings labels)) _ rest) in
+    let reviewed = second_so (not (is_blocked settings labels)) (not (has_too_few_reviews settings reviews)) rest in
+    rw (opened, still_unblocked settings labels label unblocked) reviewed

@@ -14,36 +14,38 @@ use Rattle.gate_text.specs.Settings.{SettingsView, settings_of, same_settings}
 use Rattle.gate_text.specs.declared.command.Command.TheVariants.{Ping, Approve, ApproveFor, Withdraw, Priority, Try, TryCancel, DelegateAuthor, DelegateTo, DelegateNone, Retry}
 use Rattle.gate_text.specs.declared.command.Spoken.TheVariants.{Known, Unknown}
 use Rattle.gate_text.specs.declared.settings.fault.SettingsFault.{SettingsFault}
-use Rattle.gate_rules.specs.Rules.{Look, first_failing, is_fit}
-use Rattle.gate_rules.specs.View.{DeskView, empty_desk, roles_with, with_settings, with_settled, settled, without_approval, look}
+use Rattle.gate_rules.specs.Rules.{Look, first_failing, is_open_phase}
+use Rattle.gate_rules.specs.View.{DeskView, empty_desk, roles_with, with_settings, without_approval, look}
 use Rattle.gate_rules.specs.declared.change.Change.{Change}
 use Rattle.gate_rules.specs.declared.change.Repeat.TheVariants as repeat
 use Rattle.gate_rules.specs.declared.role.Role.{Role as RoleOf}
 use Rattle.gate_rules.specs.declared.role.Role.TheVariants.{Nobody, Member, Reviewer}
 use Rattle.gate_rules.specs.declared.rule.Rule.{Rule}
-use Rattle.gate_queue.specs.History.{Entry, Event, did, gave, given, happened, events_of, last_of, role_set, settings_back, author_back, attributes_of, approval, standing_back, approvers_back, change_of, change_back, look_back, Legal, EntryTells, entry_of, denial}
-use Rattle.gate_queue.specs.Machine.{State, broken, bad_settings, answered, effect, orders, reply_to, unless_denied, after, altered, with_accepted, approved_by, with_priority, with_delegates, with_author_as_delegate, without_delegates, opened, closed, pushed, labeled, without_label, reviewed}
+use Rattle.gate_queue.specs.History.{Entry, Event, did, gave, given, happened, events_of, last_of, said_by, done_to, said_on, role_in, settings_back, author_back, phase_back, labels_back, reviews_back, approval_in, standing_back, approvers_back, change_of, change_back, look_back, Legal, EntryTells, entry_of, denied_by}
+use Rattle.gate_queue.specs.Machine.{State, broken, bad_settings, answered, effect, orders, reply_to, unless_denied, after, altered, with_accepted, approved_by, with_priority, with_delegates, with_author_as_delegate, without_delegates, opened, closed, pushed, labeled, without_label, reviewed, with_settled, settled}
 use Rattle.gate_queue.specs.declared.act.Act.{Act}
 use Rattle.gate_queue.specs.declared.act.Act.TheVariants.{Spoken, Role, Settings, Base, Opened, Pushed, Closed, Labeled, Unlabeled, Review}
 use Rattle.gate_queue.specs.declared.reply.Order.{Order}
 use Rattle.gate_queue.specs.declared.reply.Reply.{Reply}
 use Rattle.gate_queue.specs.declared.reply.Reply.TheVariants.{Denied}
-use Rattle.gate_queue.proofs.Approvals.{same_given, same_change, standing_fit}
+use Rattle.gate_queue.proofs.After.{change_after, by_number, elsewhere, quiet_line, stays, standing_fit}
 use Rattle.gate_queue.proofs.Changes.{altered_look, opened_at}
 use Rattle.gate_queue.proofs.Facts.{closed_next, labeled_next, reviewed_next, unlabeled_next, pushed_next, opened_next, settled_next, unsettled_next, taken_settings}
+use Rattle.gate_queue.proofs.Fitness.{opened_so}
 use Rattle.gate_queue.proofs.Next.{priority_next, author_next, names_next, none_next, withdraw_next, approve_next, approve_for_next}
 use Rattle.gate_queue.proofs.Premises.{fits, shut}
-use Rattle.gate_queue.proofs.Unseen.{Unseen, nothing_unseen, still_unseen}
+use Rattle.gate_queue.proofs.Unseen.{Unseen, nothing_unseen, order_unseen, still_unseen}
 
 -- ONE ACT ON A CHANGE
 altered_next : (desk : DeskView) (events : List Event) (n : ℕ) (alter : Change → Change) (act : Act) → look desk ≡ look_back events
     → look_back (did act ∷ events) ≡ record (look_back events) { change = change_back (did act ∷ events) }
-    → ((c : ℕ) → cond (eqb c n) (option_map alter (change_back events c)) (change_back events c) ≡ change_back (did act ∷ events) c)
+    → ((c : ℕ) → done_to c (did act) ≡ cond (eqb c n) (Some act) None)
+    → ((c : ℕ) → eqb c n ≡ true → option_map alter (change_back events c) ≡ change_after events c (settings_back events) (Some act))
     → look (altered desk n alter) ≡ look_back (did act ∷ events)
-altered_next desk events n alter act same rest next =
+altered_next desk events n alter act same rest about next =
     altered_look desk n alter
     ∙ ap (λ (s : Look). record s { change = λ c. cond (eqb c n) (option_map alter (s.change c)) (s.change c) }) same
-    ∙ (λ i. record (look_back events) { change = λ c. next c i })
+    ∙ (λ i. record (look_back events) { change = λ c. by_number events c n act (option_map alter) (about c) (ap (λ (s : Look). s.settings) rest) (next c) (eqb c n) refl i })
     ∙ sym rest
 
 -- ROLES
@@ -70,8 +72,8 @@ role_next desk events person role same =
     (λ i. record (look desk) { role = λ p. roles_next desk.roles person role p i })
     ∙ ap (λ (s : Look). record s { role = λ p. cond (bytes_eq p person) role (s.role p) }) same
     ∙ (λ i. record (look_back events) {
-      role = λ p. (sym (role_said (bytes_eq p person) role (last_of (role_set p) events))) i;
-      change = λ c. (sym (same_change (did (Role person role)) events c refl refl refl (λ author. refl) refl)) i;
+      role = λ p. (sym (role_said (bytes_eq p person) role (last_of (said_by (role_in p)) events))) i;
+      change = λ c. (sym (elsewhere events c (did (Role person role)) refl refl)) i;
     })
 
 -- SETTINGS
@@ -110,70 +112,76 @@ one_rule (Some rule) holds = cc holds
 
 -- OPENING
 opening_next : (desk : DeskView) (events : List Event) (n : ℕ) (author head : List ℕ) → look desk ≡ look_back events
-    → ((c : ℕ) → cond (eqb c n) (Some (opened author head (change_back events c))) (change_back events c) ≡ change_back (did (Opened n author head) ∷ events) c)
+    → ((c : ℕ) → eqb c n ≡ true → Some (opened author head (change_back events c)) ≡ change_after events c (settings_back events) (Some (Opened n author head)))
     → look (effect desk (Opened n author head)) ≡ look_back (did (Opened n author head) ∷ events)
 opening_next desk events n author head same next =
     (λ i. record (look desk) { change = λ c. opened_at desk n author head c i })
     ∙ ap (λ (s : Look). record s { change = λ c. cond (eqb c n) (Some (opened author head (s.change c))) (s.change c) }) same
-    ∙ (λ i. record (look_back events) { change = λ c. next c i })
+    ∙ (λ i. record (look_back events) {
+      change = λ c. by_number events c n (Opened n author head) (λ had. Some (opened author head had)) refl refl (next c) (eqb c n) refl i;
+    })
 
 -- ACTS THAT CHANGE NO CHANGE
 base_next : (desk : DeskView) (events : List Event) (commit : List ℕ) → look desk ≡ look_back events → look (effect desk (Base commit)) ≡ look_back (did (Base commit) ∷ events)
 base_next desk events commit same =
     ap (λ (s : Look). record s { base = Some commit }) same
-    ∙ (λ i. record (look_back events) { change = λ c. (sym (same_change (did (Base commit)) events c refl refl refl (λ author. refl) refl)) i; base = Some commit })
+    ∙ (λ i. record (look_back events) { change = λ c. (sym (elsewhere events c (did (Base commit)) refl refl)) i; base = Some commit })
 
-quiet_next : (desk : DeskView) (events : List Event) (act : Act) → look desk ≡ look_back events
+-- and a line that does nothing
+quiet_next : (desk : DeskView) (events : List Event) (n : ℕ) (act : Act) → look desk ≡ look_back events
     → look_back (did act ∷ events) ≡ record (look_back events) { change = change_back (did act ∷ events) }
-    → ((c : ℕ) → change_back (did act ∷ events) c ≡ change_back events c) → look desk ≡ look_back (did act ∷ events)
-quiet_next desk events act same rest next = same ∙ (λ i. record (look_back events) { change = λ c. (sym (next c)) i }) ∙ sym rest
+    → ((c : ℕ) → done_to c (did act) ≡ cond (eqb c n) (Some act) None)
+    → ((c : ℕ) → eqb c n ≡ true → option_map (λ change. change) (change_back events c) ≡ change_after events c (settings_back events) (Some act))
+    → look desk ≡ look_back (did act ∷ events)
+quiet_next desk events n act same rest about next =
+    same
+    ∙ (λ i. record (look_back events) { change = λ c. (kept_by (eqb c n) (change_back events c) ∙ by_number events c n act (option_map (λ change. change)) (about c) (ap (λ (s : Look). s.settings) rest) (next c) (eqb c n) refl) i })
+    ∙ sym rest where
+      kept_by : (b : Bool) (change : Option Change) → change ≡ cond b (option_map (λ c. c) change) change
+      kept_by true None = refl
+      kept_by true (Some change) = refl
+      kept_by false change = refl
 
 -- ANY ACT
 act_next : (desk : DeskView) (events : List Event) (act : Act) → look desk ≡ look_back events → ((c : ℕ) → Unseen events c) → broken (look_back events) act ≡ None
     → look (effect desk act) ≡ look_back (did act ∷ events)
 act_next desk events (Spoken n p (Known Approve)) same unseen holds =
-    altered_next desk events n (approved_by (p ∷ []) repeat.Approve) (Spoken n p (Known Approve)) same refl (λ c. approve_next events n p c (fits events p n Approve holds c))
+    altered_next desk events n (approved_by (p ∷ []) repeat.Approve) (Spoken n p (Known Approve)) same refl (λ c. refl) (λ c is. approve_next events c n p (fits events p n Approve holds c is))
 act_next desk events (Spoken n p (Known (ApproveFor names))) same unseen holds =
-    altered_next desk events n (approved_by names (repeat.ApproveFor names)) (Spoken n p (Known (ApproveFor names))) same refl (λ c. approve_for_next events n p c names (fits events p n (ApproveFor names) holds c))
-act_next desk events (Spoken n p (Known Withdraw)) same unseen holds = altered_next desk events n without_approval (Spoken n p (Known Withdraw)) same refl (withdraw_next events n p)
-act_next desk events (Spoken n p (Known (Priority priority))) same unseen holds =
-    altered_next desk events n (with_priority priority) (Spoken n p (Known (Priority priority))) same refl (λ c. priority_next events n p c priority)
-act_next desk events (Spoken n p (Known DelegateAuthor)) same unseen holds = altered_next desk events n with_author_as_delegate (Spoken n p (Known DelegateAuthor)) same refl (author_next events n p)
-act_next desk events (Spoken n p (Known (DelegateTo names))) same unseen holds = altered_next desk events n (with_delegates names) (Spoken n p (Known (DelegateTo names))) same refl (λ c. names_next events n p c names)
-act_next desk events (Spoken n p (Known DelegateNone)) same unseen holds = altered_next desk events n without_delegates (Spoken n p (Known DelegateNone)) same refl (none_next events n p)
-act_next desk events (Spoken n p (Known Ping)) same unseen holds =
-    quiet_next desk events (Spoken n p (Known Ping)) same refl (λ c. same_change (did (Spoken n p (Known Ping))) events c refl refl refl (λ author. refl) refl)
-act_next desk events (Spoken n p (Known Try)) same unseen holds =
-    quiet_next desk events (Spoken n p (Known Try)) same refl (λ c. same_change (did (Spoken n p (Known Try))) events c refl refl refl (λ author. refl) refl)
-act_next desk events (Spoken n p (Known TryCancel)) same unseen holds =
-    quiet_next desk events (Spoken n p (Known TryCancel)) same refl (λ c. same_change (did (Spoken n p (Known TryCancel))) events c refl refl refl (λ author. refl) refl)
-act_next desk events (Spoken n p (Known Retry)) same unseen holds =
-    quiet_next desk events (Spoken n p (Known Retry)) same refl (λ c. same_change (did (Spoken n p (Known Retry))) events c refl refl refl (λ author. refl) refl)
-act_next desk events (Spoken n p Unknown) same unseen holds =
-    quiet_next desk events (Spoken n p Unknown) same refl (λ c. same_change (did (Spoken n p Unknown)) events c refl refl refl (λ author. refl) refl)
+    altered_next desk events n (approved_by names (repeat.ApproveFor names)) (Spoken n p (Known (ApproveFor names))) same refl (λ c. refl) (λ c is. approve_for_next events c n p names (fits events p n (ApproveFor names) holds c is))
+act_next desk events (Spoken n p (Known Withdraw)) same unseen holds = altered_next desk events n without_approval (Spoken n p (Known Withdraw)) same refl (λ c. refl) (λ c is. withdraw_next events c n p)
+act_next desk events (Spoken n p (Known (Priority priority))) same unseen holds = altered_next desk events n (with_priority priority) (Spoken n p (Known (Priority priority))) same refl (λ c. refl) (λ c is. priority_next events c n p priority)
+act_next desk events (Spoken n p (Known DelegateAuthor)) same unseen holds = altered_next desk events n with_author_as_delegate (Spoken n p (Known DelegateAuthor)) same refl (λ c. refl) (λ c is. author_next events c n p)
+act_next desk events (Spoken n p (Known (DelegateTo names))) same unseen holds = altered_next desk events n (with_delegates names) (Spoken n p (Known (DelegateTo names))) same refl (λ c. refl) (λ c is. names_next events c n p names)
+act_next desk events (Spoken n p (Known DelegateNone)) same unseen holds = altered_next desk events n without_delegates (Spoken n p (Known DelegateNone)) same refl (λ c. refl) (λ c is. none_next events c n p)
+act_next desk events (Spoken n p (Known Ping)) same unseen holds = quiet_next desk events n (Spoken n p (Known Ping)) same refl (λ c. refl) (λ c is. quiet_line events c (Spoken n p (Known Ping)) refl (λ author. refl) (stays events c (Spoken n p (Known Ping)) refl refl (λ fit. fit)))
+act_next desk events (Spoken n p (Known Try)) same unseen holds = quiet_next desk events n (Spoken n p (Known Try)) same refl (λ c. refl) (λ c is. quiet_line events c (Spoken n p (Known Try)) refl (λ author. refl) (stays events c (Spoken n p (Known Try)) refl refl (λ fit. fit)))
+act_next desk events (Spoken n p (Known TryCancel)) same unseen holds = quiet_next desk events n (Spoken n p (Known TryCancel)) same refl (λ c. refl) (λ c is. quiet_line events c (Spoken n p (Known TryCancel)) refl (λ author. refl) (stays events c (Spoken n p (Known TryCancel)) refl refl (λ fit. fit)))
+act_next desk events (Spoken n p (Known Retry)) same unseen holds = quiet_next desk events n (Spoken n p (Known Retry)) same refl (λ c. refl) (λ c is. quiet_line events c (Spoken n p (Known Retry)) refl (λ author. refl) (stays events c (Spoken n p (Known Retry)) refl refl (λ fit. fit)))
+act_next desk events (Spoken n p Unknown) same unseen holds = quiet_next desk events n (Spoken n p Unknown) same refl (λ c. refl) (λ c is. quiet_line events c (Spoken n p Unknown) refl (λ author. refl) (stays events c (Spoken n p Unknown) refl refl (λ fit. fit)))
 act_next desk events (Role person role) same unseen holds = role_next desk events person role same
 act_next desk events (Settings text) same unseen holds = settings_next desk events text (settings_of text) refl (one_rule _ holds) same
 act_next desk events (Base commit) same unseen holds = base_next desk events commit same
 act_next desk events (Opened n author head) same unseen holds =
-    opening_next desk events n author head same (λ c. opened_next events n c author head (unseen c) (shut events n holds c))
-act_next desk events (Pushed n head) same unseen holds = altered_next desk events n (pushed head) (Pushed n head) same refl (λ c. pushed_next events n c head)
-act_next desk events (Closed n) same unseen holds = altered_next desk events n closed (Closed n) same refl (closed_next events n)
+    opening_next desk events n author head same (λ c is. opened_next events c n author head (unseen c) (shut events n unseen holds c is))
+act_next desk events (Pushed n head) same unseen holds = altered_next desk events n (pushed head) (Pushed n head) same refl (λ c. refl) (λ c is. pushed_next events c n head)
+act_next desk events (Closed n) same unseen holds = altered_next desk events n closed (Closed n) same refl (λ c. refl) (λ c is. closed_next events c n)
 act_next desk events (Labeled n label) same unseen holds =
     ap (λ (s : Look). look (altered desk n (labeled s.settings label))) same
-    ∙ altered_next desk events n (labeled (settings_back events) label) (Labeled n label) same refl (λ c. labeled_next events n c label)
-act_next desk events (Unlabeled n label) same unseen holds = altered_next desk events n (without_label label) (Unlabeled n label) same refl (λ c. unlabeled_next events n c label)
+    ∙ altered_next desk events n (labeled (settings_back events) label) (Labeled n label) same refl (λ c. refl) (λ c is. labeled_next events c n label)
+act_next desk events (Unlabeled n label) same unseen holds = altered_next desk events n (without_label label) (Unlabeled n label) same refl (λ c. refl) (λ c is. unlabeled_next events c n label)
 act_next desk events (Review n person head approves) same unseen holds =
     ap (λ (s : Look). look (altered desk n (reviewed s.settings person approves))) same
-    ∙ altered_next desk events n (reviewed (settings_back events) person approves) (Review n person head approves) same refl (λ c. reviewed_next events n c person head approves)
+    ∙ altered_next desk events n (reviewed (settings_back events) person approves) (Review n person head approves) same refl (λ c. refl) (λ c is. reviewed_next events c n person head approves)
 
 -- ORDERS
 look_given : (events : List Event) (orders : List Order) → look_back (given events orders) ≡ look_back events
 look_given events [] = refl
-look_given events (order ∷ orders) = look_given (gave order ∷ events) orders ∙ (λ i. record (look_back events) { change = λ c. same_given events order c i })
+look_given events (order ∷ orders) = look_given (gave order ∷ events) orders ∙ (λ i. record (look_back events) { change = λ c. elsewhere events c (gave order) refl refl i })
 
 unseen_given : (events : List Event) (orders : List Order) (c : ℕ) → Unseen events c → Unseen (given events orders) c
 unseen_given events [] c unseen = unseen
-unseen_given events (order ∷ orders) c unseen = unseen_given (gave order ∷ events) orders c unseen
+unseen_given events (order ∷ orders) c unseen = unseen_given (gave order ∷ events) orders c (order_unseen events order c unseen)
 
 -- ENTRIES
 empty_look : look empty_desk ≡ look_back []
@@ -209,7 +217,7 @@ kept_next events old act kept =
     }
 
 keeps : (history : List Entry) (s : State) → Legal history s → Kept (events_of history) s
-keeps [] s legal = record { same = ap (λ (t : State). look t.desk) legal ∙ empty_look; unseen = nothing_unseen }
+keeps [] s legal = record { same = ap look legal ∙ empty_look; unseen = nothing_unseen }
 keeps (entry ∷ history) s legal =
     let next = kept_next (events_of history) legal.0 entry.act (keeps history legal.0 legal.1) in
     subst (λ (reply : Reply). Kept (happened (events_of history) entry.act reply) s) (sym legal.2.0)
@@ -219,38 +227,38 @@ unchanged : (old done : State) (given_orders : List Order) (broke : Option Rule)
 unchanged old done given_orders None rule denied = cc denied
 unchanged old done given_orders (Some broke) rule denied = refl
 
-denial_answered : (rule : Option Rule) (given_orders : List Order) → denial (answered rule given_orders) ≡ rule
-denial_answered None given_orders = refl
-denial_answered (Some rule) given_orders = refl
+rule_answered : (rule : Option Rule) (given_orders : List Order) → denied_by (answered rule given_orders) ≡ rule
+rule_answered None given_orders = refl
+rule_answered (Some rule) given_orders = refl
 
-never_standing : (events : List Event) (change : ℕ) → author_back events change ≡ None → (standing : Bool) → standing_back events change ≡ standing
-    → None ≡ cond standing (last_of (approval change) events) None
-never_standing events change none true standing =
-    cc (sym (ap (λ (a : Option (List ℕ)). option_map_or (is_fit (settings_back events)) (option_map (attributes_of events change) a) false) none) ∙ standing_fit events change standing)
-never_standing events change none false standing = refl
-
--- the approvers of a change that was opened; one that wasn't is standing never
-approved_at : (events : List Event) (change : ℕ) (author : Option (List ℕ)) → author_back events change ≡ author
+-- the approvers of a change that was opened; one that wasn't is never standing
+approved_at : (events : List Event) (change : ℕ) → Unseen events change → (author : Option (List ℕ)) → author_back events change ≡ author
     → option_and_then (λ (c : Change). c.approved) (option_map (change_of events change) author) ≡ approvers_back events change
-approved_at events change (Some author) is = refl
-approved_at events change None is = never_standing events change is (standing_back events change) refl
+approved_at events change unseen (Some author) is = refl
+approved_at events change unseen None is = never (standing_back events change) refl where
+  never : (standing : Bool) → standing_back events change ≡ standing → None ≡ cond standing (last_of (said_on change approval_in) events) None
+  never true standing =
+      let opened = opened_so (settings_back events) (phase_back events change) (labels_back events change) (reviews_back events change) (standing_fit events change standing) in
+      cc (sym (ap is_open_phase (unseen is).phase) ∙ opened)
+  never false standing = refl
 
-approved_there : (events : List Event) (change : ℕ) → option_and_then (λ (c : Change). c.approved) (change_back events change) ≡ approvers_back events change
-approved_there events change = approved_at events change (author_back events change) refl
+approved_there : (events : List Event) (change : ℕ) → Unseen events change → option_and_then (λ (c : Change). c.approved) (change_back events change) ≡ approvers_back events change
+approved_there events change unseen = approved_at events change unseen (author_back events change) refl
 
 -- one more entry, after every legal history
 pub tells : (history : List Entry) (old : State) (act : Act) → Legal history old → EntryTells history old (entry_of act (reply_to old act)) (after old act)
 tells history old act legal =
     let kept = keeps history old legal in
-    let next = (kept_next (events_of history) old act kept).same in
+    let after = kept_next (events_of history) old act kept in
+    let next = after.same in
     record {
       roles = λ person. ap (λ (s : Look). s.role person) next;
       settings = ap (λ (s : Look). s.settings) next;
       base = ap (λ (s : Look). s.base) next;
       clock = ap (λ (s : Look). s.clock) next;
       changes = λ change. ap (λ (s : Look). s.change change) next;
-      approvers = λ change. ap (λ (s : Look). option_and_then (λ (c : Change). c.approved) (s.change change)) next ∙ approved_there (events_of (entry_of act (reply_to old act) ∷ history)) change;
-      by_rule = denial_answered (broken (look old.desk) act) (orders old.desk act) ∙ ap (λ (s : Look). broken s act) kept.same;
+      approvers = λ change. ap (λ (s : Look). option_and_then (λ (c : Change). c.approved) (s.change change)) next ∙ approved_there (events_of (entry_of act (reply_to old act) ∷ history)) change (after.unseen change);
+      by_rule = rule_answered (broken (look old.desk) act) (orders old.desk act) ∙ ap (λ (s : Look). broken s act) kept.same;
       denied = λ rule denied. unchanged old _ (orders old.desk act) (broken (look old.desk) act) rule denied;
       legal = (old, legal, (refl, refl));
     }

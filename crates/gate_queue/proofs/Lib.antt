@@ -1,11 +1,15 @@
-pub mod Approvals
+pub mod After
 pub mod Changes
+pub mod Counts
 pub mod Facts
 pub mod Fitness
 pub mod Lanes
 pub mod Law
+pub mod Limits
 pub mod Next
 pub mod Premises
+pub mod Service
 pub mod Sets
 pub mod Unseen
 pub mod Wording
+pub mod Worked

@@ -1,76 +1,112 @@
 -- A change that was never opened has nothing: no act on it is done but the one that opens it.
-use Rattle.std.proofs.Common.{◌≡◌, ℕ, Bool, true, false, List, [], ◌∷◌, Option, Some, None, is_some, eqb, refl, sym, ◌∙◌, ap}
-use Rattle.std.specs.Option.{option_map}
+use Rattle.std.proofs.Common.{◌≡◌, ◌⊎◌, ℕ, pos, Bool, true, false, cond, List, [], ◌∷◌, Option, Some, None, is_some, eqb, refl, sym, ◌∙◌, ap, inl, inr}
+use Rattle.std.specs.FinSet as set
+use Rattle.std.specs.Option.{option_map, option_map_or, option_and_then, option_or}
+use Rattle.gate_text.specs.declared.command.Command.{Command}
 use Rattle.gate_text.specs.declared.command.Command.TheVariants.{Ping, Approve, ApproveFor, Withdraw, Priority, Try, TryCancel, DelegateAuthor, DelegateTo, DelegateNone, Retry}
 use Rattle.gate_text.specs.declared.command.Spoken.TheVariants.{Known, Unknown}
-use Rattle.gate_rules.specs.Rules.{first_failing, unless, is_known}
+use Rattle.gate_rules.specs.Rules.{Look, is_known}
 use Rattle.gate_rules.specs.declared.change.Change.{Change}
-use Rattle.gate_rules.specs.declared.rule.Rule.{Rule}
+use Rattle.gate_rules.specs.declared.change.Phase.TheVariants as phase
 use Rattle.gate_rules.specs.declared.rule.Rule.TheVariants.{UnknownChange}
-use Rattle.gate_queue.specs.History.{Event, did, author_back, attributes_of, change_of, change_back, look_back}
-use Rattle.gate_queue.specs.Machine.{broken, row, just_opened}
+use Rattle.gate_queue.specs.Acts.{subject, on}
+use Rattle.gate_queue.specs.History.{Event, did, gave, done_to, author_in, author_back, phase_back, priority_back, labels_back, delegates_back, repeat_back, change_of, settings_back, look_back}
+use Rattle.gate_queue.specs.Machine.{broken}
 use Rattle.gate_queue.specs.declared.act.Act.{Act}
 use Rattle.gate_queue.specs.declared.act.Act.TheVariants.{Spoken, Role, Settings, Base, Opened, Pushed, Closed, Labeled, Unlabeled, Review}
+use Rattle.gate_queue.specs.declared.reply.Order.{Order}
+use Rattle.gate_queue.proofs.After.{author_after, phase_after, priority_after, labels_after, delegates_after, repeat_after}
 use Rattle.gate_queue.proofs.Changes.{same_number}
 use Rattle.gate_queue.proofs.Fitness.{passed}
 
+pub record Blank (events : List Event) (c : ℕ) : Type 0 where
+  pub phase : phase_back events c ≡ phase.Closed
+  pub priority : priority_back events c ≡ pos 0
+  pub labels : labels_back events c ≡ set.empty
+  pub delegates : delegates_back events c ≡ set.empty
+  pub last : repeat_back events c ≡ None
+
 abbrev pub Unseen : List Event → ℕ → Type 0
-Unseen events c = author_back events c ≡ None → attributes_of events c [] ≡ just_opened [] []
+Unseen events c = author_back events c ≡ None → Blank events c
 
 pub nothing_unseen : (c : ℕ) → Unseen [] c
-nothing_unseen c none = refl
+nothing_unseen c none = record { phase = refl; priority = refl; labels = refl; delegates = refl; last = refl }
+
+-- THE FIRST RULE of an act on a change: that the change is known, but for the act that opens it
+abbrev KnownOrOpened : Look → ℕ → Act → Type 0
+KnownOrOpened s n act = (is_known s n ≡ true) ⊎ ((author : List ℕ) × (author_in act ≡ Some author))
+
+known_by : (s : Look) (n : ℕ) (command : Command) (person : List ℕ) → broken s (Spoken n person (Known command)) ≡ None → is_known s n ≡ true
+known_by s n Ping person holds = (passed (is_known s n) UnknownChange _ holds).0
+known_by s n Approve person holds = (passed (is_known s n) UnknownChange _ holds).0
+known_by s n (ApproveFor names) person holds = (passed (is_known s n) UnknownChange _ holds).0
+known_by s n Withdraw person holds = (passed (is_known s n) UnknownChange _ holds).0
+known_by s n (Priority priority) person holds = (passed (is_known s n) UnknownChange _ holds).0
+known_by s n Try person holds = (passed (is_known s n) UnknownChange _ holds).0
+known_by s n TryCancel person holds = (passed (is_known s n) UnknownChange _ holds).0
+known_by s n DelegateAuthor person holds = (passed (is_known s n) UnknownChange _ holds).0
+known_by s n (DelegateTo names) person holds = (passed (is_known s n) UnknownChange _ holds).0
+known_by s n DelegateNone person holds = (passed (is_known s n) UnknownChange _ holds).0
+known_by s n Retry person holds = (passed (is_known s n) UnknownChange _ holds).0
+
+known_first : (s : Look) (act : Act) → broken s act ≡ None → (n : ℕ) → subject act ≡ Some n → KnownOrOpened s n act
+known_first s act holds n is = first act holds is where
+  known : (m : ℕ) → is_known s m ≡ true → Some m ≡ Some n → is_known s n ≡ true
+  known m here same = sym (ap (λ (o : Option ℕ). option_map_or (is_known s) o true) same) ∙ here
+
+  first : (a : Act) → broken s a ≡ None → subject a ≡ Some n → KnownOrOpened s n a
+  first (Spoken m person (Known command)) so at = inl (known m (known_by s m command person so) at)
+  first (Spoken m person Unknown) so at = inl (known m (passed (is_known s m) UnknownChange _ so).0 at)
+  first (Role person role) so at = cc at
+  first (Settings text) so at = cc at
+  first (Base commit) so at = cc at
+  first (Opened m author head) so at = inr (author, refl)
+  first (Pushed m head) so at = inl (known m (passed (is_known s m) UnknownChange _ so).0 at)
+  first (Closed m) so at = inl (known m (passed (is_known s m) UnknownChange _ so).0 at)
+  first (Labeled m label) so at = inl (known m (passed (is_known s m) UnknownChange _ so).0 at)
+  first (Unlabeled m label) so at = inl (known m (passed (is_known s m) UnknownChange _ so).0 at)
+  first (Review m person head approves) so at = inl (known m (passed (is_known s m) UnknownChange _ so).0 at)
+
+-- an act is on a change if that is its subject
+about : (c : ℕ) (act : Act) (at : Option ℕ)
+    → (cond (option_map_or (λ other. eqb c other) at false) (Some act) None ≡ None) ⊎ ((at ≡ Some c) × (cond (option_map_or (λ other. eqb c other) at false) (Some act) None ≡ Some act))
+about c act None = inl refl
+about c act (Some n) = by (eqb c n) refl where
+  by : (b : Bool) → eqb c n ≡ b → (cond b (Some act) None ≡ None) ⊎ ((Some n ≡ Some c) × (cond b (Some act) None ≡ Some act))
+  by true is = inr (ap Some (sym (same_number c n is)), refl)
+  by false is = inl refl
+
+none_both : {X : Type 0} (this rest : Option X) → option_or this rest ≡ None → (this ≡ None) × (rest ≡ None)
+none_both (Some x) rest is = cc is
+none_both None rest is = (refl, is)
 
 known_so : (author : Option (List ℕ)) (was : List ℕ → Change) → is_some (option_map was author) ≡ true → author ≡ None → ⊥
 known_so None was known none = cc known
 known_so (Some author) was known none = cc none
 
--- an act whose first rule is that its change is known
-of_known : (events : List Event) (number c : ℕ) (act : Act) (others : List (Option Rule))
-    → row (look_back events) act ≡ unless (is_known (look_back events) number) UnknownChange ∷ others
-    → broken (look_back events) act ≡ None
-    → author_back (did act ∷ events) c ≡ author_back events c
-    → (eqb c number ≡ false → attributes_of (did act ∷ events) c [] ≡ attributes_of events c [])
-    → Unseen events c → (b : Bool) → eqb c number ≡ b → Unseen (did act ∷ events) c
-of_known events number c act others is holds author elsewhere unseen false other none = elsewhere other ∙ unseen (sym author ∙ none)
-of_known events number c act others is holds author elsewhere unseen true same none =
-    let known = passed (is_known (look_back events) number) UnknownChange others (ap first_failing (sym is) ∙ holds) in
-    let here : is_some (change_back events c) ≡ true = ap (λ m. is_some (change_back events m)) (same_number c number same) ∙ known.0 in
-    absurd (known_so (author_back events c) (change_of events c) here (sym author ∙ none))
+-- what an event leaves that did nothing to the change
+left_unseen : (events : List Event) (event : Event) (c : ℕ) → done_to c event ≡ None → Unseen events c → Unseen (event ∷ events) c
+left_unseen events event c other unseen none =
+    let s = settings_back events in
+    let blank = unseen (sym (λ i. author_after events c s (other i)) ∙ none) in
+    record {
+      phase = (λ i. phase_after events c s (other i)) ∙ blank.phase;
+      priority = (λ i. priority_after events c s (other i)) ∙ blank.priority;
+      labels = (λ i. labels_after events c s (other i)) ∙ blank.labels;
+      delegates = (λ i. delegates_after events c s (other i)) ∙ blank.delegates;
+      last = (λ i. repeat_after events c s (other i)) ∙ blank.last;
+    }
 
-opened_unseen : (events : List Event) (number c : ℕ) (author head : List ℕ) → Unseen events c → (b : Bool) → eqb c number ≡ b → Unseen (did (Opened number author head) ∷ events) c
-opened_unseen events number c author head unseen false other none =
-    let elsewhere : author_back (did (Opened number author head) ∷ events) c ≡ author_back events c = rw other refl in
-    let attributes : attributes_of (did (Opened number author head) ∷ events) c [] ≡ attributes_of events c [] = rw other refl in
-    attributes ∙ unseen (sym elsewhere ∙ none)
-opened_unseen events number c author head unseen true same none =
-    let by : author_back (did (Opened number author head) ∷ events) c ≡ Some author = rw same refl in
-    cc (sym by ∙ none)
+pub order_unseen : (events : List Event) (order : Order) (c : ℕ) → Unseen events c → Unseen (gave order ∷ events) c
+order_unseen events order c unseen = left_unseen events (gave order) c refl unseen
 
 pub still_unseen : (events : List Event) (act : Act) → broken (look_back events) act ≡ None → (c : ℕ) → Unseen events c → Unseen (did act ∷ events) c
-still_unseen events (Spoken n p Unknown) holds c unseen = unseen
-still_unseen events (Spoken n p (Known Ping)) holds c unseen = unseen
-still_unseen events (Spoken n p (Known Approve)) holds c unseen = of_known events n c (Spoken n p (Known Approve)) _ refl holds refl (λ other. rw other refl) unseen (eqb c n) refl
-still_unseen events (Spoken n p (Known (ApproveFor names))) holds c unseen =
-    of_known events n c (Spoken n p (Known (ApproveFor names))) _ refl holds refl (λ other. rw other refl) unseen (eqb c n) refl
-still_unseen events (Spoken n p (Known Withdraw)) holds c unseen = unseen
-still_unseen events (Spoken n p (Known (Priority priority))) holds c unseen =
-    of_known events n c (Spoken n p (Known (Priority priority))) _ refl holds refl (λ other. rw other refl) unseen (eqb c n) refl
-still_unseen events (Spoken n p (Known Try)) holds c unseen = unseen
-still_unseen events (Spoken n p (Known TryCancel)) holds c unseen = unseen
-still_unseen events (Spoken n p (Known DelegateAuthor)) holds c unseen =
-    of_known events n c (Spoken n p (Known DelegateAuthor)) _ refl holds refl (λ other. rw other refl) unseen (eqb c n) refl
-still_unseen events (Spoken n p (Known (DelegateTo names))) holds c unseen =
-    of_known events n c (Spoken n p (Known (DelegateTo names))) _ refl holds refl (λ other. rw other refl) unseen (eqb c n) refl
-still_unseen events (Spoken n p (Known DelegateNone)) holds c unseen =
-    of_known events n c (Spoken n p (Known DelegateNone)) _ refl holds refl (λ other. rw other refl) unseen (eqb c n) refl
-still_unseen events (Spoken n p (Known Retry)) holds c unseen = unseen
-still_unseen events (Role person role) holds c unseen = unseen
-still_unseen events (Settings text) holds c unseen = unseen
-still_unseen events (Base commit) holds c unseen = unseen
-still_unseen events (Opened n author head) holds c unseen = opened_unseen events n c author head unseen (eqb c n) refl
-still_unseen events (Pushed n head) holds c unseen = of_known events n c (Pushed n head) _ refl holds refl (λ other. rw other refl) unseen (eqb c n) refl
-still_unseen events (Closed n) holds c unseen = of_known events n c (Closed n) _ refl holds refl (λ other. rw other refl) unseen (eqb c n) refl
-still_unseen events (Labeled n label) holds c unseen = of_known events n c (Labeled n label) _ refl holds refl (λ other. rw other refl) unseen (eqb c n) refl
-still_unseen events (Unlabeled n label) holds c unseen = of_known events n c (Unlabeled n label) _ refl holds refl (λ other. rw other refl) unseen (eqb c n) refl
-still_unseen events (Review n person head approves) holds c unseen =
-    of_known events n c (Review n person head approves) _ refl holds refl (λ other. rw other refl) unseen (eqb c n) refl
+still_unseen events act holds c unseen = elim (about c act (subject act)) [
+  | inl other ↦ left_unseen events (did act) c other unseen
+  | inr (subject, here) ↦ λ none.
+      let both = none_both (option_and_then author_in (on c act)) (author_back events c) none in
+      elim (known_first (look_back events) act holds c subject) [
+        | inl known ↦ absurd (known_so (author_back events c) (change_of events c) known both.1)
+        | inr (author, opens) ↦ cc (sym (ap (option_and_then author_in) here ∙ opens) ∙ both.0)
+      ]
+]

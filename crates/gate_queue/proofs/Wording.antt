@@ -1,10 +1,10 @@
 -- The look-backs come to what the words over the whole list say.
 use Rattle.std.proofs.Common.{◌≡◌, ◌⊎◌, Bool, true, false, ◌&&◌, ◌||◌, List, [], ◌∷◌, ◌++◌, Option, Some, None, refl, sym, ◌∙◌, ap, inl, inr}
+use Rattle.std.proofs.lemmas.List.{append-nil}
 use Rattle.std.specs.Cmp.{first_so, second_so}
 use Rattle.std.specs.Option.{option_or}
-use Rattle.gate_queue.specs.History.{Event, said_by, last_of, since}
+use Rattle.gate_queue.specs.History.{Event, last_of, since}
 use Rattle.gate_queue.specs.Words.{AllKept, StartedAndKept, AllSilent, SaidLast}
-use Rattle.gate_queue.specs.declared.act.Act.{Act}
 
 either : (b c : Bool) → b || c ≡ true → (b ≡ true) ⊎ (c ≡ true)
 either true c is = inl refl
@@ -40,21 +40,21 @@ module _ (start keep : Event → List Event → Bool) where
   since_holds events (later, before, event, is, started, kept) = ap (since start keep) is ∙ since_kept later before event started kept
 
 -- THE LAST
-module _ {X : Type 0} (said : Act → Option X) where
+module _ {X : Type 0} (said : Event → List Event → Option X) where
   last_first : (this rest : Option X) (x : X) → option_or this rest ≡ Some x → (this ≡ Some x) ⊎ ((this ≡ None) × (rest ≡ Some x))
   last_first (Some y) rest x is = inl is
   last_first None rest x is = inr (refl, is)
 
   pub last_found : (events : List Event) (x : X) → last_of said events ≡ Some x → SaidLast said events x
   last_found [] x is = cc is
-  last_found (event ∷ events) x is = elim (last_first (said_by said event) (last_of said events) x is) [
+  last_found (event ∷ events) x is = elim (last_first (said event events) (last_of said events) x is) [
     | inl here ↦ ([], events, event, refl, here, tt)
     | inr (silent, rest) ↦
         let (later, before, first, at, says, others) = last_found events x rest in
-        (event ∷ later, before, first, ap (λ (tail : List Event). event ∷ tail) at, says, (silent, others))
+        (event ∷ later, before, first, ap (λ (tail : List Event). event ∷ tail) at, says, (ap (said event) (sym at) ∙ silent, others))
   ]
 
-  last_said : (later before : List Event) (event : Event) (x : X) → said_by said event ≡ Some x → AllSilent said later → last_of said (later ++ event ∷ before) ≡ Some x
+  last_said : (later before : List Event) (event : Event) (x : X) → said event before ≡ Some x → AllSilent said later (event ∷ before) → last_of said (later ++ event ∷ before) ≡ Some x
   last_said [] before event x says silent = rw says refl
   last_said (next ∷ later) before event x says silent = rw silent.0 (last_said later before event x says silent.1)
 
@@ -65,10 +65,18 @@ module _ {X : Type 0} (said : Act → Option X) where
   none_both (Some y) rest is = cc is
   none_both None rest is = (refl, is)
 
-  pub none_found : (events : List Event) → last_of said events ≡ None → AllSilent said events
-  none_found [] is = tt
-  none_found (event ∷ events) is = let both = none_both (said_by said event) (last_of said events) is in (both.0, none_found events both.1)
+  silent_before : (later before : List Event) → last_of said (later ++ before) ≡ None → AllSilent said later before
+  silent_before [] before is = tt
+  silent_before (event ∷ later) before is =
+      let both = none_both (said event (later ++ before)) (last_of said (later ++ before)) is in
+      (both.0, silent_before later before both.1)
 
-  pub none_is : (events : List Event) → AllSilent said events → last_of said events ≡ None
-  none_is [] silent = refl
-  none_is (event ∷ events) silent = rw silent.0 (none_is events silent.1)
+  pub none_found : (events : List Event) → last_of said events ≡ None → AllSilent said events []
+  none_found events is = silent_before events [] (ap (last_of said) (append-nil events) ∙ is)
+
+  none_before : (later before : List Event) → AllSilent said later before → last_of said before ≡ None → last_of said (later ++ before) ≡ None
+  none_before [] before silent none = none
+  none_before (event ∷ later) before silent none = rw silent.0 (none_before later before silent.1 none)
+
+  pub none_is : (events : List Event) → AllSilent said events [] → last_of said events ≡ None
+  none_is events silent = ap (last_of said) (sym (append-nil events)) ∙ none_before events [] silent refl

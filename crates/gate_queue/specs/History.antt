@@ -1,33 +1,16 @@
 -- THE HISTORY: all acts so far with their replies, and what it says of people and changes.
-use Rattle.std.specs.Prelude.{◌≡◌, ℕ, ◌==◌, ℤ, pos, Bool, false, not, ◌&&◌, ◌||◌, List, [], ◌∷◌, Option, Some, None, is_some, if◌then◌else◌}
-use Rattle.std.specs.Cmp.Lexicographic.{slice_cmp}
+use Rattle.std.specs.Prelude.{◌≡◌, ℕ, ℤ, pos, Bool, true, false, not, ◌&&◌, ◌||◌, List, [], ◌∷◌, Option, Some, None, is_some, if◌then◌else◌}
 use Rattle.std.specs.FinMap as finite
 use Rattle.std.specs.FinSet as set
-use Rattle.std.specs.FinSet.{FinSet}
 use Rattle.std.specs.List.{fold}
 use Rattle.std.specs.Option.{unwrap_or, option_or, option_map, option_map_or, option_and_then}
-use Rattle.std.specs.Ordering.{nat_cmp}
 use Rattle.std.specs.Result.{result_ok}
 use Rattle.std.specs.Str.{bytes_eq}
-use Rattle.gate_text.specs.Settings.{SettingsView, settings_of}
-use Rattle.gate_text.specs.declared.command.Command.TheVariants.{Approve, ApproveFor, Withdraw, Priority, DelegateAuthor, DelegateTo, DelegateNone}
-use Rattle.gate_text.specs.declared.command.Spoken.TheVariants.{Known}
-use Rattle.gate_rules.specs.Rules.{Look, is_fit}
-use Rattle.gate_rules.specs.View.{DeskView, role_on}
-use Rattle.gate_rules.specs.declared.change.Change.{Change}
-use Rattle.gate_rules.specs.declared.change.Phase.{Phase}
+use Rattle.gate_queue.specs.Vocabulary.{SettingsView, settings_of, Approve, ApproveFor, Withdraw, Priority, DelegateAuthor, DelegateTo, DelegateNone, Known, Look, Texts, is_fit, DeskView, role_on, Change, Phase, Repeat, Nobody, RoleOf, Rule, Act, Spoken, Role, Settings, Base, Opened, Pushed, Closed, Labeled, Unlabeled, Review, Order, Reply, Done, Denied}
 use Rattle.gate_rules.specs.declared.change.Phase.TheVariants as phase
-use Rattle.gate_rules.specs.declared.change.Repeat.{Repeat}
 use Rattle.gate_rules.specs.declared.change.Repeat.TheVariants as repeat
-use Rattle.gate_rules.specs.declared.role.Role.TheVariants.{Nobody}
-use Rattle.gate_rules.specs.declared.role.Role.{Role as RoleOf}
-use Rattle.gate_rules.specs.declared.rule.Rule.{Rule}
-use Rattle.gate_queue.specs.declared.act.Act.{Act}
-use Rattle.gate_queue.specs.declared.act.Act.TheVariants.{Spoken, Role, Settings, Base, Opened, Pushed, Closed, Labeled, Unlabeled, Review}
-use Rattle.gate_queue.specs.declared.reply.Order.{Order}
-use Rattle.gate_queue.specs.declared.reply.Reply.{Reply}
-use Rattle.gate_queue.specs.declared.reply.Reply.TheVariants.{Done, Denied}
-use Rattle.gate_queue.specs.Machine.{State, empty_state, broken, Step}
+use Rattle.gate_queue.specs.Acts.{on}
+use Rattle.gate_queue.specs.Machine.{State, IsEmpty, broken, Step}
 
 -- A history is a list of entries, the newest first.
 pub record Entry : Type 0 where
@@ -53,177 +36,207 @@ events_of [] = []
 events_of (entry ∷ history) = happened (events_of history) entry.act entry.reply
 
 -- LOOKING BACK, by two words; each test is given an event and what happened before it
--- what the last act says that says anything
-abbrev pub said_by : {X : Type 0} → (Act → Option X) → Event → Option X
-said_by said (did act) = said act
-said_by said (gave order) = None
-
-abbrev pub last_of : {X : Type 0} → (Act → Option X) → List Event → Option X
+-- what the last event says that says anything
+abbrev pub last_of : {X : Type 0} → (Event → List Event → Option X) → List Event → Option X
 last_of said [] = None
-last_of said (event ∷ events) = option_or (said_by said event) (last_of said events)
+last_of said (event ∷ events) = option_or (said event events) (last_of said events)
 
 -- whether some event started it and all events since have kept it
 abbrev pub since : (Event → List Event → Bool) → (Event → List Event → Bool) → List Event → Bool
 since start keep [] = false
 since start keep (event ∷ events) = start event events || (keep event events && since start keep events)
 
+-- what an act says, if the event is one
+abbrev pub said_by : {X : Type 0} → (Act → Option X) → Event → List Event → Option X
+said_by said (did act) before = said act
+said_by said (gave order) before = None
+
+-- the act that was done to a change, if the event is one
+abbrev pub done_to : ℕ → Event → Option Act
+done_to change (did act) = on change act
+done_to change (gave order) = None
+
+-- what that act says
+abbrev pub said_on : {X : Type 0} → ℕ → (Act → Option X) → Event → List Event → Option X
+said_on change said event before = option_and_then said (done_to change event)
+
 -- ROLES, SETTINGS, BASE, CLOCK
-abbrev pub role_set : List ℕ → Act → Option RoleOf
-role_set person (Role other role) = if bytes_eq person other then Some role else None
-role_set person _ = None
+abbrev pub role_in : List ℕ → Act → Option RoleOf
+role_in person (Role other role) = if bytes_eq person other then Some role else None
+role_in person _ = None
 
 abbrev pub role_back : List Event → List ℕ → RoleOf
-role_back events person = unwrap_or (last_of (role_set person) events) Nobody
+role_back events person = unwrap_or (last_of (said_by (role_in person)) events) Nobody
 
-abbrev pub settings_set : Act → Option SettingsView
-settings_set (Settings text) = result_ok (settings_of text)
-settings_set _ = None
+abbrev pub settings_in : Act → Option SettingsView
+settings_in (Settings text) = result_ok (settings_of text)
+settings_in _ = None
 
 abbrev pub settings_back : List Event → Option SettingsView
-settings_back events = last_of settings_set events
+settings_back events = last_of (said_by settings_in) events
 
-abbrev pub base_set : Act → Option (List ℕ)
-base_set (Base commit) = Some commit
-base_set _ = None
+abbrev pub base_in : Act → Option (List ℕ)
+base_in (Base commit) = Some commit
+base_in _ = None
 
 abbrev pub base_back : List Event → Option (List ℕ)
-base_back events = last_of base_set events
+base_back events = last_of (said_by base_in) events
 
 -- No act sets the clock yet.
 abbrev pub clock_back : List Event → ℕ
 clock_back events = 0
 
 -- CHANGES
-abbrev pub author_set : ℕ → Act → Option (List ℕ)
-author_set change (Opened other author head) = if change == other then Some author else None
-author_set change _ = None
+abbrev pub author_in : Act → Option (List ℕ)
+author_in (Opened change author head) = Some author
+author_in _ = None
 
+-- none if the change was never opened
 abbrev pub author_back : List Event → ℕ → Option (List ℕ)
-author_back events change = last_of (author_set change) events
+author_back events change = last_of (said_on change author_in) events
 
-abbrev pub head_set : ℕ → Act → Option (List ℕ)
-head_set change (Opened other author head) = if change == other then Some head else None
-head_set change (Pushed other head) = if change == other then Some head else None
-head_set change _ = None
+abbrev pub head_in : Act → Option (List ℕ)
+head_in (Opened change author head) = Some head
+head_in (Pushed change head) = Some head
+head_in _ = None
 
 -- empty if the change was never opened
 abbrev pub head_back : List Event → ℕ → List ℕ
-head_back events change = unwrap_or (last_of (head_set change) events) []
+head_back events change = unwrap_or (last_of (said_on change head_in) events) []
 
--- a head move: a change is opened, or another head than before is pushed
-abbrev pub has_head : List Event → ℕ → List ℕ → Bool
-has_head events change head = bytes_eq (head_back events change) head
+-- a head move: the change is opened, or another head than before is pushed
+abbrev pub moves_head : ℕ → List Event → Act → Bool
+moves_head change before (Opened other author head) = true
+moves_head change before (Pushed other head) = not (bytes_eq (head_back before change) head)
+moves_head change before _ = false
 
-abbrev pub moves : List Event → ℕ → Act → Bool
-moves events change (Opened other author head) = change == other
-moves events change (Pushed other head) = (change == other) && not (has_head events change head)
-moves events change _ = false
+abbrev pub moves : ℕ → Event → List Event → Bool
+moves change event before = option_map_or (moves_head change before) (done_to change event) false
 
-abbrev pub phase_set : ℕ → Act → Option Phase
-phase_set change (Opened other author head) = if change == other then Some phase.Opened else None
-phase_set change (Closed other) = if change == other then Some phase.Closed else None
-phase_set change _ = None
+abbrev pub phase_in : Act → Option Phase
+phase_in (Opened change author head) = Some phase.Opened
+phase_in (Closed change) = Some phase.Closed
+phase_in _ = None
 
-abbrev pub priority_set : ℕ → Act → Option ℤ
-priority_set change (Spoken other person (Known (Priority priority))) = if change == other then Some priority else None
-priority_set change _ = None
+-- A change that was never opened isn't open.
+abbrev pub phase_back : List Event → ℕ → Phase
+phase_back events change = unwrap_or (last_of (said_on change phase_in) events) phase.Closed
+
+abbrev pub priority_in : Act → Option ℤ
+priority_in (Spoken change person (Known (Priority priority))) = Some priority
+priority_in _ = None
+
+abbrev pub priority_back : List Event → ℕ → ℤ
+priority_back events change = unwrap_or (last_of (said_on change priority_in) events) (pos 0)
 
 -- the last `r+` or `r=`
-abbrev pub last_set : ℕ → Act → Option Repeat
-last_set change (Spoken other person (Known Approve)) = if change == other then Some repeat.Approve else None
-last_set change (Spoken other person (Known (ApproveFor names))) = if change == other then Some (repeat.ApproveFor names) else None
-last_set change _ = None
+abbrev pub repeat_in : Act → Option Repeat
+repeat_in (Spoken change person (Known Approve)) = Some repeat.Approve
+repeat_in (Spoken change person (Known (ApproveFor names))) = Some (repeat.ApproveFor names)
+repeat_in _ = None
 
--- Labels, reviews and delegates are sets. Each act on the change makes the next one of the one before.
-abbrev pub Texts : Type 0
-Texts = FinSet (slice_cmp nat_cmp)
+abbrev pub repeat_back : List Event → ℕ → Option Repeat
+repeat_back events change = last_of (said_on change repeat_in) events
 
-abbrev pub labels_after : ℕ → Act → Texts → Texts
-labels_after change (Labeled other label) labels = if change == other then set.insert labels label else labels
-labels_after change (Unlabeled other label) labels = if change == other then set.remove labels label else labels
-labels_after change _ labels = labels
+-- SETS of a change: each act on it may put a text in or take one out.
+pub data Mark : Type 0 where
+  put : List ℕ → Mark
+  taken : List ℕ → Mark
+
+abbrev pub marked : Option Mark → Texts → Texts
+marked None texts = texts
+marked (Some (put text)) texts = set.insert texts text
+marked (Some (taken text)) texts = set.remove texts text
+
+abbrev pub label_in : Act → Option Mark
+label_in (Labeled change label) = Some (put label)
+label_in (Unlabeled change label) = Some (taken label)
+label_in _ = None
 
 abbrev pub labels_back : List Event → ℕ → Texts
 labels_back [] change = set.empty
-labels_back (did act ∷ events) change = labels_after change act (labels_back events change)
-labels_back (gave order ∷ events) change = labels_back events change
+labels_back (event ∷ events) change = marked (said_on change label_in event events) (labels_back events change)
+
+abbrev pub review_in : Act → Option Mark
+review_in (Review change person head approves) = Some (if approves then put person else taken person)
+review_in _ = None
 
 -- A head move ends all reviews.
-abbrev pub reviews_after : ℕ → Act → Texts → Texts
-reviews_after change (Review other person head approves) reviews =
-    if change == other then (if approves then set.insert reviews person else set.remove reviews person) else reviews
-reviews_after change _ reviews = reviews
-
 abbrev pub reviews_back : List Event → ℕ → Texts
 reviews_back [] change = set.empty
-reviews_back (did act ∷ events) change = if moves events change act then set.empty else reviews_after change act (reviews_back events change)
-reviews_back (gave order ∷ events) change = reviews_back events change
+reviews_back (event ∷ events) change = if moves change event events then set.empty else marked (said_on change review_in event events) (reviews_back events change)
 
--- `delegate+` is for who is the author at that moment.
+-- who becomes a delegate: the author at that moment, the people of a list, or nobody any longer
+pub data Delegation : Type 0 where
+  to_author : Delegation
+  to_people : List (List ℕ) → Delegation
+  to_nobody : Delegation
+
+abbrev pub delegation_in : Act → Option Delegation
+delegation_in (Spoken change person (Known DelegateAuthor)) = Some to_author
+delegation_in (Spoken change person (Known (DelegateTo names))) = Some (to_people names)
+delegation_in (Spoken change person (Known DelegateNone)) = Some to_nobody
+delegation_in _ = None
+
 abbrev pub with_author : Option (List ℕ) → Texts → Texts
 with_author None delegates = delegates
 with_author (Some author) delegates = set.insert delegates author
 
-abbrev pub delegates_after : List Event → ℕ → Act → Texts → Texts
-delegates_after events change (Spoken other person (Known DelegateAuthor)) delegates = if change == other then with_author (author_back events change) delegates else delegates
-delegates_after events change (Spoken other person (Known (DelegateTo names))) delegates = if change == other then fold set.insert delegates names else delegates
-delegates_after events change (Spoken other person (Known DelegateNone)) delegates = if change == other then set.empty else delegates
-delegates_after events change _ delegates = delegates
+abbrev pub delegated : Option (List ℕ) → Option Delegation → Texts → Texts
+delegated author None delegates = delegates
+delegated author (Some to_author) delegates = with_author author delegates
+delegated author (Some (to_people names)) delegates = fold set.insert delegates names
+delegated author (Some to_nobody) delegates = set.empty
 
 abbrev pub delegates_back : List Event → ℕ → Texts
 delegates_back [] change = set.empty
-delegates_back (did act ∷ events) change = delegates_after events change act (delegates_back events change)
-delegates_back (gave order ∷ events) change = delegates_back events change
-
--- A change that was opened, as the look-backs have it, its approval apart.
-abbrev pub attributes_of : List Event → ℕ → List ℕ → Change
-attributes_of events change author = record {
-  author = author;
-  head = head_back events change;
-  phase = unwrap_or (last_of (phase_set change) events) phase.Opened;
-  priority = unwrap_or (last_of (priority_set change) events) (pos 0);
-  labels = labels_back events change;
-  reviews = reviews_back events change;
-  delegates = delegates_back events change;
-  approved = None;
-  last = last_of (last_set change) events;
-}
-
-abbrev pub attributes_back : List Event → ℕ → Option Change
-attributes_back events change = option_map (attributes_of events change) (author_back events change)
+delegates_back (event ∷ events) change = delegated (author_back events change) (said_on change delegation_in event events) (delegates_back events change)
 
 -- APPROVALS
 -- fit: the change is open, settings exist, no label of it is blocking, and it has reviews enough
 abbrev pub fit_back : List Event → ℕ → Bool
-fit_back events change = option_map_or (is_fit (settings_back events)) (attributes_back events change) false
+fit_back events change = is_fit (settings_back events) (phase_back events change) (labels_back events change) (reviews_back events change)
 
--- the approvers that an act gives a change
-abbrev pub approval : ℕ → Act → Option (List (List ℕ))
-approval change (Spoken other person (Known Approve)) = if change == other then Some (person ∷ []) else None
-approval change (Spoken other person (Known (ApproveFor names))) = if change == other then Some names else None
-approval change _ = None
+-- the approvers that an act gives its change
+abbrev pub approval_in : Act → Option (List (List ℕ))
+approval_in (Spoken change person (Known Approve)) = Some (person ∷ [])
+approval_in (Spoken change person (Known (ApproveFor names))) = Some names
+approval_in _ = None
 
 -- what ends an approval, beside the loss of fitness: `r-`, a head move, and that the change is closed
+abbrev pub ends_it : ℕ → List Event → Act → Bool
+ends_it change before (Spoken other person (Known Withdraw)) = true
+ends_it change before (Closed other) = true
+ends_it change before act = moves_head change before act
+
 abbrev pub ends : ℕ → Event → List Event → Bool
-ends change (did (Spoken other person (Known Withdraw))) events = change == other
-ends change (did (Closed other)) events = change == other
-ends change (did act) events = moves events change act
-ends change (gave order) events = false
+ends change event before = option_map_or (ends_it change before) (done_to change event) false
 
 -- A change is standing if an approval of it was given while it was fit, and it has been fit at each moment since, and
 -- nothing has ended it.
 abbrev pub standing_back : List Event → ℕ → Bool
 standing_back events change = since
-    (λ event before. is_some (said_by (approval change) event) && fit_back (event ∷ before) change)
+    (λ event before. is_some (said_on change approval_in event before) && fit_back (event ∷ before) change)
     (λ event before. not (ends change event before) && fit_back (event ∷ before) change)
     events
 
 -- its approvers are those of the last approval
 abbrev pub approvers_back : List Event → ℕ → Option (List (List ℕ))
-approvers_back events change = if standing_back events change then last_of (approval change) events else None
+approvers_back events change = if standing_back events change then last_of (said_on change approval_in) events else None
 
+-- A CHANGE that was opened, with all that the history says of it
 abbrev pub change_of : List Event → ℕ → List ℕ → Change
-change_of events change author = record (attributes_of events change author) { approved = approvers_back events change }
+change_of events change author = record {
+  author = author;
+  head = head_back events change;
+  phase = phase_back events change;
+  priority = priority_back events change;
+  labels = labels_back events change;
+  reviews = reviews_back events change;
+  delegates = delegates_back events change;
+  approved = approvers_back events change;
+  last = repeat_back events change;
+}
 
 abbrev pub change_back : List Event → ℕ → Option Change
 change_back events change = option_map (change_of events change) (author_back events change)
@@ -242,20 +255,20 @@ look_back events = record {
 abbrev pub rule_back : List Entry → Act → Option Rule
 rule_back history act = broken (look_back (events_of history)) act
 
--- LEGAL: the entries are steps of the machine, one after the other, from the empty state to this one
+-- LEGAL: the entries are steps of the machine, one after the other, from an empty state to this one
 abbrev pub Legal : List Entry → State → Type 0
-Legal [] s = s ≡ empty_state
+Legal [] s = IsEmpty s
 Legal (entry ∷ history) s = (before : State) × Legal history before × Step before entry.act entry.reply s
 
 -- the approvers of a change, if it is there and has any
 abbrev pub approvers_on : DeskView → ℕ → Option (List (List ℕ))
 approvers_on desk change = option_and_then (λ c. c.approved) (finite.get desk.changes change)
 
--- WHAT ONE MORE ENTRY TELLS, after a history that led from the empty state to `old`.
+-- WHAT ONE MORE ENTRY TELLS, after a history that led from an empty state to `old`.
 -- the rule that a reply names
-abbrev pub denial : Reply → Option Rule
-denial (Done orders) = None
-denial (Denied rule) = Some rule
+abbrev pub denied_by : Reply → Option Rule
+denied_by (Done orders) = None
+denied_by (Denied rule) = Some rule
 
 pub record EntryTells (history : List Entry) (old : State) (entry : Entry) (new : State) : Type 0 where
   -- people, settings, base and clock are those of the history with the entry
@@ -269,7 +282,7 @@ pub record EntryTells (history : List Entry) (old : State) (entry : Entry) (new 
   -- a change has approvers exactly if it is standing, and then those of its last approval
   pub approvers : (change : ℕ) → approvers_on new.desk change ≡ approvers_back (events_of (entry ∷ history)) change
   -- acts exactly by rule: done if no rule fails on the history before, and else denied by the first that does
-  pub by_rule : denial entry.reply ≡ rule_back history entry.act
+  pub by_rule : denied_by entry.reply ≡ rule_back history entry.act
   -- a denied act changes nothing
   pub denied : (rule : Rule) → entry.reply ≡ Denied rule → new ≡ old
   -- legality goes on

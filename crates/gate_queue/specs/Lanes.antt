@@ -65,7 +65,7 @@ abbrev pub with_change : ℕ → Batch → Batch
 with_change change batch = record batch { changes = batch.changes ++ change ∷ [] }
 
 -- the place of the batch that a change joins: of the last fresh one of its priority, if that has room
-abbrev if_room : Option ℕ → List Batch → Option ℕ → Option ℕ
+abbrev pub if_room : Option ℕ → List Batch → Option ℕ → Option ℕ
 if_room size waiting None = None
 if_room size waiting (Some place) = if option_map_or (has_room size) (slice_get waiting place) false then Some place else None
 
@@ -87,7 +87,7 @@ enqueued size number priority change lane = record lane { waiting = entered numb
 abbrev pub enqueue_uses : Option ℕ → ℤ → Lane → ℕ
 enqueue_uses size priority lane = if is_some (joins size priority lane.waiting) then 0 else 1
 
--- REQUEUE: a batch that has changes waits again, under a number that is used then; an empty one is none
+-- BACK: a batch that has changes waits again, under a number that is used then; an empty one is none
 abbrev pub has_changes : Batch → Bool
 has_changes batch = not (length batch.changes == 0)
 
@@ -127,7 +127,7 @@ abbrev pub running_back_uses : Bool → Batch → Batch → ℕ
 running_back_uses goes batch rest = if stops_running goes batch then back_uses rest else 0
 
 -- It goes back if it loses a change.
-abbrev running_taken : (ℕ → Bool) → ℕ → Option Batch → List Batch → Lane
+abbrev pub running_taken : (ℕ → Bool) → ℕ → Option Batch → List Batch → Lane
 running_taken stays number None waiting = record { running = None; waiting = waiting }
 running_taken stays number (Some batch) waiting = running_back (loses stays batch) number batch (only stays batch) waiting
 
@@ -142,7 +142,7 @@ abbrev pub taken_out_uses : (ℕ → Bool) → Lane → ℕ
 taken_out_uses stays lane = running_taken_uses stays lane.running
 
 -- RESTART: the running batch goes back in any case
-abbrev running_restarted : ℕ → Option Batch → List Batch → Lane
+abbrev pub running_restarted : ℕ → Option Batch → List Batch → Lane
 running_restarted number None waiting = record { running = None; waiting = waiting }
 running_restarted number (Some batch) waiting = running_back true number batch batch waiting
 
@@ -155,6 +155,17 @@ running_restarted_uses (Some batch) = running_back_uses true batch batch
 
 abbrev pub restarted_uses : Lane → ℕ
 restarted_uses lane = running_restarted_uses lane.running
+
+-- REQUEUE the chosen changes of the running batch, whatever its stage
+abbrev pub running_requeued : (ℕ → Bool) → ℕ → Option Batch → List Batch → Lane
+running_requeued stays number None waiting = record { running = None; waiting = waiting }
+running_requeued stays number (Some batch) waiting = record { running = None; waiting = back number (only stays batch) waiting }
+
+abbrev pub requeued : (ℕ → Bool) → ℕ → Lane → Lane
+requeued stays number lane = running_requeued stays number lane.running lane.waiting
+
+abbrev pub requeued_uses : (ℕ → Bool) → Lane → ℕ
+requeued_uses stays lane = option_map_or (λ batch. back_uses (only stays batch)) lane.running 0
 
 -- SPLIT a batch: its first half, rounded down, and the rest each wait again
 abbrev pub half : Batch → ℕ
@@ -173,7 +184,7 @@ split_into number batch waiting = placed (retried (number + 1) (second_half batc
 abbrev pub has_several : Batch → Bool
 has_several batch = nat_lt 1 (length batch.changes)
 
-abbrev running_failed : ℕ → Option Batch → List Batch → Lane
+abbrev pub running_failed : ℕ → Option Batch → List Batch → Lane
 running_failed number None waiting = record { running = None; waiting = waiting }
 running_failed number (Some batch) waiting = record { running = None; waiting = if has_several batch then split_into number batch waiting else waiting }
 
@@ -191,7 +202,7 @@ abbrev pub first_started : ℕ → List Batch → Lane
 first_started now [] = empty_lane
 first_started now (batch ∷ waiting) = record { running = Some (ordered_at now batch); waiting = waiting }
 
-abbrev started_beside : ℕ → Option Batch → List Batch → Lane
+abbrev pub started_beside : ℕ → Option Batch → List Batch → Lane
 started_beside now None waiting = first_started now waiting
 started_beside now (Some batch) waiting = record { running = Some batch; waiting = waiting }
 

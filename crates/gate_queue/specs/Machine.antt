@@ -1,32 +1,14 @@
 -- THE MACHINE: what one act is answered on a state, and the state after it.
-use Rattle.std.specs.Prelude.{◌≡◌, ℕ, ℤ, pos, not, Bool, false, ◌&&◌, ⊤, List, [], ◌∷◌, map, Option, Some, None, Result, Ok, Err, is_some, if◌then◌else◌}
+use Rattle.std.specs.Prelude.{◌≡◌, ℕ, ℤ, pos, not, Bool, false, ◌&&◌, ◌||◌, ⊤, List, [], ◌∷◌, map, Option, Some, None, Result, Ok, Err, is_some, if◌then◌else◌}
 use Rattle.std.specs.FinMap as finite
 use Rattle.std.specs.FinSet as set
 use Rattle.std.specs.List.{fold}
 use Rattle.std.specs.Option.{option_map, option_map_or}
 use Rattle.std.specs.Str.{bytes_eq}
-use Rattle.gate_text.specs.Settings.{SettingsView, settings_of, fault_number, same_settings}
-use Rattle.gate_text.specs.declared.command.Command.{Command}
-use Rattle.gate_text.specs.declared.command.Command.TheVariants.{Ping, Approve, ApproveFor, Withdraw, Priority, Try, TryCancel, DelegateAuthor, DelegateTo, DelegateNone, Retry}
-use Rattle.gate_text.specs.declared.command.Spoken.TheVariants.{Known, Unknown}
-use Rattle.gate_text.specs.declared.settings.fault.SettingsFault.{SettingsFault}
-use Rattle.gate_rules.specs.Rules.{Look, unless, is_known, is_open, is_member, is_blocked, has_too_few_reviews, first_failing}
+use Rattle.gate_queue.specs.Vocabulary.{SettingsView, settings_of, fault_number, same_settings, Command, Ping, Approve, ApproveFor, Withdraw, Priority, Try, TryCancel, DelegateAuthor, DelegateTo, DelegateNone, Retry, Known, Unknown, SettingsFault, Look, asks, is_known, is_open, is_member, is_blocked, has_too_few_reviews, first_failing, DeskView, empty_desk, with_role, with_change, with_settings, with_base, with_ended, numbers_where, ended_if, without_approval, look, Change, Repeat, Nobody, Rule, UnknownChange, NotOpen, AlreadyOpen, StaleHead, NotMember, OwnChange, BadSettings, SameAsBase, Act, Spoken, Role, Settings, Base, Opened, Pushed, Closed, Labeled, Unlabeled, Review, Order, Notice, Reply, Done, Denied, Why}
 use Rattle.gate_rules.specs.Rules as rules
-use Rattle.gate_rules.specs.View.{DeskView, empty_desk, with_role, with_change, with_settings, with_base, with_settled, losing_on, without_approval, look}
-use Rattle.gate_rules.specs.declared.change.Change.{Change}
 use Rattle.gate_rules.specs.declared.change.Phase.TheVariants as phase
-use Rattle.gate_rules.specs.declared.change.Repeat.{Repeat}
 use Rattle.gate_rules.specs.declared.change.Repeat.TheVariants as repeat
-use Rattle.gate_rules.specs.declared.role.Role.TheVariants.{Nobody}
-use Rattle.gate_rules.specs.declared.rule.Rule.{Rule}
-use Rattle.gate_rules.specs.declared.rule.Rule.TheVariants.{UnknownChange, NotOpen, AlreadyOpen, StaleHead, NotMember, OwnChange, BadSettings, SameAsBase}
-use Rattle.gate_queue.specs.declared.act.Act.{Act}
-use Rattle.gate_queue.specs.declared.act.Act.TheVariants.{Spoken, Role, Settings, Base, Opened, Pushed, Closed, Labeled, Unlabeled, Review}
-use Rattle.gate_queue.specs.declared.reply.Order.{Order}
-use Rattle.gate_queue.specs.declared.reply.Order.TheVariants.{Notice}
-use Rattle.gate_queue.specs.declared.reply.Reply.{Reply}
-use Rattle.gate_queue.specs.declared.reply.Reply.TheVariants.{Done, Denied}
-use Rattle.gate_queue.specs.declared.reply.Why.{Why}
 use Rattle.gate_queue.specs.declared.reply.Why.TheVariants as why
 
 -- A STATE. It has no batches yet.
@@ -35,6 +17,9 @@ pub record State : Type 0 where
 
 abbrev pub empty_state : State
 empty_state = record { desk = empty_desk }
+
+abbrev pub IsEmpty : State → Type 0
+IsEmpty s = s.desk ≡ empty_desk
 
 -- THE RULES OF FACTS
 abbrev pub is_base : Look → List ℕ → Bool
@@ -53,23 +38,23 @@ bad_settings (Err fault) = Some (BadSettings (fault_number fault))
 
 -- the rules that facts on a change begin with
 abbrev pub of_open_change : Look → ℕ → List (Option Rule) → List (Option Rule)
-of_open_change s change others = unless (is_known s change) UnknownChange ∷ unless (is_open s change) NotOpen ∷ others
+of_open_change s change others = asks (is_known s change) UnknownChange ∷ asks (is_open s change) NotOpen ∷ others
 
 abbrev pub review_row : Look → ℕ → List ℕ → List ℕ → List (Option Rule)
 review_row s change person head =
     of_open_change s change
-    (unless (is_head s change head) StaleHead
-    ∷ unless (is_member (s.role person)) NotMember
-    ∷ unless (not (is_author s change person)) OwnChange
+    (asks (is_head s change head) StaleHead
+    ∷ asks (is_member (s.role person)) NotMember
+    ∷ asks (not (is_author s change person)) OwnChange
     ∷ [])
 
 -- what an act is judged by, in order
 abbrev pub row : Look → Act → List (Option Rule)
-row s (Spoken change person spoken) = rules.row s person change spoken
+row s (Spoken change person spoken) = rules.line_row s person change spoken
 row s (Role person role) = []
 row s (Settings text) = bad_settings (settings_of text) ∷ []
-row s (Base commit) = unless (not (is_base s commit)) SameAsBase ∷ []
-row s (Opened change author head) = unless (not (is_open s change)) AlreadyOpen ∷ []
+row s (Base commit) = asks (not (is_base s commit)) SameAsBase ∷ []
+row s (Opened change author head) = asks (not (is_open s change)) AlreadyOpen ∷ []
 row s (Pushed change head) = of_open_change s change []
 row s (Closed change) = of_open_change s change []
 row s (Labeled change label) = of_open_change s change []
@@ -138,7 +123,7 @@ abbrev pub with_label : List ℕ → Change → Change
 with_label label change = record change { labels = set.insert change.labels label }
 
 abbrev pub labeled : Option SettingsView → List ℕ → Change → Change
-labeled settings label change = unless_against is_blocked settings (with_label label change)
+labeled settings label change = unless_against (λ s c. is_blocked s c.labels) settings (with_label label change)
 
 abbrev pub without_label : List ℕ → Change → Change
 without_label label change = record change { labels = set.remove change.labels label }
@@ -147,7 +132,7 @@ abbrev pub with_review : List ℕ → Bool → Change → Change
 with_review person approves change = record change { reviews = if approves then set.insert change.reviews person else set.remove change.reviews person }
 
 abbrev pub reviewed : Option SettingsView → List ℕ → Bool → Change → Change
-reviewed settings person approves change = unless_against has_too_few_reviews settings (with_review person approves change)
+reviewed settings person approves change = unless_against (λ s c. has_too_few_reviews s c.reviews) settings (with_review person approves change)
 
 -- WHAT AN ACT DOES that no rule denies
 -- the desk with one change altered, if it is there
@@ -157,6 +142,20 @@ with_altered desk number (Some change) = with_change desk number change
 
 abbrev pub altered : DeskView → ℕ → (Change → Change) → DeskView
 altered desk number alter = with_altered desk number (option_map alter (finite.get desk.changes number))
+
+-- NEW SETTINGS end the approvals of changes with a blocking label or too few reviews.
+abbrev pub loses_approval : SettingsView → Change → Bool
+loses_approval settings change = is_some change.approved && (is_blocked settings change.labels || has_too_few_reviews settings change.reviews)
+
+abbrev pub settled : SettingsView → Change → Change
+settled settings change = ended_if (loses_approval settings) change
+
+abbrev pub with_settled : DeskView → SettingsView → DeskView
+with_settled desk settings = with_ended (loses_approval settings) desk
+
+-- the numbers of these changes, upwards
+abbrev pub losing_on : DeskView → SettingsView → List ℕ
+losing_on desk settings = numbers_where (loses_approval settings) desk
 
 -- Settings that equal the present ones do nothing. Others take their place, and end the approvals that they are against.
 abbrev pub are_present : DeskView → SettingsView → Bool

@@ -46,6 +46,10 @@ taken_out stays queue = with_lane Staging (lanes.taken_out stays queue.next queu
 abbrev pub restarted : Branch → Queue → Queue
 restarted branch queue = with_lane branch (lanes.restarted queue.next (lane_of branch queue)) (lanes.restarted_uses (lane_of branch queue)) queue
 
+abbrev pub requeued : Branch → (ℕ → Bool) → Queue → Queue
+requeued branch stays queue =
+    with_lane branch (lanes.requeued stays queue.next (lane_of branch queue)) (lanes.requeued_uses stays (lane_of branch queue)) queue
+
 abbrev pub failed : Branch → Queue → Queue
 failed branch queue = with_lane branch (lanes.failed queue.next (lane_of branch queue)) (lanes.failed_uses (lane_of branch queue)) queue
 

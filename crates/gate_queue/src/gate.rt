@@ -3,7 +3,9 @@ ghost use Rattle.std.specs.FinMap as map;
 ghost use Rattle.std.specs.Option.{option_copied};
 ghost use Rattle.gate_rules.specs.View.{look};
 ghost use Rattle.gate_rules.specs.declared.rule.Rule.{Rule};
+ghost use Rattle.gate_queue.specs.Acts.{ActKeepsLimits};
 ghost use Rattle.gate_queue.specs.History.{Entry, Legal, EntryTells, entry_of};
+ghost use Rattle.gate_queue.specs.State.{IsState};
 ghost use Rattle.gate_queue.specs.Machine.{RefusalMayWantMemory, Step, TakesNoMemory, empty_state, broken};
 ghost use Rattle.gate_queue.specs.declared.reply.Reply.TheVariants.{Denied};
 
@@ -27,12 +29,16 @@ impl Model for Gate {
     ghost use Rattle.std.specs.Coded.{codes};
     ghost use Rattle.gate_text.specs.Finite.{finite_codes};
     ghost use Rattle.gate_queue.specs.Machine.{State};
+    ghost use Rattle.gate_queue.specs.State.{IsState};
 
     ghost Value = { State };
 
     ghost coded = { Prim.hlevel (codes, finite_codes) };
 
     ghost view = { λ gate. record { desk = gate.desk } };
+
+    // What a state keeps, whatever has happened.
+    ghost invariant = { λ gate. IsState (record { desk = gate.desk }) };
 }
 
 impl Gate {
@@ -45,8 +51,11 @@ impl Gate {
         }
     }
 
-    /// Lets an act step, and answers the gate after it and the reply. The one fault is `Memory`; the gate is spent then.
+    /// Lets an act that keeps its limits step, and answers the gate after it and the reply. The one fault is `Memory`; the gate
+    /// is spent then.
     pub fn act(self, alloc: Global, act: &Act) -> Result<(Gate, Reply), Fault>
+        requires { ActKeepsLimits act.now }
+
         // It is a step of the machine.
         ensures step { IfOk result (λ done. Step self act.now done.1 done.0) }
 
@@ -88,6 +97,7 @@ impl Gate {
     /// The desk: roles, changes, settings, base and clock.
     pub fn desk(&self) -> &Desk
         ensures value { result.now ≡ self.now.desk }
+        ensures state { IsState self.now }
     {
         &self.desk
     }
@@ -106,7 +116,7 @@ fn step(mut desk: Desk, alloc: Global, act: &Act) -> Result<(Desk, Reply), Alloc
     Ok((desk, Reply::Done(orders)))
 }
 
-/// The law of the first history: the one without entries is legal to the empty state, which `Gate::new` shows.
+/// The law of the first history: the one without entries is legal to an empty state, as `Gate::new` shows one.
 pub fn empty_history_is_legal()
     ensures { Legal [] empty_state }
 {}

@@ -90,6 +90,22 @@ impl Lane {
         Ok((waiting_only(waiting), used))
     }
 
+    /// Lets the chosen changes of the running batch, whatever its stage, wait again as a batch, under `number`; the others are
+    /// no longer queued. With it comes how many numbers were used. `AllocError` if there is no memory for it.
+    pub fn requeue<C: Choice>(self, number: u64, choice: &C) -> Result<(Lane, u64), AllocError>
+        ensures lane { IfOk result (λ done. done.0 ≡ lanes.requeued (λ change. C.chooses change choice.now) number self) }
+        ensures uses { IfOk result (λ done. done.1 ≡ lanes.requeued_uses (λ change. C.chooses change choice.now) self) }
+    {
+        let Lane { running, waiting } = self;
+        let mut waiting = waiting.into_vec();
+        let Some(mut rest) = running else {
+            return Ok((waiting_only(waiting), 0));
+        };
+        keep(&mut rest, choice);
+        let used = put_back(&mut waiting, number, rest)?;
+        Ok((waiting_only(waiting), used))
+    }
+
     /// Ends the running batch: one of several changes is split, and its halves wait again, under `number` and the next one;
     /// another is dropped. With it comes how many numbers were used. `AllocError` if there is no memory for it.
     pub fn fail(self, alloc: Global, number: u64) -> Result<(Lane, u64), AllocError>

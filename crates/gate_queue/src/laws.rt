@@ -1,3 +1,5 @@
+ghost use Rattle.gate_queue.specs.Counts.{LawOfEnqueue, LawOfTakeOut, LawOfRestart, LawOfStart, LawOfRequeue, LawOfFail, LawOfDrop};
+ghost use Rattle.gate_queue.specs.Service.{LawOfPlaces, LawOfRests};
 ghost use Rattle.gate_queue.specs.Words.{LawOfSince, LawOfTheLast, LawOfSets};
 
 /// The law of `since`: it holds exactly if the events can be cut at one that started it, and each event that came after
@@ -16,4 +18,22 @@ pub fn law_of_the_last<X>()
 /// the words of the history say so.
 pub fn law_of_sets()
     ensures { LawOfSets }
+{}
+
+/// The law of service: if each waiting batch goes before all behind it, then it does so after a batch was put at its place
+/// under a new number, and after changes were taken out.
+pub fn law_of_service()
+    ensures places { LawOfPlaces }
+    ensures rests { LawOfRests }
+{}
+
+/// The law of changes: what is done to a lane loses no change and doubles none, but for those that it names.
+pub fn law_of_changes()
+    ensures enqueue { LawOfEnqueue }
+    ensures take_out { LawOfTakeOut }
+    ensures restart { LawOfRestart }
+    ensures start { LawOfStart }
+    ensures requeue { LawOfRequeue }
+    ensures fail { LawOfFail }
+    ensures drop { LawOfDrop }
 {}

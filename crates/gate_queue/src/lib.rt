@@ -14,6 +14,7 @@ mod laws;
 mod performing;
 mod queue;
 mod reply;
+mod settling;
 mod waiting;
 
 pub use act::Act;
@@ -22,6 +23,7 @@ pub use choice::{AllBut, Choice};
 pub use fault::Fault;
 pub use gate::{Gate, empty_history_is_legal};
 pub use lane::{Batches, Lane};
-pub use laws::{law_of_sets, law_of_since, law_of_the_last};
+pub use laws::{law_of_changes, law_of_service, law_of_sets, law_of_since, law_of_the_last};
 pub use queue::Queue;
 pub use reply::{Order, Orders, Reply, Why};
+pub use settling::LosesApproval;

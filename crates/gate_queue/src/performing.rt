@@ -8,6 +8,7 @@ use crate::act::Act;
 use crate::changing;
 use crate::changing::no_orders;
 use crate::reply::{Order, Orders, Why};
+use crate::settling::LosesApproval;
 use gate_rules::{Desk, Repeat};
 use gate_text::{
     ChangeNo, Command, Name, Names, Settings, SettingsFault, Spoken, Text, read_settings,
@@ -114,8 +115,11 @@ fn take_settings(desk: &mut Desk, alloc: Global, settings: Settings) -> Result<O
     if are_present(desk, &settings) {
         return Ok(no_orders(alloc));
     }
-    let notices = notices_to(alloc, desk.losing(alloc, &settings)?.as_slice())?;
-    desk.end_losing(&settings);
+    let loses = LosesApproval {
+        settings: &settings,
+    };
+    let notices = notices_to(alloc, desk.numbers_where(alloc, &loses)?.as_slice())?;
+    desk.end_approvals_where(&loses);
     desk.set_settings(settings);
     Ok(notices)
 }

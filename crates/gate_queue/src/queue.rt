@@ -97,6 +97,18 @@ impl Queue {
         Ok(of_lanes(branch, lane, other, next + used))
     }
 
+    /// Lets the chosen changes of the running batch of a branch wait again, whatever its stage; the others are no longer
+    /// queued. `AllocError` if there is no memory for it.
+    pub fn requeue<C: Choice>(self, branch: Branch, choice: &C) -> Result<Queue, AllocError>
+        requires { self.next < MAX_NUMBER }
+        ensures value { IfOk result (λ queue. queue ≡ specs.requeued branch (λ change. C.chooses change choice.now) self) }
+    {
+        let next = self.next;
+        let (lane, other) = lanes_of(self, branch);
+        let (lane, used) = lane.requeue(next, choice)?;
+        Ok(of_lanes(branch, lane, other, next + used))
+    }
+
     /// Ends the running batch of a branch: one of several changes is split, another is dropped. `AllocError` if there is no
     /// memory for it.
     pub fn fail(self, alloc: Global, branch: Branch) -> Result<Queue, AllocError>

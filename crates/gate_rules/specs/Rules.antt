@@ -1,8 +1,11 @@
 -- THE RULES. They are stated once, over what a `Look` shows, and read on the desk and on the history alike.
 use Rattle.std.specs.Prelude.{ℕ, nat_lt, Bool, true, false, not, ◌&&◌, ◌||◌, ⊤, List, [], ◌∷◌, Option, Some, None, is_some}
+use Rattle.std.specs.Cmp.Lexicographic.{slice_cmp}
 use Rattle.std.specs.FinSet as set
+use Rattle.std.specs.FinSet.{FinSet}
 use Rattle.std.specs.List.{find}
 use Rattle.std.specs.Option.{option_map, option_map_or, option_and_then}
+use Rattle.std.specs.Ordering.{nat_cmp}
 use Rattle.gate_text.specs.declared.command.Command.{Command}
 use Rattle.gate_text.specs.declared.command.Command.TheVariants.{Ping, Approve, ApproveFor, Withdraw, Priority, Try, TryCancel, DelegateAuthor, DelegateTo, DelegateNone, Retry}
 use Rattle.gate_text.specs.declared.command.Spoken.{Spoken}
@@ -78,13 +81,13 @@ permits s person change command = admits (need s change command) (s.role person)
 abbrev pub is_known : Look → ℕ → Bool
 is_known s change = is_some (s.change change)
 
-abbrev pub is_opened : Phase → Bool
-is_opened Opened = true
-is_opened Closed = false
-is_opened Landed = false
+abbrev pub is_open_phase : Phase → Bool
+is_open_phase Opened = true
+is_open_phase Closed = false
+is_open_phase Landed = false
 
 abbrev pub is_open : Look → ℕ → Bool
-is_open s change = option_map_or (λ c. is_opened c.phase) (s.change change) false
+is_open s change = option_map_or (λ c. is_open_phase c.phase) (s.change change) false
 
 abbrev pub is_approved : Look → ℕ → Bool
 is_approved s change = option_map_or (λ c. is_some c.approved) (s.change change) false
@@ -95,36 +98,37 @@ has_settings s = is_some s.settings
 abbrev pub has_base : Look → Bool
 has_base s = is_some s.base
 
--- the first of the blocking labels, in the order of the settings, that a change has
-abbrev pub blocking_label : SettingsView → Change → Option (List ℕ)
-blocking_label settings change = find (λ label. set.contains change.labels label) settings.block_labels
+-- sets of texts: of the labels of a change, or of the people who have reviewed it
+abbrev pub Texts : Type 0
+Texts = FinSet (slice_cmp nat_cmp)
 
-abbrev pub is_blocked : SettingsView → Change → Bool
-is_blocked settings change = is_some (blocking_label settings change)
+-- the first of the blocking labels, in the order of the settings, that is among the labels of a change
+abbrev pub blocking_label : SettingsView → Texts → Option (List ℕ)
+blocking_label settings labels = find (λ label. set.contains labels label) settings.block_labels
 
-abbrev pub count_reviews : Change → ℕ
-count_reviews change = set.len change.reviews
+abbrev pub is_blocked : SettingsView → Texts → Bool
+is_blocked settings labels = is_some (blocking_label settings labels)
 
-abbrev pub has_too_few_reviews : SettingsView → Change → Bool
-has_too_few_reviews settings change = nat_lt (count_reviews change) settings.required_approvals
+abbrev pub has_too_few_reviews : SettingsView → Texts → Bool
+has_too_few_reviews settings reviews = nat_lt (set.len reviews) settings.required_approvals
 
 -- A change is fit if it is open, settings exist, none of its labels is blocking, and it has reviews enough.
-abbrev pub is_fit : Option SettingsView → Change → Bool
-is_fit None change = false
-is_fit (Some settings) change = is_opened change.phase && (not (is_blocked settings change) && not (has_too_few_reviews settings change))
+abbrev pub is_fit : Option SettingsView → Phase → Texts → Texts → Bool
+is_fit None phase labels reviews = false
+is_fit (Some settings) phase labels reviews = is_open_phase phase && (not (is_blocked settings labels) && not (has_too_few_reviews settings reviews))
 
 -- THE ROWS
 -- the rule if its test fails, and nothing if it holds
-abbrev pub unless : Bool → Rule → Option Rule
-unless true rule = None
-unless false rule = Some rule
+abbrev pub asks : Bool → Rule → Option Rule
+asks true rule = None
+asks false rule = Some rule
 
 -- the rule on the labels of a change, and the rule on its reviews
-abbrev pub unless_blocked : SettingsView → Change → Option Rule
-unless_blocked settings change = option_map Blocked (blocking_label settings change)
+abbrev pub blocked_rule : SettingsView → Change → Option Rule
+blocked_rule settings change = option_map Blocked (blocking_label settings change.labels)
 
-abbrev pub unless_too_few : SettingsView → Change → Option Rule
-unless_too_few settings change = unless (not (has_too_few_reviews settings change)) (TooFewReviews (count_reviews change) settings.required_approvals)
+abbrev pub too_few_rule : SettingsView → Change → Option Rule
+too_few_rule settings change = asks (not (has_too_few_reviews settings change.reviews)) (TooFewReviews (set.len change.reviews) settings.required_approvals)
 
 -- the same, if there are settings and the change is known
 abbrev pub of_both : (SettingsView → Change → Option Rule) → Option SettingsView → Option Change → Option Rule
@@ -135,31 +139,31 @@ of_both rule None change = None
 -- the rules that all commands but `ping` begin with
 abbrev pub begins_with_rules : Look → List ℕ → ℕ → Command → List (Option Rule) → List (Option Rule)
 begins_with_rules s person change command others =
-    unless (is_known s change) UnknownChange
-    ∷ unless (permits s person change command) (NotPermitted (need s change command))
-    ∷ unless (is_open s change) NotOpen
+    asks (is_known s change) UnknownChange
+    ∷ asks (permits s person change command) (NotPermitted (need s change command))
+    ∷ asks (is_open s change) NotOpen
     ∷ others
 
 -- the rules of an approval, behind these
 abbrev pub approval_rules : Look → ℕ → List (Option Rule)
 approval_rules s change =
-    unless (has_settings s) NoSettings
-    ∷ unless (has_base s) NoBase
-    ∷ unless (not (is_approved s change)) AlreadyApproved
-    ∷ of_both unless_blocked s.settings (s.change change)
-    ∷ of_both unless_too_few s.settings (s.change change)
+    asks (has_settings s) NoSettings
+    ∷ asks (has_base s) NoBase
+    ∷ asks (not (is_approved s change)) AlreadyApproved
+    ∷ of_both blocked_rule s.settings (s.change change)
+    ∷ of_both too_few_rule s.settings (s.change change)
     ∷ []
 
 -- the rules of a line that is no command
 abbrev pub no_command : Look → ℕ → List (Option Rule)
-no_command s change = unless (is_known s change) UnknownChange ∷ Some NotACommand ∷ []
+no_command s change = asks (is_known s change) UnknownChange ∷ Some NotACommand ∷ []
 
 -- what a command on a change is judged by, in order; a command whose rules are still to come counts as no command
 abbrev pub command_row : Look → List ℕ → ℕ → Command → List (Option Rule)
-command_row s person change Ping = unless (is_known s change) UnknownChange ∷ []
+command_row s person change Ping = asks (is_known s change) UnknownChange ∷ []
 command_row s person change Approve = begins_with_rules s person change Approve (approval_rules s change)
 command_row s person change (ApproveFor names) = begins_with_rules s person change (ApproveFor names) (approval_rules s change)
-command_row s person change Withdraw = begins_with_rules s person change Withdraw (unless (is_approved s change) NotApproved ∷ [])
+command_row s person change Withdraw = begins_with_rules s person change Withdraw (asks (is_approved s change) NotApproved ∷ [])
 command_row s person change (Priority priority) = begins_with_rules s person change (Priority priority) []
 command_row s person change DelegateAuthor = begins_with_rules s person change DelegateAuthor []
 command_row s person change (DelegateTo names) = begins_with_rules s person change (DelegateTo names) []
@@ -169,9 +173,9 @@ command_row s person change TryCancel = no_command s change
 command_row s person change Retry = no_command s change
 
 -- what a person's line about a change is judged by
-abbrev pub row : Look → List ℕ → ℕ → Spoken → List (Option Rule)
-row s person change (Known command) = command_row s person change command
-row s person change Unknown = no_command s change
+abbrev pub line_row : Look → List ℕ → ℕ → Spoken → List (Option Rule)
+line_row s person change (Known command) = command_row s person change command
+line_row s person change Unknown = no_command s change
 
 -- the first rule that fails, if one does
 abbrev pub first_failing : List (Option Rule) → Option Rule
@@ -180,8 +184,8 @@ first_failing (Some rule ∷ rules) = Some rule
 first_failing (None ∷ rules) = first_failing rules
 
 -- the rule that denies a line, if one does
-abbrev pub rule_of : Look → List ℕ → ℕ → Spoken → Option Rule
-rule_of s person change spoken = first_failing (row s person change spoken)
+abbrev pub line_rule : Look → List ℕ → ℕ → Spoken → Option Rule
+line_rule s person change spoken = first_failing (line_row s person change spoken)
 
 -- whether an answer of this rule copies what it names, for which memory may be wanting
 abbrev pub MayWantMemory : Option Rule → Type 0

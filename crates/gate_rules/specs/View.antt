@@ -1,5 +1,5 @@
 -- THE DESK as finite maps, what each setter does to it, and how the rules see it.
-use Rattle.std.specs.Prelude.{◌≡◌, ℕ, Bool, ◌&&◌, ◌||◌, List, [], ◌∷◌, Option, Some, None, is_some, if◌then◌else◌}
+use Rattle.std.specs.Prelude.{◌≡◌, ℕ, Bool, List, [], ◌∷◌, Option, Some, None, if◌then◌else◌}
 use Rattle.std.specs.Ordering.{nat_cmp}
 use Rattle.std.specs.Cmp.Lexicographic.{slice_cmp}
 use Rattle.std.specs.FinMap as map
@@ -10,7 +10,7 @@ use Rattle.gate_rules.specs.declared.change.Change.{Change}
 use Rattle.gate_rules.specs.declared.role.Role.{Role}
 use Rattle.gate_rules.specs.declared.role.Role.TheVariants.{Nobody}
 use Rattle.gate_text.specs.Finite.{mapped_values}
-use Rattle.gate_rules.specs.Rules.{Look, is_member, is_blocked, has_too_few_reviews}
+use Rattle.gate_rules.specs.Rules.{Look, is_member}
 
 -- A role `Nobody` is no entry.
 pub record DeskView : Type 0 where
@@ -45,30 +45,24 @@ with_base desk base = record desk { base = Some base }
 abbrev pub with_clock : DeskView → ℕ → DeskView
 with_clock desk now = record desk { clock = now }
 
--- APPROVALS THAT NEW SETTINGS END: those of changes with a blocking label or too few reviews
-abbrev pub loses_approval : SettingsView → Change → Bool
-loses_approval settings change = is_some change.approved && (is_blocked settings change || has_too_few_reviews settings change)
-
+-- THE CHANGES THAT MEET A CONDITION
 abbrev pub without_approval : Change → Change
 without_approval change = record change { approved = None }
 
-abbrev pub settled : SettingsView → Change → Change
-settled settings change = if loses_approval settings change then without_approval change else change
+abbrev pub ended_if : (Change → Bool) → Change → Change
+ended_if meets change = if meets change then without_approval change else change
 
--- the numbers of these changes, upwards
-abbrev pub losing : SettingsView → List (ℕ × Change) → List ℕ
-losing settings [] = []
-losing settings (entry ∷ entries) = if loses_approval settings entry.1 then entry.0 ∷ losing settings entries else losing settings entries
+-- their numbers, upwards
+abbrev pub numbers_in : (Change → Bool) → List (ℕ × Change) → List ℕ
+numbers_in meets [] = []
+numbers_in meets (entry ∷ entries) = if meets entry.1 then entry.0 ∷ numbers_in meets entries else numbers_in meets entries
 
-abbrev pub losing_on : DeskView → SettingsView → List ℕ
-losing_on desk settings = losing settings (map.entries desk.changes)
+abbrev pub numbers_where : (Change → Bool) → DeskView → List ℕ
+numbers_where meets desk = numbers_in meets (map.entries desk.changes)
 
--- each change without such an approval
-abbrev pub settled_changes : SettingsView → FinMap nat_cmp Change → FinMap nat_cmp Change
-settled_changes settings changes = mapped_values (settled settings) changes
-
-abbrev pub with_settled : DeskView → SettingsView → DeskView
-with_settled desk settings = record desk { changes = settled_changes settings desk.changes }
+-- the desk without their approvals
+abbrev pub with_ended : (Change → Bool) → DeskView → DeskView
+with_ended meets desk = record desk { changes = mapped_values (ended_if meets) desk.changes }
 
 -- WHAT THE RULES READ of it
 abbrev pub look : DeskView → Look

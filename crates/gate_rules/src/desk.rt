@@ -7,13 +7,13 @@ ghost use Rattle.std.specs.Map.{keys_of};
 ghost use Rattle.std.specs.Ordering.{nat_cmp};
 ghost use Rattle.gate_rules.specs.Rules as rules;
 ghost use Rattle.gate_rules.specs.View as view;
-ghost use Rattle.gate_rules.specs.View.{Alters, empty_desk, with_role, with_change, with_settings, with_base, with_clock, with_settled, losing_on, role_on, look};
+ghost use Rattle.gate_rules.specs.View.{Alters, empty_desk, with_role, with_change, with_settings, with_base, with_clock, with_ended, numbers_where, role_on, look};
 ghost use Rattle.gate_rules.specs.declared.role.Role.TheVariants.{Nobody};
 
 mod rows;
 
 use crate::change::{Change, Repeat};
-use crate::fitness::loses_approval;
+use crate::condition::Condition;
 use crate::role::{Level, Role};
 use gate_text::{ChangeNo, Command, Commit, Name, Settings};
 use std::alloc::{AllocError, Global};
@@ -165,22 +165,24 @@ impl Desk {
         Some(alter(change))
     }
 
-    /// The approved changes that have, under these settings, a blocking label or too few reviews, by number upwards, or
-    /// `AllocError` if there is no memory for the list.
-    pub fn losing(&self, alloc: Global, settings: &Settings) -> Result<Vec<ChangeNo>, AllocError>
-        ensures value { IfOk result (λ numbers. numbers.items ≡ losing_on self.now settings.now) }
+    /// The changes that meet a condition, by number upwards, or `AllocError` if there is no memory for the list.
+    pub fn numbers_where<C: Condition>(
+        &self,
+        alloc: Global,
+        condition: &C,
+    ) -> Result<Vec<ChangeNo>, AllocError>
+        ensures value { IfOk result (λ numbers. numbers.items ≡ numbers_where (λ change. C.meets change condition.now) self.now) }
     {
-        let numbers = losing_of(alloc, &self.changes, settings)?;
+        let numbers = numbers_in(alloc, &self.changes, condition)?;
         Ok(numbers)
     }
 
-    /// Ends the approval of each change that has, under these settings, a blocking label or too few reviews. Nothing else
-    /// changes. It takes no memory.
-    pub fn end_losing(&mut self, settings: &Settings)
-        ensures value { self.new ≡ with_settled self.old settings.now }
+    /// Ends the approval of each change that meets a condition. Nothing else changes. It takes no memory.
+    pub fn end_approvals_where<C: Condition>(&mut self, condition: &C)
+        ensures value { self.new ≡ with_ended (λ change. C.meets change condition.now) self.old }
     {
         self.changes.retain(|_, change| {
-            settle(change, settings);
+            end_if(change, condition);
             true
         });
     }
@@ -234,27 +236,27 @@ impl Desk {
     }
 }
 
-// Ends the approval of a change that has, under these settings, a blocking label or too few reviews.
-fn settle(change: &mut Change, settings: &Settings)
-    ensures { change.new ≡ view.settled settings.now change.old }
+// Ends the approval of a change that meets a condition.
+fn end_if<C: Condition>(change: &mut Change, condition: &C)
+    ensures { change.new ≡ view.ended_if (λ change. C.meets change condition.now) change.old }
 {
-    if loses_approval(settings, change) {
+    if condition.is_met(change) {
         change.approved = None;
     }
 }
 
-// The numbers of the changes whose approval would end.
-fn losing_of(
+// The numbers of the changes that meet a condition.
+fn numbers_in<C: Condition>(
     alloc: Global,
     changes: &BTreeMap<ChangeNo, Change>,
-    settings: &Settings,
+    condition: &C,
 ) -> Result<Vec<ChangeNo>, AllocError>
-    ensures value { IfOk result (λ numbers. numbers.items ≡ view.losing settings.now changes.now.entries) }
+    ensures value { IfOk result (λ numbers. numbers.items ≡ view.numbers_in (λ change. C.meets change condition.now) changes.now.entries) }
     ensures ordered { OnOk result (IsStrictlySortedBy nat_cmp (keys_of changes.now.entries)) }
 {
     let mut numbers = Vec::new(alloc);
     for (number, change) in changes {
-        if loses_approval(settings, change) {
+        if condition.is_met(change) {
             numbers.push(*number)?;
         }
     }

@@ -1,14 +1,13 @@
 ghost use Rattle.std.specs.Prelude.{◌≡◌};
 ghost use Rattle.std.specs.Option.{option_copied};
 ghost use Rattle.gate_rules.specs.Rules as rules;
-ghost use Rattle.gate_rules.specs.View as view;
 
 use crate::change::Change;
 use gate_text::{Label, Settings};
 
 /// The first of the blocking labels, in the order of the settings, that the change has.
 pub fn blocking_label<'a>(settings: &'a Settings, change: &Change) -> Option<&'a Label>
-    ensures value { option_copied result ≡ rules.blocking_label settings.now change.now }
+    ensures value { option_copied result ≡ rules.blocking_label settings.now change.now.labels }
 {
     settings
         .block_labels()
@@ -18,22 +17,14 @@ pub fn blocking_label<'a>(settings: &'a Settings, change: &Change) -> Option<&'a
 
 /// Whether the change has a blocking label.
 pub fn is_blocked(settings: &Settings, change: &Change) -> bool
-    ensures value { result ≡ rules.is_blocked settings.now change.now }
+    ensures value { result ≡ rules.is_blocked settings.now change.now.labels }
 {
     blocking_label(settings, change).is_some()
 }
 
 /// Whether the change has fewer reviews than the settings ask for.
 pub fn has_too_few_reviews(settings: &Settings, change: &Change) -> bool
-    ensures value { result ≡ rules.has_too_few_reviews settings.now change.now }
+    ensures value { result ≡ rules.has_too_few_reviews settings.now change.now.reviews }
 {
     (change.reviews.len() as u64) < u64::from(settings.required_approvals())
-}
-
-/// Whether the change is approved and has, under the settings, a blocking label or too few reviews.
-pub fn loses_approval(settings: &Settings, change: &Change) -> bool
-    ensures value { result ≡ view.loses_approval settings.now change.now }
-{
-    change.approved.is_some()
-        && (is_blocked(settings, change) || has_too_few_reviews(settings, change))
 }

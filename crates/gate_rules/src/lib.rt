@@ -2,12 +2,14 @@
 #![tactic(auto)]
 
 mod change;
+mod condition;
 mod desk;
 mod fitness;
 mod role;
 mod rule;
 
 pub use change::{Change, Phase, Repeat};
+pub use condition::Condition;
 pub use desk::Desk;
 pub use fitness::{blocking_label, has_too_few_reviews, is_blocked};
 pub use role::{Level, Role};

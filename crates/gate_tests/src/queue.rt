@@ -9,7 +9,7 @@ mod stories;
 
 use crate::readers::{check_that, check_words, cut, is_change, name, number, row_of};
 use gate_queue::{Fault, Gate, Reply};
-use gate_rules::{Desk, Rule};
+use gate_rules::{Desk, Role, Rule};
 use gate_text::Settings;
 use reading::{read_act, shown};
 use std::alloc::{AllocError, Global};
@@ -65,9 +65,13 @@ fn started(rt: &impl Abort, alloc: Global) -> Gate {
     gate
 }
 
+fn role_of(rt: &impl Abort, alloc: Global, desk: &Desk, person: &str) -> Role {
+    desk.role(&name(rt, alloc, person))
+}
+
 // The base by its first digit, the role of a person and the time limit of the settings.
 fn desk_words(rt: &impl Abort, alloc: Global, desk: &Desk, person: &str) -> String {
-    let role = desk.role(&name(rt, alloc, person));
+    let role = role_of(rt, alloc, desk, person);
     let timeout = desk.settings().map_or(0, Settings::timeout_sec);
     let base = desk.base();
     let digit = match &base {

@@ -1,10 +1,36 @@
+use super::check_that;
 use super::fakes::{Refusal, Sink, Source};
-use super::{INPUT, OUTPUT};
 use crate::bench::Bench;
 use crate::lines::{HookFault, serve_lines};
 use std::alloc::Global;
 use std::io::ErrorKind;
 use std::process::Abort;
+
+// What `stdin` and `stdout` of this crate have.
+const INPUT: &str = concat!(
+    r#"{"id":"d1","event":"role","person":"alice","role":"reviewer"}"#,
+    "\n",
+    r#"{"id":"d2","event":"opened","change":1,"author":"carol","head":"aaaaaaaaaaaaaaaaaaaaaaaaaaaaaaaaaaaaaaaa"}"#,
+    "\n",
+    r#"{"id":"d3","event":"comment","change":1,"person":"eve","text":"bors r+"}"#,
+    "\n",
+    r#"{"id":"d4","event":"comment","change":1,"person":"alice","text":"bors r+\nbors ping\nbors r-"}"#,
+    "\n",
+    "hello\n",
+);
+
+const OUTPUT: &str = concat!(
+    r#"[{"orders":[],"verdict":"done"}]"#,
+    "\n",
+    r#"[{"orders":[],"verdict":"done"}]"#,
+    "\n",
+    r#"[{"detail":"ReviewerOrDelegate","number":3,"rule":"NotPermitted","verdict":"denied"}]"#,
+    "\n",
+    r#"[{"number":7,"rule":"NoSettings","verdict":"denied"},{"orders":[],"verdict":"done"},{"number":9,"rule":"NotApproved","verdict":"denied"}]"#,
+    "\n",
+    r#"{"error":"NotJson","number":1}"#,
+    "\n",
+);
 
 // A call that is never reached.
 const NEVER: usize = usize::MAX;
@@ -21,7 +47,8 @@ fn line_feeds(text: &[u8]) -> usize {
 }
 
 fn first_bytes(text: &str, count: usize) -> &[u8] {
-    &text.as_bytes()[..count.min(text.len())]
+    let bytes = text.as_bytes();
+    bytes.get(..count).unwrap_or(bytes)
 }
 
 fn first_lines(rt: &impl Abort, alloc: Global, text: &str, count: usize) -> String {
@@ -52,23 +79,44 @@ fn sink(alloc: Global, step: usize) -> Sink {
     }
 }
 
-fn serve(alloc: Global, source: &mut Source<'_>, sink: &mut Sink) -> Result<u64, HookFault> {
+// Whether serving on this bench ends so, and has written what is due.
+fn serves_so(
+    alloc: Global,
+    bench: &mut Bench,
+    source: &mut Source<'_>,
+    sink: &mut Sink,
+    end: Result<u64, HookFault>,
+    due: &[u8],
+) -> bool {
+    serve_lines(alloc, bench, source, sink) == end && sink.held.as_slice() == due
+}
+
+// The same on a new bench.
+fn ends_so(
+    alloc: Global,
+    source: &mut Source<'_>,
+    sink: &mut Sink,
+    end: Result<u64, HookFault>,
+    due: &[u8],
+) -> bool {
     let mut bench = Bench::new(alloc);
-    serve_lines(alloc, &mut bench, source, sink)
+    serves_so(alloc, &mut bench, source, sink, end, due)
+}
+
+fn check_pieces(rt: &impl Abort, alloc: Global, step_in: usize, step_out: usize) {
+    let mut source = source(INPUT, step_in);
+    let mut sink = sink(alloc, step_out);
+    let is_so = ends_so(alloc, &mut source, &mut sink, Ok(5), OUTPUT.as_bytes());
+    check_that(rt, step_in, is_so);
 }
 
 #[test]
 fn pieces_make_no_difference(rt: HostRuntime) {
-    for (step_in, step_out) in [(1, 1), (1, NEVER), (NEVER, 1), (3, 7), (64, 5)] {
-        let mut source = source(INPUT, step_in);
-        let mut sink = sink(rt.alloc(), step_out);
-        assert_eq!(rt; serve(rt.alloc(), &mut source, &mut sink), Ok(5));
-        assert_eq!(rt;
-            sink.held.as_slice(),
-            OUTPUT.as_bytes(),
-            "{step_in} {step_out}"
-        );
-    }
+    check_pieces(&rt, rt.alloc(), 1, 1);
+    check_pieces(&rt, rt.alloc(), 1, NEVER);
+    check_pieces(&rt, rt.alloc(), NEVER, 1);
+    check_pieces(&rt, rt.alloc(), 3, 7);
+    check_pieces(&rt, rt.alloc(), 64, 5);
 }
 
 // How many reads there are of an input, the last of which finds its end.
@@ -89,20 +137,17 @@ fn check_bad_read(
     source.bad_call = bad_call;
     source.kind = kind;
     let mut sink = sink(alloc, NEVER);
-    let answer = serve(alloc, &mut source, &mut sink);
-    let fails = bad_call < reads(input, step);
-    let complete = line_feeds(first_bytes(input, bad_call.saturating_mul(step)));
-    let (due, lines, calls) = if fails {
-        (Err(HookFault::Read), complete, bad_call.saturating_add(1))
+    let all = reads(input, step);
+    let (end, lines) = if bad_call < all {
+        let complete = line_feeds(first_bytes(input, bad_call.saturating_mul(step)));
+        (Err(HookFault::Read), complete)
     } else {
-        (Ok(5), 5, source.calls)
+        (Ok(5), 5)
     };
-    let text = first_lines(rt, alloc, OUTPUT, lines);
-    let written = sink.held.as_slice() == text.as_bytes();
-    assert!(rt;
-        answer == due && written && source.calls == calls,
-        "{step} {bad_call}"
-    );
+    let due = first_lines(rt, alloc, OUTPUT, lines);
+    let is_so = ends_so(alloc, &mut source, &mut sink, end, due.as_bytes());
+    let calls = bad_call.saturating_add(1).min(all);
+    check_that(rt, bad_call, is_so && source.calls == calls);
 }
 
 #[test]
@@ -125,6 +170,18 @@ const REFUSALS: [Refusal; 3] = [
     Refusal::TakesNothing,
 ];
 
+// How serving ends if `due` is what is written, and how many reads of one byte there are: none after the line that the
+// write came at.
+fn end_of_write(rt: &impl Abort, alloc: Global, due: &[u8]) -> (Result<u64, HookFault>, usize) {
+    if due.len() < OUTPUT.len() {
+        let lines = line_feeds(due).saturating_add(1);
+        let read = first_lines(rt, alloc, INPUT, lines).len();
+        (Err(HookFault::Write), read)
+    } else {
+        (Ok(5), reads(INPUT, 1))
+    }
+}
+
 // One write goes wrong: `due` is written, and no byte is read after the line that it came at.
 fn check_bad_write(
     rt: &impl Abort,
@@ -138,19 +195,9 @@ fn check_bad_write(
     let mut sink = sink(alloc, step);
     sink.bad_call = bad_call;
     sink.refusal = refusal;
-    let answer = serve(alloc, &mut source, &mut sink);
-    let lines = line_feeds(due).saturating_add(1);
-    let (end, calls) = if due.len() < OUTPUT.len() {
-        let read = first_lines(rt, alloc, INPUT, lines).len();
-        (Err(HookFault::Write), read)
-    } else {
-        (Ok(5), source.calls)
-    };
-    let written = sink.held.as_slice() == due;
-    assert!(rt;
-        answer == end && written && source.calls == calls,
-        "{refusal:?} {bad_call}"
-    );
+    let (end, calls) = end_of_write(rt, alloc, due);
+    let is_so = ends_so(alloc, &mut source, &mut sink, end, due);
+    check_that(rt, bad_call, is_so && source.calls == calls);
 }
 
 #[test]
@@ -180,12 +227,17 @@ fn a_last_line_that_is_not_written(rt: HostRuntime) {
         let mut sink = sink(rt.alloc(), NEVER);
         sink.bad_call = 1;
         sink.refusal = refusal;
-        let answer = serve(rt.alloc(), &mut source, &mut sink);
-        let due = "{\"error\":\"NotJson\",\"number\":1}\n";
-        let written = sink.held.as_slice() == due.as_bytes();
-        assert!(rt; answer == Err(HookFault::Write) && written, "{refusal:?}");
+        let due = "{\"error\":\"NotJson\",\"number\":1}\n".as_bytes();
+        let end = Err(HookFault::Write);
+        let is_so = ends_so(rt.alloc(), &mut source, &mut sink, end, due);
+        check_that(&rt, 1, is_so);
     }
 }
+
+const OPENED_AGAIN: &str =
+    r#"{"id":"d5","event":"opened","change":1,"author":"carol","head":"aaaaaaaaaaaaaaaaaaaaaaaaaaaaaaaaaaaaaaaa"}"#;
+
+const ALREADY_OPEN: &str = "[{\"number\":12,\"rule\":\"AlreadyOpen\",\"verdict\":\"denied\"}]\n";
 
 #[test]
 fn a_bench_goes_on_after_a_failed_write(rt: HostRuntime) {
@@ -193,13 +245,13 @@ fn a_bench_goes_on_after_a_failed_write(rt: HostRuntime) {
     let mut first = source(INPUT, 50);
     let mut written = sink(rt.alloc(), NEVER);
     written.bad_call = 2;
-    let stopped = serve_lines(rt.alloc(), &mut bench, &mut first, &mut written);
-    let again =
-        r#"{"id":"d5","event":"opened","change":1,"author":"carol","head":"aaaaaaaaaaaaaaaaaaaaaaaaaaaaaaaaaaaaaaaa"}"#;
-    let mut second = source(again, NEVER);
+    let end = Err(HookFault::Write);
+    let due = first_lines(&rt, rt.alloc(), OUTPUT, 2);
+    let due = due.as_bytes();
+    let stops = serves_so(rt.alloc(), &mut bench, &mut first, &mut written, end, due);
+    let mut second = source(OPENED_AGAIN, NEVER);
     let mut text = sink(rt.alloc(), NEVER);
-    let answer = serve_lines(rt.alloc(), &mut bench, &mut second, &mut text);
-    let due = "[{\"number\":12,\"rule\":\"AlreadyOpen\",\"verdict\":\"denied\"}]\n";
-    let refused = text.held.as_slice() == due.as_bytes();
-    assert!(rt; stopped == Err(HookFault::Write) && answer == Ok(1) && refused);
+    let due = ALREADY_OPEN.as_bytes();
+    let goes_on = serves_so(rt.alloc(), &mut bench, &mut second, &mut text, Ok(1), due);
+    check_that(&rt, 2, stops && goes_on);
 }

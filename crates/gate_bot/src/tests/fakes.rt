@@ -26,7 +26,7 @@ impl Read for Source<'_> {
 }
 
 /// How a write goes wrong.
-#[derive(Clone, Copy, Debug)]
+#[derive(Clone, Copy)]
 pub enum Refusal {
     /// The call fails.
     Fails(ErrorKind),

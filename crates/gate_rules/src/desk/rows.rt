@@ -46,8 +46,8 @@ impl Desk {
         change: ChangeNo,
         spoken: &Spoken,
     ) -> Result<Option<Rule>, AllocError>
-        ensures value { IfOk result (λ rule. rule ≡ rules.rule_of (look self.now) person.now change spoken.now) }
-        ensures cause { IfErr result (λ _. rules.MayWantMemory (rules.rule_of (look self.now) person.now change spoken.now)) }
+        ensures value { IfOk result (λ rule. rule ≡ rules.line_rule (look self.now) person.now change spoken.now) }
+        ensures cause { IfErr result (λ _. rules.MayWantMemory (rules.line_rule (look self.now) person.now change spoken.now)) }
     {
         if !self.is_known(change) {
             return Ok(Some(Rule::UnknownChange));
@@ -158,8 +158,8 @@ fn fitness_rule(
     settings: &Settings,
     change: &Change,
 ) -> Result<Option<Rule>, AllocError>
-    ensures value { IfOk result (λ rule. rule ≡ rules.first_failing (rules.unless_blocked settings.now change.now ∷ rules.unless_too_few settings.now change.now ∷ [])) }
-    ensures cause { IfErr result (λ _. rules.MayWantMemory (rules.first_failing (rules.unless_blocked settings.now change.now ∷ rules.unless_too_few settings.now change.now ∷ []))) }
+    ensures value { IfOk result (λ rule. rule ≡ rules.first_failing (rules.blocked_rule settings.now change.now ∷ rules.too_few_rule settings.now change.now ∷ [])) }
+    ensures cause { IfErr result (λ _. rules.MayWantMemory (rules.first_failing (rules.blocked_rule settings.now change.now ∷ rules.too_few_rule settings.now change.now ∷ []))) }
 {
     if let Some(label) = blocking_label(settings, change) {
         return Ok(Some(Rule::Blocked(label.copy(alloc)?)));

@@ -1,26 +1,29 @@
-use crate::readers::{commit, number, row_of};
+ghost use Rattle.std.specs.Prelude.{◌<◌};
+
+use crate::readers::{check_words, commit, cut, number, row_of};
 use gate_queue::{AllBut, Batch, Branch, Lane, Queue, Stage};
 use std::alloc::Global;
 use std::process::Abort;
 
-// A batch as its number, its changes, and `again` if they were in a batch before.
-fn batch_words(rt: &impl Abort, alloc: Global, batch: &Batch) -> String {
+// Adds a batch as its number, its changes, and `again` if they were in a batch before.
+fn push_batch(rt: &impl Abort, words: &mut String, batch: &Batch) {
     let again = if batch.again { " again" } else { "" };
-    let mut words = format!(in alloc; "{}{again}:", batch.number).expect(rt, "memory");
+    write!(words, "{}{again}:", batch.number).expect(rt, "memory");
     for change in batch.changes.as_slice() {
         write!(words, " {}", change.number()).expect(rt, "memory");
     }
-    words
+    words.push_str("; ").expect(rt, "memory");
 }
 
 // The batches in order of service; a star marks the one that runs.
 fn lane_words(rt: &impl Abort, alloc: Global, lane: &Lane) -> String {
     let mut words = String::new(alloc);
     if let Some(batch) = &lane.running {
-        write!(words, "*{}; ", batch_words(rt, alloc, batch)).expect(rt, "memory");
+        words.push('*').expect(rt, "memory");
+        push_batch(rt, &mut words, batch);
     }
     for batch in lane.waiting.as_slice() {
-        write!(words, "{}; ", batch_words(rt, alloc, batch)).expect(rt, "memory");
+        push_batch(rt, &mut words, batch);
     }
     words
 }
@@ -57,36 +60,71 @@ fn with_landing(rt: &impl Abort, alloc: Global, queue: Queue) -> Queue {
     }
 }
 
+// Batch numbers are far from used up.
+fn check_numbers(rt: &impl Abort, next: u64)
+    ensures { next < 1000000 }
+{
+    assert!(rt; next < 1_000_000);
+}
+
 // The queue after a change was added, by its number, its priority, and the size of batches (no size: 0).
 fn with_added(rt: &impl Abort, alloc: Global, queue: Queue, line: &str) -> Queue {
-    let (change, rest) = line.split_once(' ').expect(rt, "a change");
-    let (priority, size) = rest.split_once(' ').expect(rt, "a priority");
+    let (change, rest) = cut(line);
+    let (priority, size) = cut(rest);
+    let change = number(rt, change);
     let priority = priority.parse::<i32>().expect(rt, "a priority");
-    let size = match whole(size) {
-        0 => None,
-        size => Some(size),
-    };
-    assert!(rt; queue.next < 1_000_000);
+    check_numbers(rt, queue.next);
     queue
-        .enqueue(alloc, number(rt, change), priority, size)
+        .enqueue(alloc, change, priority, size_of(size))
         .expect(rt, "memory")
 }
 
-// The queue after what a line says of staging: `add CHANGE PRIORITY SIZE`, `out CHANGE`, `start`, `restart`, `fail`, `drop` or
-// `land`.
+// The size of a word, and none of 0.
+fn size_of(word: &str) -> Option<u32> {
+    match whole(word) {
+        0 => None,
+        size => Some(size),
+    }
+}
+
+// The queue without a change.
+fn without(rt: &impl Abort, alloc: Global, queue: Queue, word: &str) -> Queue {
+    let but = AllBut {
+        change: number(rt, word),
+    };
+    check_numbers(rt, queue.next);
+    queue.take_out(alloc, &but).expect(rt, "memory")
+}
+
+// The queue with its running batch waiting again, but for one change.
+fn requeued(rt: &impl Abort, queue: Queue, word: &str) -> Queue {
+    let but = AllBut {
+        change: number(rt, word),
+    };
+    check_numbers(rt, queue.next);
+    queue.requeue(Branch::Staging, &but).expect(rt, "memory")
+}
+
+fn failed(rt: &impl Abort, alloc: Global, queue: Queue) -> Queue {
+    check_numbers(rt, queue.next);
+    queue.fail(alloc, Branch::Staging).expect(rt, "memory")
+}
+
+fn restarted(rt: &impl Abort, queue: Queue) -> Queue {
+    check_numbers(rt, queue.next);
+    queue.restart(Branch::Staging).expect(rt, "memory")
+}
+
+// The queue after what a line says of staging: `add CHANGE PRIORITY SIZE`, `out CHANGE`, `requeue CHANGE` (all but
+// this one), `start`, `restart`, `fail`, `drop` or `land`.
 fn stepped(rt: &impl Abort, alloc: Global, queue: Queue, line: &str) -> Queue {
-    let (word, rest) = line.split_once(' ').unwrap_or((line, ""));
-    assert!(rt; queue.next < 1_000_000);
+    let (word, rest) = cut(line);
     match word {
         "add" => with_added(rt, alloc, queue, rest),
-        "out" => {
-            let but = AllBut {
-                change: number(rt, rest),
-            };
-            queue.take_out(alloc, &but).expect(rt, "memory")
-        }
-        "fail" => queue.fail(alloc, Branch::Staging).expect(rt, "memory"),
-        "restart" => queue.restart(Branch::Staging).expect(rt, "memory"),
+        "out" => without(rt, alloc, queue, rest),
+        "requeue" => requeued(rt, queue, rest),
+        "fail" => failed(rt, alloc, queue),
+        "restart" => restarted(rt, queue),
         "start" => queue.start(Branch::Staging, 100),
         "drop" => queue.drop_running(Branch::Staging),
         _ => with_landing(rt, alloc, queue),
@@ -104,7 +142,7 @@ fn check(rt: &impl Abort, alloc: Global, table: &str) {
                 line => stepped(rt, alloc, queue, line),
             };
             let found = lane_words(rt, alloc, &queue.staging);
-            assert!(rt; found.as_str().trim_end() == words, "{row}: {found}");
+            check_words(rt, row, found.as_str().trim_end(), words);
         }
     }
 }
@@ -173,6 +211,18 @@ fn lanes_of_batches(rt: HostRuntime) {
         add 5 0 0 => 4: 5;
         start => *4: 5;
         out 5 =>
+        // A running batch that waits again, even one that is landing, loses what isn't chosen.
+        - =>
+        add 1 0 0 => 1: 1;
+        add 2 0 0 => 1: 1 2;
+        requeue 1 => 1: 1 2;
+        start => *1: 1 2;
+        requeue 3 => 2 again: 1 2;
+        start => *2 again: 1 2;
+        land => *2 again: 1 2;
+        requeue 1 => 3 again: 2;
+        start => *3 again: 2;
+        requeue 2 =>
         // What waits again goes before what is fresh, of the same priority alone.
         - =>
         add 1 3 0 => 1: 1;
@@ -215,8 +265,14 @@ fn told(rt: &impl Abort, alloc: Global, size: u32, steps: &str) -> String {
 
 #[test]
 fn queues_of_5_000_changes(rt: HostRuntime) {
-    let small = told(&rt, rt.alloc(), 8, "out 3, start, out 1, out 9");
-    assert_eq!(rt; small.as_str(), "625 8, 625 7, 625 8, 625 6, 625 6");
-    let large = told(&rt, rt.alloc(), 0, "start, fail, start, fail");
-    assert_eq!(rt; large.as_str(), "1 5000, 1 0, 2 2500, 2 2500, 3 2500");
+    let (steps, words) = (
+        "out 3, start, out 1, out 9",
+        "625 8, 625 7, 625 8, 625 6, 625 6",
+    );
+    check_words(&rt, steps, told(&rt, rt.alloc(), 8, steps).as_str(), words);
+    let (steps, words) = (
+        "start, fail, start, fail",
+        "1 5000, 1 0, 2 2500, 2 2500, 3 2500",
+    );
+    check_words(&rt, steps, told(&rt, rt.alloc(), 0, steps).as_str(), words);
 }

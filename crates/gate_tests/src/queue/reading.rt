@@ -1,10 +1,15 @@
+ghost use Rattle.gate_text.specs.Limits.{KeepsLimits};
+ghost use Rattle.gate_queue.specs.Acts.{ActKeepsLimits};
+
 use crate::readers::{commit, cut, label, name, number, role, rule_words};
 use gate_queue::{Act, Order, Reply};
 use gate_text::{ChangeNo, Spoken, Text, read_comment};
 use std::alloc::Global;
 use std::process::Abort;
 
-fn spoken(rt: &impl Abort, alloc: Global, line: &str) -> Spoken {
+fn spoken(rt: &impl Abort, alloc: Global, line: &str) -> Spoken
+    ensures { KeepsLimits result }
+{
     let mut spoken = read_comment(alloc, line).expect(rt, "memory");
     spoken.pop().expect(rt, "a command line")
 }
@@ -16,7 +21,9 @@ fn settings(rt: &impl Abort, alloc: Global, text: &str) -> Text {
 }
 
 // The act of a line: a fact's name and its fields, or `1 alice bors r+` for a comment.
-pub(crate) fn read_act(rt: &impl Abort, alloc: Global, line: &str) -> Act {
+pub(crate) fn read_act(rt: &impl Abort, alloc: Global, line: &str) -> Act
+    ensures { ActKeepsLimits result }
+{
     let (word, rest) = cut(line);
     let (first, fields) = cut(rest);
     match word {
@@ -42,7 +49,9 @@ pub(crate) fn read_act(rt: &impl Abort, alloc: Global, line: &str) -> Act {
 }
 
 // The act of a fact on a change.
-fn read_fact(rt: &impl Abort, alloc: Global, word: &str, change: ChangeNo, fields: &str) -> Act {
+fn read_fact(rt: &impl Abort, alloc: Global, word: &str, change: ChangeNo, fields: &str) -> Act
+    ensures { ActKeepsLimits result }
+{
     let (first, rest) = cut(fields);
     match word {
         "opened" => Act::Opened {
@@ -67,7 +76,9 @@ fn read_fact(rt: &impl Abort, alloc: Global, word: &str, change: ChangeNo, field
     }
 }
 
-fn read_review(rt: &impl Abort, alloc: Global, change: ChangeNo, person: &str, rest: &str) -> Act {
+fn read_review(rt: &impl Abort, alloc: Global, change: ChangeNo, person: &str, rest: &str) -> Act
+    ensures { ActKeepsLimits result }
+{
     let (head, answer) = cut(rest);
     Act::Review {
         change,

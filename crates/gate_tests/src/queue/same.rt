@@ -1,7 +1,7 @@
 ghost use Rattle.std.specs.Prelude.{◌≡◌, ◌↔◌, IsTrue, IfOk};
 
 use super::reading::read_act;
-use crate::readers::{check_pair, number};
+use crate::readers::{check_pair, check_that, number};
 use gate_queue::{Act, Order, Orders, Reply, Why};
 use gate_rules::Rule;
 use std::alloc::{AllocError, Global};
@@ -31,8 +31,10 @@ fn reasons_and_orders(rt: HostRuntime) {
     let pushed = Why::Pushed;
     let change = number(&rt, "1");
     let order = |why| Order::Notice { change, why };
-    assert!(rt; is_same_why(&pushed, &clone_of_why(&pushed).expect(&rt, "memory")));
-    assert!(rt; !is_same_order(&order(Why::Pushed), &order(Why::Closed)));
+    let clone = clone_of_why(&pushed).expect(&rt, "memory");
+    check_that(&rt, "a clone", is_same_why(&pushed, &clone));
+    let are_same = is_same_order(&order(Why::Pushed), &order(Why::Closed));
+    check_that(&rt, "two orders", !are_same);
 }
 
 // Acts, no two of which are the same.

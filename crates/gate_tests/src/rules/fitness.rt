@@ -1,6 +1,7 @@
 use super::desks::{desk, strict};
 use super::words::check_table;
 use crate::readers::{change, check_that, check_words, commit, cut, is_change, number};
+use gate_queue::LosesApproval;
 use gate_rules::{Change, Desk, Phase, blocking_label, has_too_few_reviews, is_blocked};
 use gate_text::{ChangeNo, Label, Settings, read_settings};
 use std::alloc::Global;
@@ -37,7 +38,11 @@ fn fitness_of_changes(rt: HostRuntime) {
 // The numbers of the changes whose approval strict settings end, in order.
 fn losing(rt: &impl Abort, alloc: Global, desk: &Desk) -> String {
     let mut words = String::new(alloc);
-    let numbers = desk.losing(alloc, &strict(rt, alloc)).expect(rt, "memory");
+    let settings = strict(rt, alloc);
+    let loses = LosesApproval {
+        settings: &settings,
+    };
+    let numbers = desk.numbers_where(alloc, &loses).expect(rt, "memory");
     for number in numbers {
         write!(words, " {}", number.number()).expect(rt, "memory");
     }
@@ -73,7 +78,10 @@ fn approvals_that_settings_are_against(rt: HostRuntime) {
     let mut desk = desk(&rt, rt.alloc(), changes.as_slice());
     let before = losing(&rt, rt.alloc(), &desk);
     check_words(&rt, "before", before.as_str(), " 4 8 30 100");
-    desk.end_losing(&strict(&rt, rt.alloc()));
+    let settings = strict(&rt, rt.alloc());
+    desk.end_approvals_where(&LosesApproval {
+        settings: &settings,
+    });
     let after = losing(&rt, rt.alloc(), &desk);
     check_words(&rt, "after", after.as_str(), "");
     let table = "

@@ -81,12 +81,17 @@ pub(crate) fn admitted(rt: &impl Abort, alloc: Global, row: &str) -> String {
     let level = level(row);
     let mut words = String::from_str(alloc, level.word()).expect(rt, "memory");
     for is_delegate in [false, true] {
-        for role in [Role::Nobody, Role::Member, Role::Reviewer] {
-            let answer = level.admits(role, is_delegate);
-            write!(words, " {answer}").expect(rt, "memory");
-        }
+        push_admitted(rt, &mut words, level, is_delegate);
     }
     words
+}
+
+// Whether nobody, a member and a reviewer have a level.
+fn push_admitted(rt: &impl Abort, words: &mut String, level: Level, is_delegate: bool) {
+    let nobody = level.admits(Role::Nobody, is_delegate);
+    let member = level.admits(Role::Member, is_delegate);
+    let reviewer = level.admits(Role::Reviewer, is_delegate);
+    write!(words, " {nobody} {member} {reviewer}").expect(rt, "memory");
 }
 
 #[test]

@@ -31,13 +31,15 @@ fn command_of(rt: &impl Abort, alloc: Global, command: &Command) -> String {
     String::from_str(alloc, word).expect(rt, "memory")
 }
 
+fn copy_of(rt: &impl Abort, alloc: Global, command: &Command) -> String {
+    let copy = command.copy(alloc).expect(rt, "memory");
+    command_of(rt, alloc, &copy)
+}
+
 // A command by its copy.
 fn spoken_of(rt: &impl Abort, alloc: Global, spoken: &Spoken) -> String {
     match spoken {
-        Spoken::Known(command) => {
-            let copy = command.copy(alloc).expect(rt, "memory");
-            command_of(rt, alloc, &copy)
-        }
+        Spoken::Known(command) => copy_of(rt, alloc, command),
         Spoken::Unknown => String::from_str(alloc, "unknown").expect(rt, "memory"),
     }
 }

@@ -37,11 +37,12 @@ fn limit_of(rt: &impl Abort, alloc: Global, settings: &Settings) -> String {
 
 // Settings in words, as `ci,lint; 3600; hold; 0; no limit`: the values in the order of their checks.
 fn words_of(rt: &impl Abort, alloc: Global, settings: &Settings) -> String {
-    let statuses = statuses_of(rt, alloc, settings);
+    let mut words = statuses_of(rt, alloc, settings);
     let labels = labels_of(rt, alloc, settings);
+    write!(words, "; {}; {labels}; ", settings.timeout_sec()).expect(rt, "memory");
     let limit = limit_of(rt, alloc, settings);
-    let (timeout, approvals) = (settings.timeout_sec(), settings.required_approvals());
-    format!(in alloc; "{statuses}; {timeout}; {labels}; {approvals}; {limit}").expect(rt, "memory")
+    write!(words, "{}; {limit}", settings.required_approvals()).expect(rt, "memory");
+    words
 }
 
 // A refusal by its number, and the key that it names.
@@ -80,14 +81,17 @@ fn check_text(rt: &impl Abort, alloc: Global, text: &str, words: &str) {
     check_words(rt, text, told(rt, alloc, text).as_str(), words);
 }
 
+// How many statuses and labels a copy of settings has.
+fn copy_counts(rt: &impl Abort, alloc: Global, settings: &Settings) -> (usize, usize) {
+    let copy = settings.copy(alloc).expect(rt, "memory");
+    (copy.status().len(), copy.block_labels().len())
+}
+
 // How many statuses and labels a text has, after a copy, or none if it is refused.
 fn counts(rt: &impl Abort, alloc: Global, front: &str, list: &str) -> (usize, usize) {
     let text = written(rt, alloc, front, list);
-    match read_settings(alloc, text.as_str()) {
-        Ok(settings) => {
-            let copy = settings.copy(alloc).expect(rt, "memory");
-            (copy.status().len(), copy.block_labels().len())
-        }
+    match &read_settings(alloc, text.as_str()) {
+        Ok(settings) => copy_counts(rt, alloc, settings),
         Err(_) => (0, 0),
     }
 }

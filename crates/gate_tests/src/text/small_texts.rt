@@ -13,18 +13,34 @@ fn told(rt: &impl Abort, alloc: Global, read: Result<&str, TextFault>) -> String
     }
 }
 
+// Each of these tells the copy of a text that was read.
+fn name_copy(rt: &impl Abort, alloc: Global, name: &Name) -> String {
+    let copy = name.copy(alloc).expect(rt, "memory");
+    told(rt, alloc, Ok(copy.text()))
+}
+
+fn label_copy(rt: &impl Abort, alloc: Global, label: &Label) -> String {
+    let copy = label.copy(alloc).expect(rt, "memory");
+    told(rt, alloc, Ok(copy.text()))
+}
+
+fn identifier_copy(rt: &impl Abort, alloc: Global, id: &DeliveryId) -> String {
+    let copy = id.copy(alloc).expect(rt, "memory");
+    told(rt, alloc, Ok(copy.text()))
+}
+
 // Each of these reads a text, copies what it has read, and tells the copy.
 fn name(rt: &impl Abort, alloc: Global, text: &str) -> String {
-    match Name::read(alloc, text) {
-        Ok(name) => told(rt, alloc, Ok(name.copy(alloc).expect(rt, "memory").text())),
-        Err(fault) => told(rt, alloc, Err(fault)),
+    match &Name::read(alloc, text) {
+        Ok(name) => name_copy(rt, alloc, name),
+        Err(fault) => told(rt, alloc, Err(*fault)),
     }
 }
 
 fn label(rt: &impl Abort, alloc: Global, text: &str) -> String {
-    match Label::read(alloc, text) {
-        Ok(label) => told(rt, alloc, Ok(label.copy(alloc).expect(rt, "memory").text())),
-        Err(fault) => told(rt, alloc, Err(fault)),
+    match &Label::read(alloc, text) {
+        Ok(label) => label_copy(rt, alloc, label),
+        Err(fault) => told(rt, alloc, Err(*fault)),
     }
 }
 
@@ -40,9 +56,9 @@ fn context(rt: &impl Abort, alloc: Global, text: &str) -> String {
 }
 
 fn identifier(rt: &impl Abort, alloc: Global, text: &str) -> String {
-    match DeliveryId::read(alloc, text) {
-        Ok(id) => told(rt, alloc, Ok(id.copy(alloc).expect(rt, "memory").text())),
-        Err(fault) => told(rt, alloc, Err(fault)),
+    match &DeliveryId::read(alloc, text) {
+        Ok(id) => identifier_copy(rt, alloc, id),
+        Err(fault) => told(rt, alloc, Err(*fault)),
     }
 }
 
@@ -82,13 +98,19 @@ fn answer(rt: &impl Abort, alloc: Global, reader: &str, text: &str) -> String {
 
 // A text in which `64 x a;` stands for 64 times the letter a, if there is such a part.
 fn written_out(rt: &impl Abort, alloc: Global, text: &str) -> String {
-    let Some((count, rest)) = text.split_once(" x ") else {
-        return String::from_str(alloc, text).expect(rt, "memory");
-    };
+    match text.split_once(" x ") {
+        Some((count, rest)) => letters(rt, alloc, count, rest),
+        None => String::from_str(alloc, text).expect(rt, "memory"),
+    }
+}
+
+// So many times the letter before a semicolon, and what stands behind that.
+fn letters(rt: &impl Abort, alloc: Global, count: &str, rest: &str) -> String {
     let (letter, end) = rest.split_once(';').expect(rt, "a semicolon");
     let count = count.parse::<usize>().expect(rt, "a count");
-    let letters = letter.repeat(alloc, count).expect(rt, "memory");
-    format!(in alloc; "{letters}{end}").expect(rt, "memory")
+    let mut letters = letter.repeat(alloc, count).expect(rt, "memory");
+    letters.push_str(end).expect(rt, "memory");
+    letters
 }
 
 // Each row has a text in brackets, as one reader answers it.

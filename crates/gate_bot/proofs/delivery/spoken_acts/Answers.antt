@@ -2,7 +2,7 @@ use Rattle.std.proofs.Common.{◌≡◌, map}
 use Rattle.std.proofs.lemmas.Result.{IfOk-weaker}
 use Rattle.std.specs.List.{All}
 use Rattle.gate_queue.specs.declared.act.Act.TheVariants as act
-use Rattle.gate_bot.specs.Acts.{ActKeepsLimits}
+use Rattle.gate_queue.specs.Acts.{ActKeepsLimits}
 use Rattle.gate_bot.proofs.ActLimits.{all_keep}
 use Rattle.gate_bot.proofs.delivery.spoken_acts.Goals as goal
 

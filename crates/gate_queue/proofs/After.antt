@@ -1,0 +1,159 @@
+-- What the history says of a change after one more event: by the act that the event did to the change, if it did one.
+use Rattle.std.proofs.Common.{◌≡◌, ℕ, ℤ, pos, Bool, true, false, cond, not, ◌&&◌, ◌||◌, List, [], ◌∷◌, Option, Some, None, is_some, eqb, refl, sym, ◌∙◌, ap}
+use Rattle.std.specs.FinSet as set
+use Rattle.std.specs.Option.{option_and_then, option_map, option_map_or, option_or, unwrap_or}
+use Rattle.gate_text.specs.Settings.{SettingsView}
+use Rattle.gate_rules.specs.Rules.{Texts, is_fit}
+use Rattle.gate_rules.specs.declared.change.Change.{Change}
+use Rattle.gate_rules.specs.declared.change.Phase.{Phase}
+use Rattle.gate_rules.specs.declared.change.Phase.TheVariants as phase
+use Rattle.gate_rules.specs.declared.change.Repeat.{Repeat}
+use Rattle.gate_queue.specs.History.{Event, did, last_of, done_to, said_on, author_in, author_back, head_in, moves_head, phase_in, priority_in, repeat_in, marked, label_in, labels_back, review_in, reviews_back, delegation_in, delegated, delegates_back, settings_back, fit_back, approval_in, ends_it, ends, standing_back, approvers_back, change_of, change_back}
+use Rattle.gate_queue.specs.declared.act.Act.{Act}
+
+-- STANDING AND FIT
+fit_so : (starts keeps fit had : Bool) → ((starts && fit) || ((keeps && fit) && had)) ≡ true → fit ≡ true
+fit_so starts keeps true had is = refl
+fit_so true true false had is = is
+fit_so true false false had is = is
+fit_so false true false had is = is
+fit_so false false false had is = is
+
+-- a change that is standing is fit
+pub standing_fit : (events : List Event) (change : ℕ) → standing_back events change ≡ true → fit_back events change ≡ true
+standing_fit [] change is = cc is
+standing_fit (event ∷ events) change is =
+    fit_so (is_some (said_on change approval_in event events)) (not (ends change event events)) (fit_back (event ∷ events) change) (standing_back events change) is
+
+goes_on : {X : Type 0} (keeps fit had : Bool) (last : Option X) → cond ((keeps && fit) && had) last None ≡ cond (keeps && fit) (cond had last None) None
+goes_on true true had last = refl
+goes_on true false had last = refl
+goes_on false fit had last = refl
+
+-- an approval that is kept if the change stays fit
+pub kept : {X : Type 0} (fit had : Bool) (last : Option X) → (had ≡ true → fit ≡ true) → cond fit (cond had last None) None ≡ cond had last None
+kept true had last so = refl
+kept false true last so = cc (so refl)
+kept false false last so = refl
+
+-- a change that was opened, altered as the history has it
+altered_as : (alter : Change → Change) (was is : List ℕ → Change) (author : Option (List ℕ)) → ((a : List ℕ) → author ≡ Some a → alter (was a) ≡ is a)
+    → option_map alter (option_map was author) ≡ option_map is author
+altered_as alter was is None so = refl
+altered_as alter was is (Some a) so = ap Some (so a refl)
+
+-- AFTER ONE MORE EVENT, under the settings of then
+module _ (events : List Event) (c : ℕ) (settings : Option SettingsView) (done : Option Act) where
+  abbrev moves_after : Bool
+  moves_after = option_map_or (moves_head c events) done false
+
+  abbrev pub author_after : Option (List ℕ)
+  author_after = option_or (option_and_then author_in done) (author_back events c)
+
+  abbrev pub phase_after : Phase
+  phase_after = unwrap_or (option_or (option_and_then phase_in done) (last_of (said_on c phase_in) events)) phase.Closed
+
+  abbrev pub priority_after : ℤ
+  priority_after = unwrap_or (option_or (option_and_then priority_in done) (last_of (said_on c priority_in) events)) (pos 0)
+
+  abbrev pub labels_after : Texts
+  labels_after = marked (option_and_then label_in done) (labels_back events c)
+
+  abbrev reviews_after : Texts
+  reviews_after = cond moves_after set.empty (marked (option_and_then review_in done) (reviews_back events c))
+
+  abbrev pub delegates_after : Texts
+  delegates_after = delegated (author_back events c) (option_and_then delegation_in done) (delegates_back events c)
+
+  abbrev pub repeat_after : Option Repeat
+  repeat_after = option_or (option_and_then repeat_in done) (last_of (said_on c repeat_in) events)
+
+  abbrev pub fit_after : Bool
+  fit_after = is_fit settings phase_after labels_after reviews_after
+
+  abbrev standing_after : Bool
+  standing_after =
+      (is_some (option_and_then approval_in done) && fit_after) || ((not (option_map_or (ends_it c events) done false) && fit_after) && standing_back events c)
+
+  abbrev pub approvers_after : Option (List (List ℕ))
+  approvers_after = cond standing_after (option_or (option_and_then approval_in done) (last_of (said_on c approval_in) events)) None
+
+  abbrev pub change_of_after : List ℕ → Change
+  change_of_after author = record {
+    author = author;
+    head = unwrap_or (option_or (option_and_then head_in done) (last_of (said_on c head_in) events)) [];
+    phase = phase_after;
+    priority = priority_after;
+    labels = labels_after;
+    reviews = reviews_after;
+    delegates = delegates_after;
+    approved = approvers_after;
+    last = repeat_after;
+  }
+
+  abbrev pub change_after : Option Change
+  change_after = option_map change_of_after author_after
+
+told : (events : List Event) (c : ℕ) (event : Event) → change_back (event ∷ events) c ≡ change_after events c (settings_back (event ∷ events)) (done_to c event)
+told events c event = refl
+
+module _ (events : List Event) (c : ℕ) where
+  -- AN EVENT THAT DID NOTHING TO THE CHANGE
+  untouched : approvers_after events c (settings_back events) None ≡ approvers_back events c
+  untouched =
+      goes_on true (fit_back events c) (standing_back events c) (last_of (said_on c approval_in) events)
+      ∙ kept (fit_back events c) (standing_back events c) (last_of (said_on c approval_in) events) (standing_fit events c)
+
+  unaltered : change_after events c (settings_back events) None ≡ change_back events c
+  unaltered = λ i. option_map (λ author. record (change_of events c author) { approved = untouched i }) (author_back events c)
+
+  pub elsewhere : (event : Event) → done_to c event ≡ None → settings_back (event ∷ events) ≡ settings_back events → change_back (event ∷ events) c ≡ change_back events c
+  elsewhere event none same = (λ i. change_after events c (same i) (none i)) ∙ unaltered
+
+  -- new settings: the approval goes on if the change is fit under them
+  pub unless_unfit : (settings : Option SettingsView) → approvers_after events c settings None ≡ cond (fit_after events c settings None) (approvers_back events c) None
+  unless_unfit settings = goes_on true (fit_after events c settings None) (standing_back events c) (last_of (said_on c approval_in) events)
+
+  -- AN ACT ON THE CHANGE
+  pub altered_here : (alter : Change → Change) (act : Act) → author_after events c (settings_back events) (Some act) ≡ author_back events c
+      → ((author : List ℕ) → author_back events c ≡ Some author → alter (change_of events c author) ≡ change_of_after events c (settings_back events) (Some act) author)
+      → option_map alter (change_back events c) ≡ change_after events c (settings_back events) (Some act)
+  altered_here alter act author so =
+      altered_as alter (change_of events c) (change_of_after events c (settings_back events) (Some act)) (author_back events c) so
+      ∙ ap (option_map (change_of_after events c (settings_back events) (Some act))) (sym author)
+
+  -- one that approves nothing
+  pub silent : (act : Act) → approval_in act ≡ None
+      → approvers_after events c (settings_back events) (Some act) ≡ cond (not (ends_it c events act) && fit_after events c (settings_back events) (Some act)) (approvers_back events c) None
+  silent act none = rw none (goes_on (not (ends_it c events act)) (fit_after events c (settings_back events) (Some act)) (standing_back events c) _)
+
+  -- and ends the approval
+  pub ended : (act : Act) → approval_in act ≡ None → ends_it c events act ≡ true → approvers_after events c (settings_back events) (Some act) ≡ None
+  ended act none ending =
+      silent act none ∙ ap (λ (b : Bool). cond (not b && fit_after events c (settings_back events) (Some act)) (approvers_back events c) None) ending
+
+  -- or ends nothing, and leaves the change fit if it was
+  pub stays : (act : Act) → approval_in act ≡ None → ends_it c events act ≡ false
+      → (fit_back events c ≡ true → fit_after events c (settings_back events) (Some act) ≡ true)
+      → approvers_after events c (settings_back events) (Some act) ≡ approvers_back events c
+  stays act none goes fit =
+      silent act none
+      ∙ ap (λ (b : Bool). cond (not b && fit_after events c (settings_back events) (Some act)) (approvers_back events c) None) goes
+      ∙ kept (fit_after events c (settings_back events) (Some act)) (standing_back events c) _ (λ standing. fit (standing_fit events c standing))
+
+  -- a line that says nothing which is kept
+  pub quiet_line : (act : Act) → author_after events c (settings_back events) (Some act) ≡ author_back events c
+      → ((author : List ℕ) → change_of_after events c (settings_back events) (Some act) author ≡ record (change_of events c author) { approved = approvers_after events c (settings_back events) (Some act) })
+      → approvers_after events c (settings_back events) (Some act) ≡ approvers_back events c
+      → option_map (λ change. change) (change_back events c) ≡ change_after events c (settings_back events) (Some act)
+  quiet_line act author so approvers =
+      altered_here (λ change. change) act author (λ a is. (λ i. record (change_of events c a) { approved = (sym approvers) i }) ∙ sym (so a))
+
+  -- BY THE NUMBER: an act on one change, seen from this one
+  pub by_number : (n : ℕ) (act : Act) (after : Option Change → Option Change)
+      → done_to c (did act) ≡ cond (eqb c n) (Some act) None → settings_back (did act ∷ events) ≡ settings_back events
+      → (eqb c n ≡ true → after (change_back events c) ≡ change_after events c (settings_back events) (Some act))
+      → (b : Bool) → eqb c n ≡ b → cond b (after (change_back events c)) (change_back events c) ≡ change_back (did act ∷ events) c
+  by_number n act after about same here true is =
+      here is ∙ (λ i. change_after events c ((sym same) i) ((sym (about ∙ ap (λ (b : Bool). cond b (Some act) None) is)) i))
+  by_number n act after about same here false is = sym (elsewhere (did act) (about ∙ ap (λ (b : Bool). cond b (Some act) None) is) same)

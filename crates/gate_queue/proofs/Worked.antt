@@ -1,0 +1,86 @@
+-- Worked acts: what the definitions come to on a short history. Each is computed.
+use Rattle.std.proofs.Common.{◌≡◌, ℕ, pos, true, false, List, [], ◌∷◌, Some, None, refl}
+use Rattle.gate_text.specs.declared.command.Command.TheVariants.{Approve, Withdraw, Priority, Retry}
+use Rattle.gate_text.specs.declared.command.Spoken.TheVariants.{Known, Unknown}
+use Rattle.gate_rules.specs.Rules.{need, permits}
+use Rattle.gate_rules.specs.declared.change.Phase.TheVariants as phase
+use Rattle.gate_rules.specs.declared.change.Repeat.TheVariants as repeat
+use Rattle.gate_rules.specs.declared.role.Level.TheVariants as level
+use Rattle.gate_rules.specs.declared.role.Role.TheVariants.{Nobody, Reviewer}
+use Rattle.gate_rules.specs.declared.rule.Rule.TheVariants.{UnknownChange, NotACommand, NotOpen, NoSettings, NotApproved, AlreadyOpen, SameAsBase}
+use Rattle.gate_queue.specs.Acts.{on}
+use Rattle.gate_queue.specs.History.{Event, did, role_back, author_back, head_back, moves, phase_back, priority_back, standing_back, look_back}
+use Rattle.gate_queue.specs.Machine.{empty_state, broken, reply_to, pushed, ends_approval, just_opened, approved_by}
+use Rattle.gate_queue.specs.declared.act.Act.TheVariants.{Spoken, Role, Base, Opened, Pushed, Closed}
+use Rattle.gate_queue.specs.declared.reply.Reply.TheVariants.{Done}
+
+abbrev alice : List ℕ
+alice = 97 ∷ 108 ∷ []
+
+abbrev eve : List ℕ
+eve = 101 ∷ []
+
+abbrev carol : List ℕ
+carol = 99 ∷ []
+
+abbrev a : List ℕ
+a = 10 ∷ []
+
+abbrev b : List ℕ
+b = 11 ∷ []
+
+-- Alice is a reviewer, and carol has opened change 1.
+abbrev opened_one : List Event
+opened_one = did (Opened 1 carol a) ∷ did (Role alice Reviewer) ∷ []
+
+roles : (role_back opened_one alice ≡ Reviewer) × (role_back opened_one eve ≡ Nobody)
+roles = (refl, refl)
+
+authors : (author_back opened_one 1 ≡ Some carol) × (author_back opened_one 2 ≡ None)
+authors = (refl, refl)
+
+-- a push of the same head is no head move, and one of another change neither
+head_moves : (moves 1 (did (Pushed 1 b)) opened_one ≡ true) × (moves 1 (did (Pushed 1 a)) opened_one ≡ false) × (moves 1 (did (Pushed 2 b)) opened_one ≡ false)
+head_moves = (refl, refl, refl)
+
+heads : head_back (did (Pushed 2 b) ∷ did (Pushed 1 b) ∷ opened_one) 1 ≡ b
+heads = refl
+
+closed_then_opened : (phase_back (did (Closed 1) ∷ opened_one) 1 ≡ phase.Closed) × (phase_back (did (Opened 1 carol a) ∷ did (Closed 1) ∷ opened_one) 1 ≡ phase.Opened)
+closed_then_opened = (refl, refl)
+
+priorities : priority_back (did (Spoken 1 alice (Known (Priority (pos 5)))) ∷ opened_one) 1 ≡ pos 5
+priorities = refl
+
+-- what denies a command, and what is asked for first
+denials : (broken (look_back opened_one) (Spoken 2 alice Unknown) ≡ Some UnknownChange)
+    × (broken (look_back opened_one) (Spoken 1 alice Unknown) ≡ Some NotACommand)
+    × (broken (look_back opened_one) (Spoken 1 alice (Known Approve)) ≡ Some NoSettings)
+    × (broken (look_back opened_one) (Spoken 1 alice (Known Withdraw)) ≡ Some NotApproved)
+denials = (refl, refl, refl, refl)
+
+-- what a command needs, and who has it
+levels : (need (look_back opened_one) 1 Approve ≡ level.ReviewerOrDelegate) × (permits (look_back opened_one) alice 1 Approve ≡ true) × (need (look_back opened_one) 1 Retry ≡ level.Member)
+levels = (refl, refl, refl)
+
+-- what denies a fact
+facts : (broken (look_back opened_one) (Opened 1 carol a) ≡ Some AlreadyOpen)
+    × (broken (look_back (did (Closed 1) ∷ opened_one)) (Closed 1) ≡ Some NotOpen)
+    × (broken (look_back (did (Base a) ∷ opened_one)) (Base a) ≡ Some SameAsBase)
+    × (broken (look_back (did (Base a) ∷ opened_one)) (Base b) ≡ None)
+facts = (refl, refl, refl, refl)
+
+-- an approval without settings isn't one: the change isn't fit
+unfit : standing_back (did (Spoken 1 alice (Known Approve)) ∷ opened_one) 1 ≡ false
+unfit = refl
+
+-- another head ends an approval, and the same one doesn't
+pushes : (ends_approval (pushed b) (approved_by (alice ∷ []) repeat.Approve (just_opened carol a)) ≡ true)
+    × (ends_approval (pushed a) (approved_by (alice ∷ []) repeat.Approve (just_opened carol a)) ≡ false)
+pushes = (refl, refl)
+
+first_reply : reply_to empty_state (Role alice Reviewer) ≡ Done []
+first_reply = refl
+
+subjects : (on 1 (Closed 1) ≡ Some (Closed 1)) × (on 2 (Closed 1) ≡ None) × (on 1 (Base a) ≡ None)
+subjects = (refl, refl, refl)

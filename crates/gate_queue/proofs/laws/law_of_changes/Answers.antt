@@ -1,0 +1,23 @@
+use Rattle.gate_queue.proofs.Counts.{enqueue_law, take_out_law, restart_law, start_law, requeue_law, fail_law, drop_law}
+use Rattle.gate_queue.proofs.laws.law_of_changes.Goals as goal
+
+pub returns-clause-enqueue : goal.returns-clause-enqueue
+returns-clause-enqueue c = enqueue_law
+
+pub returns-clause-take_out : goal.returns-clause-take_out
+returns-clause-take_out c = take_out_law
+
+pub returns-clause-restart : goal.returns-clause-restart
+returns-clause-restart c = restart_law
+
+pub returns-clause-start : goal.returns-clause-start
+returns-clause-start c = start_law
+
+pub returns-clause-requeue : goal.returns-clause-requeue
+returns-clause-requeue c = requeue_law
+
+pub returns-clause-fail : goal.returns-clause-fail
+returns-clause-fail c = fail_law
+
+pub returns-clause-drop : goal.returns-clause-drop
+returns-clause-drop c = drop_law

@@ -1,0 +1,8 @@
+use Rattle.gate_queue.proofs.Service.{placed_in_service, left_in_service}
+use Rattle.gate_queue.proofs.laws.law_of_service.Goals as goal
+
+pub returns-clause-places : goal.returns-clause-places
+returns-clause-places c = placed_in_service
+
+pub returns-clause-rests : goal.returns-clause-rests
+returns-clause-rests c = left_in_service

@@ -1,0 +1,28 @@
+-- WHAT AN ACT IS ABOUT, and the limits that it keeps.
+use Rattle.std.specs.Prelude.{ℕ, ◌==◌, false, ⊤, Option, Some, None, if◌then◌else◌}
+use Rattle.std.specs.Option.{option_map_or}
+use Rattle.gate_text.specs.Limits.{KeepsLimits}
+use Rattle.gate_queue.specs.declared.act.Act.{Act}
+use Rattle.gate_queue.specs.declared.act.Act.TheVariants.{Spoken, Role, Settings, Base, Opened, Pushed, Closed, Labeled, Unlabeled, Review}
+
+-- the change, if there is one
+abbrev pub subject : Act → Option ℕ
+subject (Spoken change person spoken) = Some change
+subject (Role person role) = None
+subject (Settings text) = None
+subject (Base commit) = None
+subject (Opened change author head) = Some change
+subject (Pushed change head) = Some change
+subject (Closed change) = Some change
+subject (Labeled change label) = Some change
+subject (Unlabeled change label) = Some change
+subject (Review change person head approves) = Some change
+
+-- the act, if it is about this change
+abbrev pub on : ℕ → Act → Option Act
+on change act = if option_map_or (λ other. change == other) (subject act) false then Some act else None
+
+-- What a comment says keeps its limits, as all does that `read_comment` reads.
+abbrev pub ActKeepsLimits : Act → Type 0
+ActKeepsLimits (Spoken change person spoken) = KeepsLimits spoken
+ActKeepsLimits _ = ⊤
