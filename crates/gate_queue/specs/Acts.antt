@@ -1,7 +1,9 @@
 -- WHAT AN ACT IS ABOUT, and the limits that it keeps.
 use Rattle.std.specs.Prelude.{ℕ, ◌==◌, false, ⊤, Option, Some, None, if◌then◌else◌}
 use Rattle.std.specs.Option.{option_map_or}
-use Rattle.gate_text.specs.Limits.{KeepsLimits}
+use Rattle.gate_text.specs.Limits.{IsPriority, AreNames}
+use Rattle.gate_text.specs.declared.command.Command.TheVariants.{ApproveFor, Priority}
+use Rattle.gate_text.specs.declared.command.Spoken.TheVariants.{Known}
 use Rattle.gate_queue.specs.declared.act.Act.{Act}
 use Rattle.gate_queue.specs.declared.act.Act.TheVariants.{Spoken, Role, Settings, Base, Opened, Pushed, Closed, Labeled, Unlabeled, Review}
 
@@ -22,7 +24,9 @@ subject (Review change person head approves) = Some change
 abbrev pub on : ℕ → Act → Option Act
 on change act = if option_map_or (λ other. change == other) (subject act) false then Some act else None
 
--- What a comment says keeps its limits, as all does that `read_comment` reads.
+-- A priority is from -9999 to 9999, and an `r=` lists one or more names, no two the same. What `read_comment` reads keeps
+-- that.
 abbrev pub ActKeepsLimits : Act → Type 0
-ActKeepsLimits (Spoken change person spoken) = KeepsLimits spoken
+ActKeepsLimits (Spoken change person (Known (Priority priority))) = IsPriority priority
+ActKeepsLimits (Spoken change person (Known (ApproveFor names))) = AreNames names
 ActKeepsLimits _ = ⊤
