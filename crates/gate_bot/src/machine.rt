@@ -8,8 +8,8 @@ use crate::answers::Answer;
 use gate_queue::{Act, Fault, Gate};
 use std::alloc::Global;
 
-/// Lets acts that keep their limits step on the gate in order, and answers the gate after them and their replies. The one fault is `Memory`; the
-/// gate is spent then.
+/// Lets acts that keep their limits step on the gate in order, and answers the gate after them and their replies. The one
+/// fault is `Memory`; the gate is spent then.
 pub fn step_all(gate: Gate, alloc: Global, acts: &[Act]) -> Result<(Gate, Answer), Fault>
     requires { All ActKeepsLimits acts.now }
     ensures replies { IfOk result (λ done. done.1.items ≡ replies_to gate acts.now) }

@@ -8,7 +8,7 @@ use Rattle.gate_rules.specs.declared.change.Change.{Change}
 use Rattle.gate_rules.specs.declared.change.Phase.{Phase}
 use Rattle.gate_rules.specs.declared.change.Phase.TheVariants as phase
 use Rattle.gate_rules.specs.declared.change.Repeat.{Repeat}
-use Rattle.gate_queue.specs.History.{Event, did, last_of, done_to, said_on, author_in, author_back, head_in, moves_head, phase_in, priority_in, repeat_in, marked, label_in, labels_back, review_in, reviews_back, delegation_in, delegated, delegates_back, settings_back, fit_back, approval_in, ends_it, ends, standing_back, approvers_back, change_of, change_back}
+use Rattle.gate_queue.specs.History.{Event, did, last_of, done_to, said_on, author_said, author_back, head_said, moves_head, phase_said, priority_said, repeat_said, marked, label_said, labels_back, review_said, reviews_back, delegation_said, delegated, delegates_back, settings_back, fit_back, approval_said, ends_it, ends, standing_back, approvers_back, change_of, change_back}
 use Rattle.gate_queue.specs.declared.act.Act.{Act}
 
 -- STANDING AND FIT
@@ -23,7 +23,7 @@ fit_so false false false had is = is
 pub standing_fit : (events : List Event) (change : ℕ) → standing_back events change ≡ true → fit_back events change ≡ true
 standing_fit [] change is = cc is
 standing_fit (event ∷ events) change is =
-    fit_so (is_some (said_on change approval_in event events)) (not (ends change event events)) (fit_back (event ∷ events) change) (standing_back events change) is
+    fit_so (is_some (said_on change approval_said event events)) (not (ends change event events)) (fit_back (event ∷ events) change) (standing_back events change) is
 
 goes_on : {X : Type 0} (keeps fit had : Bool) (last : Option X) → cond ((keeps && fit) && had) last None ≡ cond (keeps && fit) (cond had last None) None
 goes_on true true had last = refl
@@ -48,40 +48,40 @@ module _ (events : List Event) (c : ℕ) (settings : Option SettingsView) (done 
   moves_after = option_map_or (moves_head c events) done false
 
   abbrev pub author_after : Option (List ℕ)
-  author_after = option_or (option_and_then author_in done) (author_back events c)
+  author_after = option_or (option_and_then author_said done) (author_back events c)
 
   abbrev pub phase_after : Phase
-  phase_after = unwrap_or (option_or (option_and_then phase_in done) (last_of (said_on c phase_in) events)) phase.Closed
+  phase_after = unwrap_or (option_or (option_and_then phase_said done) (last_of (said_on c phase_said) events)) phase.Closed
 
   abbrev pub priority_after : ℤ
-  priority_after = unwrap_or (option_or (option_and_then priority_in done) (last_of (said_on c priority_in) events)) (pos 0)
+  priority_after = unwrap_or (option_or (option_and_then priority_said done) (last_of (said_on c priority_said) events)) (pos 0)
 
   abbrev pub labels_after : Texts
-  labels_after = marked (option_and_then label_in done) (labels_back events c)
+  labels_after = marked (option_and_then label_said done) (labels_back events c)
 
   abbrev reviews_after : Texts
-  reviews_after = cond moves_after set.empty (marked (option_and_then review_in done) (reviews_back events c))
+  reviews_after = cond moves_after set.empty (marked (option_and_then review_said done) (reviews_back events c))
 
   abbrev pub delegates_after : Texts
-  delegates_after = delegated (author_back events c) (option_and_then delegation_in done) (delegates_back events c)
+  delegates_after = delegated (author_back events c) (option_and_then delegation_said done) (delegates_back events c)
 
   abbrev pub repeat_after : Option Repeat
-  repeat_after = option_or (option_and_then repeat_in done) (last_of (said_on c repeat_in) events)
+  repeat_after = option_or (option_and_then repeat_said done) (last_of (said_on c repeat_said) events)
 
   abbrev pub fit_after : Bool
   fit_after = is_fit settings phase_after labels_after reviews_after
 
   abbrev standing_after : Bool
   standing_after =
-      (is_some (option_and_then approval_in done) && fit_after) || ((not (option_map_or (ends_it c events) done false) && fit_after) && standing_back events c)
+      (is_some (option_and_then approval_said done) && fit_after) || ((not (option_map_or (ends_it c events) done false) && fit_after) && standing_back events c)
 
   abbrev pub approvers_after : Option (List (List ℕ))
-  approvers_after = cond standing_after (option_or (option_and_then approval_in done) (last_of (said_on c approval_in) events)) None
+  approvers_after = cond standing_after (option_or (option_and_then approval_said done) (last_of (said_on c approval_said) events)) None
 
   abbrev pub change_of_after : List ℕ → Change
   change_of_after author = record {
     author = author;
-    head = unwrap_or (option_or (option_and_then head_in done) (last_of (said_on c head_in) events)) [];
+    head = unwrap_or (option_or (option_and_then head_said done) (last_of (said_on c head_said) events)) [];
     phase = phase_after;
     priority = priority_after;
     labels = labels_after;
@@ -94,15 +94,12 @@ module _ (events : List Event) (c : ℕ) (settings : Option SettingsView) (done 
   abbrev pub change_after : Option Change
   change_after = option_map change_of_after author_after
 
-told : (events : List Event) (c : ℕ) (event : Event) → change_back (event ∷ events) c ≡ change_after events c (settings_back (event ∷ events)) (done_to c event)
-told events c event = refl
-
 module _ (events : List Event) (c : ℕ) where
   -- AN EVENT THAT DID NOTHING TO THE CHANGE
   untouched : approvers_after events c (settings_back events) None ≡ approvers_back events c
   untouched =
-      goes_on true (fit_back events c) (standing_back events c) (last_of (said_on c approval_in) events)
-      ∙ kept (fit_back events c) (standing_back events c) (last_of (said_on c approval_in) events) (standing_fit events c)
+      goes_on true (fit_back events c) (standing_back events c) (last_of (said_on c approval_said) events)
+      ∙ kept (fit_back events c) (standing_back events c) (last_of (said_on c approval_said) events) (standing_fit events c)
 
   unaltered : change_after events c (settings_back events) None ≡ change_back events c
   unaltered = λ i. option_map (λ author. record (change_of events c author) { approved = untouched i }) (author_back events c)
@@ -112,7 +109,7 @@ module _ (events : List Event) (c : ℕ) where
 
   -- new settings: the approval goes on if the change is fit under them
   pub unless_unfit : (settings : Option SettingsView) → approvers_after events c settings None ≡ cond (fit_after events c settings None) (approvers_back events c) None
-  unless_unfit settings = goes_on true (fit_after events c settings None) (standing_back events c) (last_of (said_on c approval_in) events)
+  unless_unfit settings = goes_on true (fit_after events c settings None) (standing_back events c) (last_of (said_on c approval_said) events)
 
   -- AN ACT ON THE CHANGE
   pub altered_here : (alter : Change → Change) (act : Act) → author_after events c (settings_back events) (Some act) ≡ author_back events c
@@ -123,17 +120,17 @@ module _ (events : List Event) (c : ℕ) where
       ∙ ap (option_map (change_of_after events c (settings_back events) (Some act))) (sym author)
 
   -- one that approves nothing
-  pub silent : (act : Act) → approval_in act ≡ None
+  pub silent : (act : Act) → approval_said act ≡ None
       → approvers_after events c (settings_back events) (Some act) ≡ cond (not (ends_it c events act) && fit_after events c (settings_back events) (Some act)) (approvers_back events c) None
   silent act none = rw none (goes_on (not (ends_it c events act)) (fit_after events c (settings_back events) (Some act)) (standing_back events c) _)
 
   -- and ends the approval
-  pub ended : (act : Act) → approval_in act ≡ None → ends_it c events act ≡ true → approvers_after events c (settings_back events) (Some act) ≡ None
+  pub ended : (act : Act) → approval_said act ≡ None → ends_it c events act ≡ true → approvers_after events c (settings_back events) (Some act) ≡ None
   ended act none ending =
       silent act none ∙ ap (λ (b : Bool). cond (not b && fit_after events c (settings_back events) (Some act)) (approvers_back events c) None) ending
 
   -- or ends nothing, and leaves the change fit if it was
-  pub stays : (act : Act) → approval_in act ≡ None → ends_it c events act ≡ false
+  pub stays : (act : Act) → approval_said act ≡ None → ends_it c events act ≡ false
       → (fit_back events c ≡ true → fit_after events c (settings_back events) (Some act) ≡ true)
       → approvers_after events c (settings_back events) (Some act) ≡ approvers_back events c
   stays act none goes fit =

@@ -1,10 +1,13 @@
 -- What is done to waiting batches, as sums over them see it, and the laws of changes.
-use Rattle.std.proofs.Common.{◌≡◌, ◌+◌, ℕ, zero, suc, eqb, Bool, true, false, cond, not, ◌&&◌, List, [], ◌∷◌, ◌++◌, length, slice_get, slice_set, if◌then◌else◌, Option, Some, None, refl, sym, ◌∙◌, ap, arith}
-use Rattle.std.proofs.lemmas.Bool.Decides.{nat_tests}
-use Rattle.std.proofs.lemmas.List.Sums.{sum_by-cons, sum_by-insert, sum_by-take-drop, sum_by_push}
+use Rattle.std.proofs.Common.{◌≡◌, ◌+◌, ℕ, suc, ℤ, eqb, Bool, true, false, cond, not, ◌&&◌, List, [], ◌∷◌, ◌++◌, length, slice_get, slice_set, if◌then◌else◌, Option, Some, None, refl, sym, ◌∙◌, ap, arith}
+use Rattle.std.proofs.lemmas.Bool.{and_parts}
+use Rattle.std.proofs.lemmas.Bool.Decides.{nat_tests, Decides-int_eq}
+use Rattle.std.proofs.lemmas.List.Sums.{sum_by-cons, sum_by-insert, sum_by-set, sum_by-take-drop, sum_by_push}
+use Rattle.std.proofs.lemmas.Option.{slice_get_within, get_or_from_slice_get, same_Some}
 use Rattle.std.specs.List.{sum_by, filter, list_all}
-use Rattle.std.specs.Option.{option_map_or, unwrap_or}
-use Rattle.gate_queue.specs.Counts.{occurs, inside, held, running, landing, alone, LawOfEnqueue, LawOfTakeOut, LawOfRestart, LawOfStart, LawOfRequeue, LawOfFail, LawOfDrop}
+use Rattle.std.specs.Bool.{then_some}
+use Rattle.std.specs.Option.{option_map, option_map_or, option_or}
+use Rattle.gate_queue.specs.Counts.{occurs, held_by, inside, held, in_running, in_landing, in_lone, LawOfEnqueue, LawOfTakeOut, LawOfRestart, LawOfStart, LawOfRequeue, LawOfFail, LawOfDrop}
 use Rattle.gate_queue.specs.Lanes as lanes
 use Rattle.gate_queue.specs.Lanes.{placed, retried, with_change, has_changes, back, only, left, half, first_half, second_half, split_into}
 use Rattle.gate_queue.specs.declared.batch.Batch.{Batch}
@@ -47,174 +50,193 @@ occurs-push : (change : ℕ) (changes : List ℕ) (last : ℕ) → occurs change
 occurs-push change changes last = sum_by_push (λ other. once (eqb change other)) changes last
 
 -- the chosen ones alone
-module _ (stays : ℕ → Bool) (change : ℕ) where
-  neither : (b : Bool) → ◌≡◌ {A = ℕ} 0 (if b then 0 else 0)
-  neither true = refl
-  neither false = refl
+occurs-filter : (stays : ℕ → Bool) (change : ℕ) (changes : List ℕ) → occurs change (filter stays changes) ≡ (if stays change then occurs change changes else 0)
+occurs-filter stays change [] = grind (arith, nat_tests)
+occurs-filter stays change (first ∷ changes) =
+    let others = occurs-filter stays change changes in
+    let all = one changes in
+    let kept = one (filter stays changes) in
+    grind (arith, nat_tests) where
+      one : (cs : List ℕ) → occurs change (first ∷ cs) ≡ once (eqb change first) + occurs change cs
+      one cs = sum_by-cons (λ other. once (eqb change other)) first cs
 
-  occurs-filter : (changes : List ℕ) → occurs change (filter stays changes) ≡ (if stays change then occurs change changes else 0)
-  occurs-filter [] = neither (stays change)
-  occurs-filter (first ∷ changes) = turn (stays first) (occurs-filter changes) refl where
-    one : (cs : List ℕ) → occurs change (first ∷ cs) ≡ once (eqb change first) + occurs change cs
-    one cs = sum_by-cons (λ other. once (eqb change other)) first cs
-
-    turn : (b : Bool) → occurs change (filter stays changes) ≡ (if stays change then occurs change changes else 0) → stays first ≡ b
-        → occurs change (cond b (first ∷ filter stays changes) (filter stays changes)) ≡ (if stays change then occurs change (first ∷ changes) else 0)
-    turn true h is =
-        let kept = one (filter stays changes) in
-        let all = one changes in
-        grind (arith, nat_tests)
-    turn false h is =
-        let all = one changes in
-        grind (arith, nat_tests)
-
--- an empty batch holds nothing
-held_if : (change : ℕ) (batch : Batch) → (if has_changes batch then occurs change batch.changes else 0) ≡ occurs change batch.changes
-held_if change batch = by batch.changes where
-  by : (changes : List ℕ) → (if not (eqb (length changes) 0) then occurs change changes else 0) ≡ occurs change changes
-  by [] = refl
-  by (first ∷ changes) = grind (arith, nat_tests)
-
--- THE LAWS OF CHANGES
-module _ (change : ℕ) where
+-- THE LAWS OF CHANGES, for batches whose priority passes a test
+module _ (test : ℤ → Bool) (change : ℕ) where
   abbrev of : Batch → ℕ
-  of batch = occurs change batch.changes
+  of batch = held_by test change batch
 
-  in_placed : (batch : Batch) (waiting : List Batch) → inside change (placed batch waiting) ≡ of batch + inside change waiting
+  -- an empty batch holds nothing
+  held_if : (batch : Batch) → (if has_changes batch then of batch else 0) ≡ of batch
+  held_if batch = by (test batch.priority) batch.changes where
+    by : (passes : Bool) (changes : List ℕ) → (if not (eqb (length changes) 0) then (if passes then occurs change changes else 0) else 0) ≡ (if passes then occurs change changes else 0)
+    by passes [] = grind (arith, nat_tests)
+    by passes (first ∷ changes) = grind (arith, nat_tests)
+
+  of_only : (stays : ℕ → Bool) (batch : Batch) → of (only stays batch) ≡ (if stays change then of batch else 0)
+  of_only stays batch = let kept = occurs-filter stays change batch.changes in grind (arith, nat_tests)
+
+  of_halves : (batch : Batch) → of (first_half batch) + of (second_half batch) ≡ of batch
+  of_halves batch = let halves = sum_by-take-drop (λ other. once (eqb change other)) batch.changes (half batch) in grind (arith, nat_tests)
+
+  of_joined : (joined : ℕ) (batch : Batch) → of (with_change joined batch) ≡ of batch + once (eqb change joined && test batch.priority)
+  of_joined joined batch = let one = occurs-push change batch.changes joined in grind (arith, nat_tests)
+
+  in_placed : (batch : Batch) (waiting : List Batch) → inside test change (placed batch waiting) ≡ of batch + inside test change waiting
   in_placed batch waiting = sum-placed of batch waiting
 
-  in_back : (number : ℕ) (batch : Batch) (waiting : List Batch) → inside change (back number batch waiting) ≡ of batch + inside change waiting
-  in_back number batch waiting = sum-back of number batch waiting ∙ ap (λ (n : ℕ). n + inside change waiting) (held_if change batch)
+  in_back : (number : ℕ) (batch : Batch) (waiting : List Batch) → inside test change (back number batch waiting) ≡ of batch + inside test change waiting
+  in_back number batch waiting = sum-back of number batch waiting ∙ ap (λ (n : ℕ). n + inside test change waiting) (held_if batch)
 
   neither_all : (waiting : List Batch) → sum_by (λ (batch : Batch). 0) waiting ≡ 0
   neither_all [] = refl
   neither_all (first ∷ waiting) = neither_all waiting
 
-  in_left : (stays : ℕ → Bool) (waiting : List Batch) → inside change (left stays waiting) ≡ (if stays change then inside change waiting else 0)
+  in_left : (stays : ℕ → Bool) (waiting : List Batch) → inside test change (left stays waiting) ≡ (if stays change then inside test change waiting else 0)
   in_left stays waiting = sum-left of stays (λ batch. if stays change then of batch else 0) same waiting ∙ by (stays change) where
     same : (batch : Batch) → (if has_changes (only stays batch) then of (only stays batch) else 0) ≡ (if stays change then of batch else 0)
-    same batch = held_if change (only stays batch) ∙ occurs-filter stays change batch.changes
+    same batch = held_if (only stays batch) ∙ of_only stays batch
 
-    by : (b : Bool) → sum_by (λ (batch : Batch). if b then of batch else 0) waiting ≡ (if b then inside change waiting else 0)
+    by : (b : Bool) → sum_by (λ (batch : Batch). if b then of batch else 0) waiting ≡ (if b then inside test change waiting else 0)
     by true = refl
     by false = neither_all waiting
 
   in_set : (waiting : List Batch) (at : ℕ) (old new : Batch) → slice_get waiting at ≡ Some old
-      → inside change (slice_set waiting at new) + of old ≡ inside change waiting + of new
-  in_set [] at old new is = grind (arith, is)
-  in_set (first ∷ waiting) zero old new is =
-      let same = ap (λ found. of (unwrap_or found first)) is in
-      omega (arith, same, sum_by-cons of first waiting, sum_by-cons of new waiting)
-  in_set (first ∷ waiting) (suc at) old new is =
-      omega (arith, in_set waiting at old new is, sum_by-cons of first waiting, sum_by-cons of first (slice_set waiting at new))
+      → inside test change (slice_set waiting at new) + of old ≡ inside test change waiting + of new
+  in_set waiting at old new is =
+      ap (λ (batch : Batch). inside test change (slice_set waiting at new) + of batch) (sym (get_or_from_slice_get waiting at old old is))
+      ∙ sum_by-set of waiting at new old (slice_get_within waiting at old is)
 
   -- the running batch apart
-  held_is : (lane : Lane) → held change lane ≡ running change lane + inside change lane.waiting
+  held_is : (lane : Lane) → held test change lane ≡ in_running test change lane + inside test change lane.waiting
   held_is lane = by lane.running where
-    by : (at : Option Batch) → held change (record { running = at; waiting = lane.waiting }) ≡ running change (record { running = at; waiting = lane.waiting }) + inside change lane.waiting
+    by : (at : Option Batch) → held test change (record lane { running = at }) ≡ in_running test change (record lane { running = at }) + inside test change lane.waiting
     by None = omega arith
     by (Some batch) = sum_by-cons of batch lane.waiting
 
 pub start_law : LawOfStart
-start_law now change lane = by lane.running lane.waiting where
-  by : (at : Option Batch) (waiting : List Batch) → held change (lanes.started_beside now at waiting) ≡ held change (record { running = at; waiting = waiting })
+start_law test now change lane = by lane.running lane.waiting where
+  by : (at : Option Batch) (waiting : List Batch) → held test change (lanes.started_beside now at waiting) ≡ held test change (record { running = at; waiting = waiting })
   by None [] = refl
   by None (first ∷ waiting) = refl
   by (Some batch) waiting = refl
 
 pub drop_law : LawOfDrop
-drop_law change lane = omega (arith, held_is change lane)
+drop_law test change lane = omega (arith, held_is test change lane)
 
 pub restart_law : LawOfRestart
-restart_law number change lane = by lane.running where
-  by : (at : Option Batch) → held change (lanes.running_restarted number at lane.waiting) ≡ held change (record { running = at; waiting = lane.waiting })
+restart_law test number change lane = by lane.running where
+  by : (at : Option Batch) → held test change (lanes.running_restarted number at lane.waiting) ≡ held test change (record lane { running = at })
   by None = refl
   by (Some batch) = stops (lanes.stops_running true batch) where
-    stops : (goes : Bool) → held change (if goes then record { running = None; waiting = back number batch lane.waiting } else record { running = Some batch; waiting = lane.waiting })
-        ≡ held change (record { running = Some batch; waiting = lane.waiting })
-    stops true = in_back change number batch lane.waiting ∙ sym (held_is change (record { running = Some batch; waiting = lane.waiting }))
+    stops : (goes : Bool) → held test change (if goes then record { running = None; waiting = back number batch lane.waiting } else record lane { running = Some batch })
+        ≡ held test change (record lane { running = Some batch })
+    stops true = in_back test change number batch lane.waiting ∙ sym (held_is test change (record lane { running = Some batch }))
     stops false = refl
 
 pub requeue_law : LawOfRequeue
-requeue_law stays number change lane = by lane.running where
-  by : (at : Option Batch) → held change (lanes.running_requeued stays number at lane.waiting) + (if stays change then 0 else running change (record { running = at; waiting = lane.waiting }))
-      ≡ held change (record { running = at; waiting = lane.waiting })
-  by None = neither (stays change) where
-    neither : (b : Bool) → inside change lane.waiting + (if b then 0 else 0) ≡ inside change lane.waiting
-    neither true = omega arith
-    neither false = omega arith
-  by (Some batch) = chosen (stays change) (occurs-filter stays change batch.changes) where
-    chosen : (b : Bool) → occurs change (filter stays batch.changes) ≡ (if b then occurs change batch.changes else 0)
-        → inside change (back number (only stays batch) lane.waiting) + (if b then 0 else occurs change batch.changes) ≡ held change (record { running = Some batch; waiting = lane.waiting })
-    chosen true kept = omega (arith, kept, in_back change number (only stays batch) lane.waiting, held_is change (record { running = Some batch; waiting = lane.waiting }))
-    chosen false kept = omega (arith, kept, in_back change number (only stays batch) lane.waiting, held_is change (record { running = Some batch; waiting = lane.waiting }))
+requeue_law test stays number change lane = by lane.running where
+  by : (at : Option Batch) → held test change (lanes.running_requeued stays number at lane.waiting) + (if stays change then 0 else in_running test change (record lane { running = at }))
+      ≡ held test change (record lane { running = at })
+  by None = grind (arith, nat_tests)
+  by (Some batch) =
+      let kept = of_only test change stays batch in
+      let again = in_back test change number (only stays batch) lane.waiting in
+      let before = held_is test change (record lane { running = Some batch }) in
+      grind (arith, nat_tests)
 
 pub fail_law : LawOfFail
-fail_law number change lane = by lane.running where
-  by : (at : Option Batch) → held change (lanes.running_failed number at lane.waiting) + alone change (record { running = at; waiting = lane.waiting })
-      ≡ held change (record { running = at; waiting = lane.waiting })
+fail_law test number change lane = by lane.running where
+  by : (at : Option Batch) → held test change (lanes.running_failed number at lane.waiting) + in_lone test change (record lane { running = at })
+      ≡ held test change (record lane { running = at })
   by None = omega arith
   by (Some batch) = several (lanes.has_several batch) where
-    several : (b : Bool) → held change (record { running = None; waiting = if b then split_into number batch lane.waiting else lane.waiting }) + (if b then 0 else occurs change batch.changes)
-        ≡ held change (record { running = Some batch; waiting = lane.waiting })
-    several true = omega (arith, sum-split (of change) number batch lane.waiting, sum_by-take-drop (λ other. once (eqb change other)) batch.changes (half batch), held_is change (record { running = Some batch; waiting = lane.waiting }))
-    several false = omega (arith, held_is change (record { running = Some batch; waiting = lane.waiting }))
+    several : (b : Bool) → inside test change (if b then split_into number batch lane.waiting else lane.waiting) + (if b then 0 else held_by test change batch)
+        ≡ held test change (record lane { running = Some batch })
+    several true =
+        let halves = sum-split (held_by test change) number batch lane.waiting in
+        omega (arith, halves, of_halves test change batch, held_is test change (record lane { running = Some batch }))
+    several false = omega (arith, held_is test change (record lane { running = Some batch }))
+
+-- what is found at the place of the last that passes does pass
+last_passes : {X : Type 0} (test : X → Bool) (xs : List X) (at : ℕ) (x : X) → lanes.last_where test xs ≡ Some at → slice_get xs at ≡ Some x → test x ≡ true
+last_passes test [] at x last is = cc is
+last_passes test (first ∷ xs) at x last is = by (lanes.last_where test xs) (test first) refl (λ place. last_passes test xs place x) last where
+  found : (place : ℕ) → Some place ≡ Some at → slice_get (first ∷ xs) place ≡ Some x
+  found place same = ap (slice_get (first ∷ xs)) (same_Some place at same) ∙ is
+
+  by : (later : Option ℕ) (passes : Bool) → test first ≡ passes → ((place : ℕ) → later ≡ Some place → slice_get xs place ≡ Some x → test x ≡ true)
+      → option_or (option_map suc later) (then_some passes 0) ≡ Some at → test x ≡ true
+  by None true first_passes others last = ap test (sym (same_Some first x (found 0 last))) ∙ first_passes
+  by None false first_passes others last = cc last
+  by (Some place) passes first_passes others last = others place refl (found (suc place) last)
 
 pub enqueue_law : LawOfEnqueue
-enqueue_law size number priority change other lane =
-    let one = entered_at (lanes.last_where (lanes.is_fresh_of priority) lane.waiting) in
-    omega (arith, one, held_is other lane, held_is other (lanes.enqueued size number priority change lane)) where
-      -- in a batch of its own
-      alone_in : inside other (placed (lanes.fresh number priority change) lane.waiting) ≡ inside other lane.waiting + once (eqb other change)
-      alone_in = omega (arith, in_placed other (lanes.fresh number priority change) lane.waiting, occurs-push other [] change)
+enqueue_law test size number priority change other lane =
+    let one = entered_at (lanes.last_where (lanes.is_fresh_of priority) lane.waiting) refl in
+    omega (arith, one, held_is test other lane, held_is test other (lanes.enqueued size number priority change lane)) where
+      more : ℕ
+      more = inside test other lane.waiting + once (eqb other change && test priority)
 
-      entered_at : (last : Option ℕ) → inside other (lanes.entered number priority change lane.waiting (lanes.if_room size lane.waiting last)) ≡ inside other lane.waiting + once (eqb other change)
-      entered_at None = alone_in
-      entered_at (Some at) = got (slice_get lane.waiting at) refl where
+      -- in a batch of its own
+      alone_in : inside test other (placed (lanes.fresh number priority change) lane.waiting) ≡ more
+      alone_in =
+          let joined = of_joined test other change (record (lanes.fresh number priority change) { changes = [] }) in
+          grind (arith, nat_tests, joined, in_placed test other (lanes.fresh number priority change) lane.waiting)
+
+      entered_at : (last : Option ℕ) → lanes.last_where (lanes.is_fresh_of priority) lane.waiting ≡ last
+          → inside test other (lanes.entered number priority change lane.waiting (lanes.if_room size lane.waiting last)) ≡ more
+      entered_at None none = alone_in
+      entered_at (Some at) last = got (slice_get lane.waiting at) refl where
         got : (found : Option Batch) → slice_get lane.waiting at ≡ found
-            → inside other (lanes.entered number priority change lane.waiting (if option_map_or (lanes.has_room size) found false then Some at else None)) ≡ inside other lane.waiting + once (eqb other change)
+            → inside test other (lanes.entered number priority change lane.waiting (if option_map_or (lanes.has_room size) found false then Some at else None)) ≡ more
         got None is = alone_in
         got (Some old) is = room (lanes.has_room size old) where
-          room : (b : Bool) → inside other (lanes.entered number priority change lane.waiting (if b then Some at else None)) ≡ inside other lane.waiting + once (eqb other change)
-          room true = rw is (omega (arith, in_set other lane.waiting at old (with_change change old) is, occurs-push other old.changes change))
+          same : old.priority ≡ priority
+          same = (Decides-int_eq old.priority priority).0 (and_parts (not old.again) _ (last_passes (lanes.is_fresh_of priority) lane.waiting at old last is)).1
+
+          joined : held_by test other (with_change change old) ≡ held_by test other old + once (eqb other change && test priority)
+          joined = of_joined test other change old ∙ ap (λ (p : ℤ). held_by test other old + once (eqb other change && test p)) same
+
+          room : (b : Bool) → inside test other (lanes.entered number priority change lane.waiting (if b then Some at else None)) ≡ more
+          room true = rw is (omega (arith, in_set test other lane.waiting at old (with_change change old) is, joined))
           room false = alone_in
 
--- a change that isn't chosen isn't in a batch of chosen ones
-all_stay : (stays : ℕ → Bool) (change : ℕ) (changes : List ℕ) → list_all stays changes ≡ true → stays change ≡ false → occurs change changes ≡ 0
-all_stay stays change [] all goes = refl
-all_stay stays change (first ∷ changes) all goes =
-    let one = sum_by-cons (λ other. once (eqb change other)) first changes in
-    let rest = all_stay stays change changes (grind (arith, all)) goes in
+-- a batch that loses nothing has its changes
+all_stay : (stays : ℕ → Bool) (changes : List ℕ) → list_all stays changes ≡ true → filter stays changes ≡ changes
+all_stay stays [] all = refl
+all_stay stays (first ∷ changes) all =
+    let rest = all_stay stays changes (grind (arith, all)) in
     grind (arith, nat_tests)
 
 pub take_out_law : LawOfTakeOut
-take_out_law stays number change lane = by lane.running where
-  by : (at : Option Batch) → held change (lanes.running_taken stays number at (left stays lane.waiting))
-      ≡ (if stays change then held change (record { running = at; waiting = lane.waiting }) else landing change (record { running = at; waiting = lane.waiting }))
-  by None = in_left change stays lane.waiting
-  by (Some batch) =
-      goes (lanes.loses stays batch) (lanes.is_landing batch.stage) (stays change) refl refl
-      (occurs-filter stays change batch.changes) (in_left change stays lane.waiting) where
-        running_on : held change (record { running = Some batch; waiting = left stays lane.waiting }) ≡ occurs change batch.changes + inside change (left stays lane.waiting)
-        running_on = held_is change (record { running = Some batch; waiting = left stays lane.waiting })
+take_out_law test stays number change lane = by lane.running where
+  waits : List Batch
+  waits = left stays lane.waiting
 
-        before : held change (record { running = Some batch; waiting = lane.waiting }) ≡ occurs change batch.changes + inside change lane.waiting
-        before = held_is change (record { running = Some batch; waiting = lane.waiting })
+  waits_are : inside test change waits ≡ (if stays change then inside test change lane.waiting else 0)
+  waits_are = in_left test change stays lane.waiting
 
-        again : inside change (back number (only stays batch) (left stays lane.waiting)) ≡ occurs change (filter stays batch.changes) + inside change (left stays lane.waiting)
-        again = in_back change number (only stays batch) (left stays lane.waiting)
+  by : (at : Option Batch) → held test change (lanes.running_taken stays number at waits)
+      ≡ (if stays change then held test change (record lane { running = at }) else in_landing test change (record lane { running = at }))
+  by None = waits_are
+  by (Some batch) = goes (lanes.loses stays batch) (lanes.is_landing batch.stage) refl where
+    before : held test change (record lane { running = Some batch }) ≡ held_by test change batch + inside test change lane.waiting
+    before = held_is test change (record lane { running = Some batch })
 
-        goes : (loses lands chosen : Bool) → lanes.loses stays batch ≡ loses → stays change ≡ chosen
-            → occurs change (filter stays batch.changes) ≡ (if chosen then occurs change batch.changes else 0)
-            → inside change (left stays lane.waiting) ≡ (if chosen then inside change lane.waiting else 0)
-            → held change (if loses && not lands then record { running = None; waiting = back number (only stays batch) (left stays lane.waiting) } else record { running = Some batch; waiting = left stays lane.waiting })
-            ≡ (if chosen then held change (record { running = Some batch; waiting = lane.waiting }) else (if lands then occurs change batch.changes else 0))
-        goes true false true l c kept rest = omega (arith, again, before, kept, rest)
-        goes true false false l c kept rest = omega (arith, again, kept, rest)
-        goes true true true l c kept rest = omega (arith, running_on, before, rest)
-        goes true true false l c kept rest = omega (arith, running_on, rest)
-        goes false lands true l c kept rest = omega (arith, running_on, before, rest)
-        goes false true false l c kept rest = omega (arith, running_on, rest)
-        goes false false false l c kept rest =
-            let none = all_stay stays change batch.changes (grind (arith, l)) c in
-            omega (arith, running_on, rest, none)
+    running_on : held test change (record { running = Some batch; waiting = waits }) ≡ held_by test change batch + inside test change waits
+    running_on = held_is test change (record { running = Some batch; waiting = waits })
+
+    again : inside test change (back number (only stays batch) waits) ≡ held_by test change (only stays batch) + inside test change waits
+    again = in_back test change number (only stays batch) waits
+
+    kept : held_by test change (only stays batch) ≡ (if stays change then held_by test change batch else 0)
+    kept = of_only test change stays batch
+
+    goes : (loses lands : Bool) → lanes.loses stays batch ≡ loses
+        → held test change (if loses && not lands then record { running = None; waiting = back number (only stays batch) waits } else record { running = Some batch; waiting = waits })
+        ≡ (if stays change then held test change (record lane { running = Some batch }) else (if lands then held_by test change batch else 0))
+    goes true false l = grind (arith, nat_tests, before, again, kept, waits_are)
+    goes true true l = grind (arith, nat_tests, before, running_on, waits_are)
+    goes false lands l =
+        let same = ap (λ changes. held_by test change (record batch { changes = changes })) (all_stay stays batch.changes (grind (arith, l))) in
+        grind (arith, nat_tests, before, running_on, kept, waits_are)

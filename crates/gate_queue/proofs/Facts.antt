@@ -8,7 +8,7 @@ use Rattle.std.specs.Str.{bytes_eq}
 use Rattle.gate_text.specs.Settings.{SettingsView, settings_of}
 use Rattle.gate_rules.specs.Rules.{Texts, is_open_phase, is_fit}
 use Rattle.gate_rules.specs.declared.change.Phase.TheVariants as phase
-use Rattle.gate_queue.specs.History.{Event, did, last_of, said_on, author_back, head_back, phase_back, settings_back, labels_back, reviews_back, approval_in, standing_back, change_of, change_back}
+use Rattle.gate_queue.specs.History.{Event, did, last_of, said_on, author_back, head_back, phase_back, settings_back, labels_back, reviews_back, approval_said, standing_back, change_of, change_back}
 use Rattle.gate_queue.specs.Machine.{closed, pushed, moved_to, labeled, with_label, without_label, reviewed, with_review, opened, settled}
 use Rattle.gate_queue.specs.declared.act.Act.TheVariants.{Settings, Opened, Pushed, Closed, Labeled, Unlabeled, Review}
 use Rattle.gate_queue.proofs.After.{change_after, change_of_after, altered_here, silent, ended, stays, standing_fit, unless_unfit, elsewhere}
@@ -25,7 +25,7 @@ module _ (events : List Event) (c n : ℕ) where
   labeled_next label =
       let act = Labeled n label in
       altered_here events c (labeled (settings_back events) label) act refl (λ author is.
-      labeled_approval (standing_back events c) (last_of (said_on c approval_in) events) (with_label label (change_of events c author)) (settings_back events) (labels_back events c) (standing_fit events c)
+      labeled_approval (standing_back events c) (last_of (said_on c approval_said) events) (with_label label (change_of events c author)) (settings_back events) (labels_back events c) (standing_fit events c)
       ∙ (λ i. record (change_of_after events c (settings_back events) (Some act) author) { approved = (sym (silent events c act refl)) i }))
 
   pub reviewed_next : (person head : List ℕ) (approves : Bool)
@@ -33,12 +33,12 @@ module _ (events : List Event) (c n : ℕ) where
   reviewed_next person head true =
       let act = Review n person head true in
       altered_here events c (reviewed (settings_back events) person true) act refl (λ author is.
-      reviewed_approval (standing_back events c) (last_of (said_on c approval_in) events) (with_review person true (change_of events c author)) (settings_back events) (reviews_back events c) (standing_fit events c)
+      reviewed_approval (standing_back events c) (last_of (said_on c approval_said) events) (with_review person true (change_of events c author)) (settings_back events) (reviews_back events c) (standing_fit events c)
       ∙ (λ i. record (change_of_after events c (settings_back events) (Some act) author) { approved = (sym (silent events c act refl)) i }))
   reviewed_next person head false =
       let act = Review n person head false in
       altered_here events c (reviewed (settings_back events) person false) act refl (λ author is.
-      reviewed_approval (standing_back events c) (last_of (said_on c approval_in) events) (with_review person false (change_of events c author)) (settings_back events) (reviews_back events c) (standing_fit events c)
+      reviewed_approval (standing_back events c) (last_of (said_on c approval_said) events) (with_review person false (change_of events c author)) (settings_back events) (reviews_back events c) (standing_fit events c)
       ∙ (λ i. record (change_of_after events c (settings_back events) (Some act) author) { approved = (sym (silent events c act refl)) i }))
 
   pub unlabeled_next : (label : List ℕ) → option_map (without_label label) (change_back events c) ≡ change_after events c (settings_back events) (Some (Unlabeled n label))
@@ -68,7 +68,7 @@ module _ (events : List Event) (c n : ℕ) where
 
   -- A change that was never opened has nothing but what a new one has, and one that is opened again wasn't open.
   module _ (author head : List ℕ) (unseen : Unseen events c) (shut : is_open_phase (phase_back events c) ≡ false) where
-    none_standing : (standing : Bool) → standing_back events c ≡ standing → cond standing (last_of (said_on c approval_in) events) None ≡ None
+    none_standing : (standing : Bool) → standing_back events c ≡ standing → cond standing (last_of (said_on c approval_said) events) None ≡ None
     none_standing true is = cc (sym (opened_so (settings_back events) (phase_back events c) (labels_back events c) (reviews_back events c) (standing_fit events c is)) ∙ shut)
     none_standing false is = refl
 
@@ -104,7 +104,7 @@ module _ (events : List Event) (c : ℕ) (text : List ℕ) (settings : SettingsV
     settled_author : (author : Option (List ℕ)) → option_map (settled settings) (option_map (change_of events c) author) ≡ option_map (change_of_after events c (Some settings) None) author
     settled_author None = refl
     settled_author (Some author) = ap Some
-        (settled_as_fit (standing_back events c) (last_of (said_on c approval_in) events) (change_of events c author) settings
+        (settled_as_fit (standing_back events c) (last_of (said_on c approval_said) events) (change_of events c author) settings
         (λ standing. opened_so (settings_back events) (phase_back events c) (labels_back events c) (reviews_back events c) (standing_fit events c standing))
         ∙ (λ i. record (change_of events c author) { approved = (sym (unless_unfit events c (Some settings))) i }))
 

@@ -1,5 +1,6 @@
 -- Tests of fitness, and what an approval comes to by them.
 use Rattle.std.proofs.Common.{◌≡◌, ℕ, Bool, true, false, cond, not, ◌&&◌, ◌||◌, List, [], ◌∷◌, Option, Some, None, is_some, refl, sym, ◌∙◌}
+use Rattle.std.proofs.lemmas.Bool.{not-true}
 use Rattle.std.specs.FinSet as set
 use Rattle.std.specs.Cmp.Lexicographic.{slice_cmp, nat_list_cmp_total}
 use Rattle.std.specs.Cmp.{first_so, second_so}
@@ -141,16 +142,12 @@ still_unblocked settings labels label none =
     fewer_found (λ l. set.contains labels l) (λ l. set.contains (set.remove labels label) l)
     (λ l out. set.contains-remove nat_list_cmp_total labels label l ∙ either_false (not (eq_by_cmp (slice_cmp nat_cmp) l label)) (set.contains labels l) out) settings.block_labels none
 
-not_so : (b : Bool) → not b ≡ true → b ≡ false
-not_so true is = cc is
-not_so false is = refl
-
 pub still_fit : (settings : Option SettingsView) (phase : Phase) (labels reviews : Texts) (label : List ℕ) → is_fit settings phase labels reviews ≡ true
     → is_fit settings phase (set.remove labels label) reviews ≡ true
 still_fit None phase labels reviews label fit = cc fit
 still_fit (Some settings) phase labels reviews label fit =
     let opened = first_so (is_open_phase phase) _ fit in
     let rest = second_so (is_open_phase phase) _ fit in
-    let unblocked = not_so (is_blocked settings labels) (first_so (not (is_blocked settings labels)) _ rest) in
+    let unblocked = not-true (is_blocked settings labels) (first_so (not (is_blocked settings labels)) _ rest) in
     let reviewed = second_so (not (is_blocked settings labels)) (not (has_too_few_reviews settings reviews)) rest in
     rw (opened, still_unblocked settings labels label unblocked) reviewed

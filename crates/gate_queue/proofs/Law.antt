@@ -21,7 +21,7 @@ use Rattle.gate_rules.specs.declared.change.Repeat.TheVariants as repeat
 use Rattle.gate_rules.specs.declared.role.Role.{Role as RoleOf}
 use Rattle.gate_rules.specs.declared.role.Role.TheVariants.{Nobody, Member, Reviewer}
 use Rattle.gate_rules.specs.declared.rule.Rule.{Rule}
-use Rattle.gate_queue.specs.History.{Entry, Event, did, gave, given, happened, events_of, last_of, said_by, done_to, said_on, role_in, settings_back, author_back, phase_back, labels_back, reviews_back, approval_in, standing_back, approvers_back, change_of, change_back, look_back, Legal, EntryTells, entry_of, denied_by}
+use Rattle.gate_queue.specs.History.{Entry, Event, did, gave, given, happened, events_of, last_of, said_by, done_to, said_on, role_said, settings_back, author_back, phase_back, labels_back, reviews_back, approval_said, standing_back, approvers_back, change_of, change_back, look_back, Legal, EntryTells, entry_of, denied_by}
 use Rattle.gate_queue.specs.Machine.{State, broken, bad_settings, answered, effect, orders, reply_to, unless_denied, after, altered, with_accepted, approved_by, with_priority, with_delegates, with_author_as_delegate, without_delegates, opened, closed, pushed, labeled, without_label, reviewed, with_settled, settled}
 use Rattle.gate_queue.specs.declared.act.Act.{Act}
 use Rattle.gate_queue.specs.declared.act.Act.TheVariants.{Spoken, Role, Settings, Base, Opened, Pushed, Closed, Labeled, Unlabeled, Review}
@@ -57,9 +57,9 @@ role_dropped : (b : Bool) (had : Option RoleOf) → unwrap_or (cond b None had) 
 role_dropped true had = refl
 role_dropped false had = refl
 
-role_said : (b : Bool) (role : RoleOf) (had : Option RoleOf) → unwrap_or (option_or (cond b (Some role) None) had) Nobody ≡ cond b role (unwrap_or had Nobody)
-role_said true role had = refl
-role_said false role had = refl
+role_told : (b : Bool) (role : RoleOf) (had : Option RoleOf) → unwrap_or (option_or (cond b (Some role) None) had) Nobody ≡ cond b role (unwrap_or had Nobody)
+role_told true role had = refl
+role_told false role had = refl
 
 roles_next : (roles : FinMap (slice_cmp nat_cmp) RoleOf) (person : List ℕ) (role : RoleOf) (p : List ℕ)
     → unwrap_or (finite.get (roles_with roles person role) p) Nobody ≡ cond (bytes_eq p person) role (unwrap_or (finite.get roles p) Nobody)
@@ -72,7 +72,7 @@ role_next desk events person role same =
     (λ i. record (look desk) { role = λ p. roles_next desk.roles person role p i })
     ∙ ap (λ (s : Look). record s { role = λ p. cond (bytes_eq p person) role (s.role p) }) same
     ∙ (λ i. record (look_back events) {
-      role = λ p. (sym (role_said (bytes_eq p person) role (last_of (said_by (role_in p)) events))) i;
+      role = λ p. (sym (role_told (bytes_eq p person) role (last_of (said_by (role_said p)) events))) i;
       change = λ c. (sym (elsewhere events c (did (Role person role)) refl refl)) i;
     })
 
@@ -236,7 +236,7 @@ approved_at : (events : List Event) (change : ℕ) → Unseen events change → 
     → option_and_then (λ (c : Change). c.approved) (option_map (change_of events change) author) ≡ approvers_back events change
 approved_at events change unseen (Some author) is = refl
 approved_at events change unseen None is = never (standing_back events change) refl where
-  never : (standing : Bool) → standing_back events change ≡ standing → None ≡ cond standing (last_of (said_on change approval_in) events) None
+  never : (standing : Bool) → standing_back events change ≡ standing → None ≡ cond standing (last_of (said_on change approval_said) events) None
   never true standing =
       let opened = opened_so (settings_back events) (phase_back events change) (labels_back events change) (reviews_back events change) (standing_fit events change standing) in
       cc (sym (ap is_open_phase (unseen is).phase) ∙ opened)

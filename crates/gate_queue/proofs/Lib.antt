@@ -3,10 +3,12 @@ pub mod Changes
 pub mod Counts
 pub mod Facts
 pub mod Fitness
+pub mod InOrder
 pub mod Lanes
 pub mod Law
 pub mod Limits
 pub mod Next
+pub mod Numbers
 pub mod Premises
 pub mod Service
 pub mod Sets

@@ -13,7 +13,7 @@ use Rattle.gate_text.specs.declared.command.Command.{Command}
 use Rattle.gate_text.specs.declared.command.Command.TheVariants.{Ping, Approve, ApproveFor, Withdraw, Priority, Try, TryCancel, DelegateAuthor, DelegateTo, DelegateNone, Retry}
 use Rattle.gate_text.specs.declared.command.Spoken.TheVariants.{Known, Unknown}
 use Rattle.gate_text.specs.declared.settings.fault.SettingsFault.{SettingsFault}
-use Rattle.gate_rules.specs.Rules.{Look, first_failing, begins_with_rules, approval_rules, is_known, is_open, is_open_phase, is_blocked, has_too_few_reviews, permits, need}
+use Rattle.gate_rules.specs.Rules.{Look, Texts, first_failing, begins_with_rules, approval_rules, is_known, is_open, is_open_phase, is_blocked, has_too_few_reviews, permits, need}
 use Rattle.gate_rules.specs.View.{DeskView, with_settings, without_approval, look}
 use Rattle.gate_rules.specs.declared.change.Change.{Change}
 use Rattle.gate_rules.specs.declared.change.Repeat.TheVariants as repeat
@@ -35,6 +35,10 @@ one_name name = (tt, tt)
 -- ONE CHANGE
 ended_keeps : (change : Change) → IsChange change → IsChange (without_approval change)
 ended_keeps change is = record { priority = is.priority; opened = λ some. cc some; approvers = tt; last = is.last }
+
+-- with other labels, reviews and delegates
+others_keep : (change : Change) (labels reviews delegates : Texts) → IsChange change → IsChange (record change { labels = labels; reviews = reviews; delegates = delegates })
+others_keep change labels reviews delegates is = record { priority = is.priority; opened = is.opened; approvers = is.approvers; last = is.last }
 
 ended_if : (b : Bool) (change : Change) → IsChange change → IsChange (cond b (without_approval change) change)
 ended_if true change is = ended_keeps change is
@@ -112,11 +116,11 @@ command_keeps desk person n Withdraw limits is holds = altered_keeps desk n with
 command_keeps desk person n (Priority priority) limits is holds = altered_keeps desk n (with_priority priority) is
     (λ change here was. record { priority = limits; opened = was.opened; approvers = was.approvers; last = was.last })
 command_keeps desk person n DelegateAuthor limits is holds = altered_keeps desk n with_author_as_delegate is
-    (λ change here was. record { priority = was.priority; opened = was.opened; approvers = was.approvers; last = was.last })
+    (λ change here was. others_keep change _ _ _ was)
 command_keeps desk person n (DelegateTo names) limits is holds = altered_keeps desk n (with_delegates names) is
-    (λ change here was. record { priority = was.priority; opened = was.opened; approvers = was.approvers; last = was.last })
+    (λ change here was. others_keep change _ _ _ was)
 command_keeps desk person n DelegateNone limits is holds = altered_keeps desk n without_delegates is
-    (λ change here was. record { priority = was.priority; opened = was.opened; approvers = was.approvers; last = was.last })
+    (λ change here was. others_keep change _ _ _ was)
 command_keeps desk person n Ping limits is holds = is
 command_keeps desk person n Try limits is holds = is
 command_keeps desk person n TryCancel limits is holds = is
@@ -133,11 +137,11 @@ effect_keeps desk (Pushed n head) limits is holds = altered_keeps desk n (pushed
 effect_keeps desk (Closed n) limits is holds = altered_keeps desk n closed is
     (λ change here was. record { priority = was.priority; opened = λ some. cc some; approvers = tt; last = was.last })
 effect_keeps desk (Labeled n label) limits is holds = altered_keeps desk n (labeled desk.settings label) is (λ change here was.
-    against_keeps (λ s c. is_blocked s c.labels) desk.settings (with_label label change) (record { priority = was.priority; opened = was.opened; approvers = was.approvers; last = was.last }))
+    against_keeps (λ s c. is_blocked s c.labels) desk.settings (with_label label change) (others_keep change _ _ _ was))
 effect_keeps desk (Unlabeled n label) limits is holds = altered_keeps desk n (without_label label) is
-    (λ change here was. record { priority = was.priority; opened = was.opened; approvers = was.approvers; last = was.last })
+    (λ change here was. others_keep change _ _ _ was)
 effect_keeps desk (Review n person head approves) limits is holds = altered_keeps desk n (reviewed desk.settings person approves) is (λ change here was.
-    against_keeps (λ s c. has_too_few_reviews s c.reviews) desk.settings (with_review person approves change) (record { priority = was.priority; opened = was.opened; approvers = was.approvers; last = was.last }))
+    against_keeps (λ s c. has_too_few_reviews s c.reviews) desk.settings (with_review person approves change) (others_keep change _ _ _ was))
 
 pub empty_is_state : IsState empty_state
 empty_is_state = record { changes = λ c. subst (λ (o : Option Change). IfSome o IsChange) (sym (get-empty nat_cmp c)) tt; clock = omega arith }

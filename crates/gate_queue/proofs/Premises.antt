@@ -1,5 +1,6 @@
 -- What a row of rules that holds says of the change.
-use Rattle.std.proofs.Common.{◌≡◌, ℕ, Bool, true, false, not, List, [], ◌∷◌, Option, Some, None, eqb, refl, sym, ◌∙◌, ap, subst}
+use Rattle.std.proofs.Common.{◌≡◌, ℕ, true, false, not, List, [], ◌∷◌, Option, Some, None, eqb, refl, sym, ◌∙◌, ap, subst}
+use Rattle.std.proofs.lemmas.Bool.{not-true}
 use Rattle.std.specs.Option.{option_map, option_map_or}
 use Rattle.gate_text.specs.declared.command.Command.{Command}
 use Rattle.gate_rules.specs.Rules.{first_failing, begins_with_rules, approval_rules, is_known, is_open, is_approved, is_open_phase, has_settings, has_base, permits, need, of_both, blocked_rule, too_few_rule, asks}
@@ -38,16 +39,12 @@ pub fits : (events : List Event) (person : List ℕ) (n : ℕ) (command : Comman
     → (c : ℕ) → eqb c n ≡ true → fit_back events c ≡ true
 fits events person n command holds c same = subst (λ m. fit_back events m ≡ true) (sym (same_number c n same)) (fits_at events person n command holds (author_back events n) refl)
 
-not_false : (b : Bool) → not b ≡ true → b ≡ false
-not_false true is = cc is
-not_false false is = refl
-
 -- a change that may be opened isn't open
 shut_at : (events : List Event) (n : ℕ) → Unseen events n → first_failing (asks (not (is_open (look_back events) n)) AlreadyOpen ∷ []) ≡ None
     → (author : Option (List ℕ)) → author_back events n ≡ author → is_open_phase (phase_back events n) ≡ false
 shut_at events n unseen holds None is = ap is_open_phase (unseen is).phase
 shut_at events n unseen holds (Some author) is =
-    let shut = not_false (is_open (look_back events) n) ((passed (not (is_open (look_back events) n)) AlreadyOpen [] holds).0) in
+    let shut = not-true (is_open (look_back events) n) ((passed (not (is_open (look_back events) n)) AlreadyOpen [] holds).0) in
     let there : change_back events n ≡ Some (change_of events n author) = ap (option_map (change_of events n)) is in
     sym (ap (λ (c : Option Change). option_map_or (λ (x : Change). is_open_phase x.phase) c false) there) ∙ shut
 

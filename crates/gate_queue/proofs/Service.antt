@@ -1,14 +1,15 @@
--- The order of service: a batch is put where the order stays, and taking changes out keeps it.
-use Rattle.std.proofs.Common.{◌≡◌, ℕ, suc, ◌+◌, eqb, ltb, Bool, true, false, cond, not, List, [], ◌∷◌, length, map, take, if◌then◌else◌, Some, None, refl, sym, ◌∙◌, ap, subst, arith}
+-- The order of service: a batch is put where the order stays, taking changes out keeps it, and so does joining a batch.
+use Rattle.std.proofs.Common.{◌≡◌, ℕ, zero, suc, ◌+◌, eqb, ltb, Bool, true, false, cond, not, List, [], ◌∷◌, length, map, take, if◌then◌else◌, Option, Some, None, slice_get, slice_set, refl, sym, ◌∙◌, ap, subst, arith}
 use Rattle.std.proofs.lemmas.Bool.Decides.{nat_tests}
-use Rattle.std.proofs.lemmas.List.Elements.{All-cons, All-nil, All-head, All-tail, All-append, All-take, All-drop, All-weaker}
+use Rattle.std.proofs.lemmas.List.Elements.{All-cons, All-nil, All-head, All-tail, All-append, All-take, All-drop, All-set, All-weaker}
 use Rattle.std.proofs.lemmas.List.Kept.{AllPairs-cons, AllPairs-filter}
 use Rattle.std.proofs.lemmas.List.Sums.{sum_by-cons, prefix_len-le-length}
+use Rattle.std.proofs.lemmas.Option.{slice_get_within, get_or_from_slice_get}
 use Rattle.std.specs.Cmp.{signed_Decides}
 use Rattle.std.specs.List.{All, insert, position_or_len}
 use Rattle.std.specs.Option.{unwrap_or}
 use Rattle.gate_queue.specs.Counts.{uses}
-use Rattle.gate_queue.specs.Lanes.{goes_before, placed, only, has_changes, left}
+use Rattle.gate_queue.specs.Lanes.{goes_before, placed, with_change, with_joined, only, has_changes, left}
 use Rattle.gate_queue.specs.Service.{IsInService}
 use Rattle.gate_queue.specs.declared.batch.Batch.{Batch}
 
@@ -22,8 +23,11 @@ before_trans a b c h k = grind (arith, nat_tests, signed_Decides)
 before_total : (a b : Batch) → goes_before a b ≡ false → eqb a.number b.number ≡ false → goes_before b a ≡ true
 before_total a b h k = grind (arith, nat_tests, signed_Decides)
 
-behind_first : (first : Batch) (waiting : List Batch) → IsInService (first ∷ waiting) → IsInService waiting
+pub behind_first : (first : Batch) (waiting : List Batch) → IsInService (first ∷ waiting) → IsInService waiting
 behind_first first waiting h i j d below within = h (suc i) (suc j) d (omega arith) (omega arith)
+
+all_behind : (first : Batch) (waiting : List Batch) → IsInService (first ∷ waiting) → All (Goes first) waiting
+all_behind first waiting h j d within = h 0 (suc j) d (omega arith) (omega arith)
 
 -- A PLACE, by taking one batch after the other
 module _ (batch : Batch) where
@@ -51,7 +55,7 @@ module _ (batch : Batch) where
   in_place [] h k = AllPairs-cons Goes batch [] (All-nil (Goes batch)) h
   in_place (first ∷ waiting) h k = here (in_place waiting (behind_first first waiting h)) (goes_before batch first) refl where
     all : All (Goes first) waiting
-    all j d within = h 0 (suc j) d (omega arith) (omega arith)
+    all = all_behind first waiting h
 
     count : (if eqb batch.number first.number then 1 else 0) + uses batch.number waiting ≡ 0
     count = sym (sum_by-cons (λ other. if eqb batch.number other.number then 1 else 0) first waiting) ∙ k
@@ -84,8 +88,20 @@ only_in_service : (stays : ℕ → Bool) (waiting : List Batch) → IsInService 
 only_in_service stays [] h = h
 only_in_service stays (first ∷ waiting) h =
     AllPairs-cons Goes (only stays first) (map (only stays) waiting)
-    (only_before stays first waiting (λ j d within. h 0 (suc j) d (omega arith) (omega arith)))
+    (only_before stays first waiting (all_behind first waiting h))
     (only_in_service stays waiting (behind_first first waiting h))
 
 pub left_in_service : (stays : ℕ → Bool) (waiting : List Batch) → IsInService waiting → IsInService (left stays waiting)
 left_in_service stays waiting h = AllPairs-filter Goes has_changes (map (only stays) waiting) (only_in_service stays waiting h)
+
+-- A CHANGE JOINS a batch: the order reads nothing of it that is other than before.
+pub joined_in_service : (change : ℕ) (waiting : List Batch) (place : ℕ) → IsInService waiting → IsInService (with_joined change waiting place (slice_get waiting place))
+joined_in_service change [] place h = h
+joined_in_service change (first ∷ waiting) zero h = AllPairs-cons Goes (with_change change first) waiting (all_behind first waiting h) (behind_first first waiting h)
+joined_in_service change (first ∷ waiting) (suc place) h = by (slice_get waiting place) refl (joined_in_service change waiting place (behind_first first waiting h)) where
+  by : (found : Option Batch) → slice_get waiting place ≡ found → IsInService (with_joined change waiting place found) → IsInService (with_joined change (first ∷ waiting) (suc place) found)
+  by None is others = h
+  by (Some old) is others =
+      let joined = with_change change old in
+      let before = subst (Goes first) (get_or_from_slice_get waiting place old old is) (all_behind first waiting h place old (slice_get_within waiting place old is)) in
+      AllPairs-cons Goes first (slice_set waiting place joined) (All-set (Goes first) waiting place joined before (all_behind first waiting h)) others

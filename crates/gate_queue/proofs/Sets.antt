@@ -9,7 +9,7 @@ use Rattle.std.specs.Ordering.{nat_cmp}
 use Rattle.std.specs.Str.{bytes_eq}
 use Rattle.gate_rules.specs.Rules.{Texts}
 use Rattle.gate_text.specs.Finite.{contains-each, known_by_order}
-use Rattle.gate_queue.specs.History.{Event, Mark, put, taken, marked, Delegation, to_author, to_people, to_nobody, with_author, delegated, last_of, said_on, author_back, moves, label_in, labels_back, review_in, reviews_back, delegation_in, delegates_back}
+use Rattle.gate_queue.specs.History.{Event, Mark, put, taken, marked, Delegation, to_author, to_people, to_nobody, with_author, delegated, last_of, said_on, author_back, moves, label_said, labels_back, review_said, reviews_back, delegation_said, delegates_back}
 use Rattle.gate_queue.specs.Words.{mark_of, marks, is_labeled, has_reviewed, names_person, takes_back, is_delegated}
 
 -- SETS AND TESTS
@@ -44,7 +44,7 @@ label_step (Some (taken other)) labels label last is = removed labels other labe
 
 pub labels_law : (events : List Event) (c : ℕ) (label : List ℕ) → set.contains (labels_back events c) label ≡ is_labeled events c label
 labels_law [] c label = emptied label
-labels_law (event ∷ events) c label = label_step (said_on c label_in event events) (labels_back events c) label (last_of (marks c label_in label) events) (labels_law events c label)
+labels_law (event ∷ events) c label = label_step (said_on c label_said event events) (labels_back events c) label (last_of (marks c label_said label) events) (labels_law events c label)
 
 -- REVIEWS
 put_on : (same had : Bool) → (same || had) ≡ (unwrap_or (cond same (Some true) None) false || (is_none (cond same (Some true) None) && had))
@@ -69,7 +69,7 @@ review_step false mark reviews person had is = review_marked mark reviews person
 
 pub reviews_law : (events : List Event) (c : ℕ) (person : List ℕ) → set.contains (reviews_back events c) person ≡ has_reviewed events c person
 reviews_law [] c person = emptied person
-reviews_law (event ∷ events) c person = review_step (moves c event events) (said_on c review_in event events) (reviews_back events c) person _ (reviews_law events c person)
+reviews_law (event ∷ events) c person = review_step (moves c event events) (said_on c review_said event events) (reviews_back events c) person _ (reviews_law events c person)
 
 -- DELEGATES
 or_swap : (a b : Bool) → (a || b) ≡ (b || a)
@@ -102,4 +102,4 @@ delegate_step author (Some to_nobody) delegates person had is = emptied person
 pub delegates_law : (events : List Event) (c : ℕ) (person : List ℕ) → set.contains (delegates_back events c) person ≡ is_delegated events c person
 delegates_law [] c person = emptied person
 delegates_law (event ∷ events) c person =
-    delegate_step (author_back events c) (said_on c delegation_in event events) (delegates_back events c) person _ (delegates_law events c person)
+    delegate_step (author_back events c) (said_on c delegation_said event events) (delegates_back events c) person _ (delegates_law events c person)

@@ -1,7 +1,7 @@
 -- A change that was never opened has nothing: no act on it is done but the one that opens it.
 use Rattle.std.proofs.Common.{◌≡◌, ◌⊎◌, ℕ, pos, Bool, true, false, cond, List, [], ◌∷◌, Option, Some, None, is_some, eqb, refl, sym, ◌∙◌, ap, inl, inr}
 use Rattle.std.specs.FinSet as set
-use Rattle.std.specs.Option.{option_map, option_map_or, option_and_then, option_or}
+use Rattle.std.specs.Option.{option_map, option_map_or, option_and_then}
 use Rattle.gate_text.specs.declared.command.Command.{Command}
 use Rattle.gate_text.specs.declared.command.Command.TheVariants.{Ping, Approve, ApproveFor, Withdraw, Priority, Try, TryCancel, DelegateAuthor, DelegateTo, DelegateNone, Retry}
 use Rattle.gate_text.specs.declared.command.Spoken.TheVariants.{Known, Unknown}
@@ -10,7 +10,7 @@ use Rattle.gate_rules.specs.declared.change.Change.{Change}
 use Rattle.gate_rules.specs.declared.change.Phase.TheVariants as phase
 use Rattle.gate_rules.specs.declared.rule.Rule.TheVariants.{UnknownChange}
 use Rattle.gate_queue.specs.Acts.{subject, on}
-use Rattle.gate_queue.specs.History.{Event, did, gave, done_to, author_in, author_back, phase_back, priority_back, labels_back, delegates_back, repeat_back, change_of, settings_back, look_back}
+use Rattle.gate_queue.specs.History.{Event, did, gave, done_to, author_said, author_back, phase_back, priority_back, labels_back, delegates_back, repeat_back, change_of, settings_back, look_back}
 use Rattle.gate_queue.specs.Machine.{broken}
 use Rattle.gate_queue.specs.declared.act.Act.{Act}
 use Rattle.gate_queue.specs.declared.act.Act.TheVariants.{Spoken, Role, Settings, Base, Opened, Pushed, Closed, Labeled, Unlabeled, Review}
@@ -18,6 +18,7 @@ use Rattle.gate_queue.specs.declared.reply.Order.{Order}
 use Rattle.gate_queue.proofs.After.{author_after, phase_after, priority_after, labels_after, delegates_after, repeat_after}
 use Rattle.gate_queue.proofs.Changes.{same_number}
 use Rattle.gate_queue.proofs.Fitness.{passed}
+use Rattle.gate_queue.proofs.Wording.{none_both}
 
 pub record Blank (events : List Event) (c : ℕ) : Type 0 where
   pub phase : phase_back events c ≡ phase.Closed
@@ -34,7 +35,7 @@ nothing_unseen c none = record { phase = refl; priority = refl; labels = refl; d
 
 -- THE FIRST RULE of an act on a change: that the change is known, but for the act that opens it
 abbrev KnownOrOpened : Look → ℕ → Act → Type 0
-KnownOrOpened s n act = (is_known s n ≡ true) ⊎ ((author : List ℕ) × (author_in act ≡ Some author))
+KnownOrOpened s n act = (is_known s n ≡ true) ⊎ ((author : List ℕ) × (author_said act ≡ Some author))
 
 known_by : (s : Look) (n : ℕ) (command : Command) (person : List ℕ) → broken s (Spoken n person (Known command)) ≡ None → is_known s n ≡ true
 known_by s n Ping person holds = (passed (is_known s n) UnknownChange _ holds).0
@@ -76,10 +77,6 @@ about c act (Some n) = by (eqb c n) refl where
   by true is = inr (ap Some (sym (same_number c n is)), refl)
   by false is = inl refl
 
-none_both : {X : Type 0} (this rest : Option X) → option_or this rest ≡ None → (this ≡ None) × (rest ≡ None)
-none_both (Some x) rest is = cc is
-none_both None rest is = (refl, is)
-
 known_so : (author : Option (List ℕ)) (was : List ℕ → Change) → is_some (option_map was author) ≡ true → author ≡ None → ⊥
 known_so None was known none = cc known
 known_so (Some author) was known none = cc none
@@ -104,9 +101,9 @@ pub still_unseen : (events : List Event) (act : Act) → broken (look_back event
 still_unseen events act holds c unseen = elim (about c act (subject act)) [
   | inl other ↦ left_unseen events (did act) c other unseen
   | inr (subject, here) ↦ λ none.
-      let both = none_both (option_and_then author_in (on c act)) (author_back events c) none in
+      let both = none_both (option_and_then author_said (on c act)) (author_back events c) none in
       elim (known_first (look_back events) act holds c subject) [
         | inl known ↦ absurd (known_so (author_back events c) (change_of events c) known both.1)
-        | inr (author, opens) ↦ cc (sym (ap (option_and_then author_in) here ∙ opens) ∙ both.0)
+        | inr (author, opens) ↦ cc (sym (ap (option_and_then author_said) here ∙ opens) ∙ both.0)
       ]
 ]

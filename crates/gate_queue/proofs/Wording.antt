@@ -40,6 +40,10 @@ module _ (start keep : Event → List Event → Bool) where
   since_holds events (later, before, event, is, started, kept) = ap (since start keep) is ∙ since_kept later before event started kept
 
 -- THE LAST
+pub none_both : {X : Type 0} (this rest : Option X) → option_or this rest ≡ None → (this ≡ None) × (rest ≡ None)
+none_both (Some x) rest is = cc is
+none_both None rest is = (refl, is)
+
 module _ {X : Type 0} (said : Event → List Event → Option X) where
   last_first : (this rest : Option X) (x : X) → option_or this rest ≡ Some x → (this ≡ Some x) ⊎ ((this ≡ None) × (rest ≡ Some x))
   last_first (Some y) rest x is = inl is
@@ -60,10 +64,6 @@ module _ {X : Type 0} (said : Event → List Event → Option X) where
 
   pub last_is : (events : List Event) (x : X) → SaidLast said events x → last_of said events ≡ Some x
   last_is events x (later, before, event, at, says, silent) = ap (last_of said) at ∙ last_said later before event x says silent
-
-  none_both : (this rest : Option X) → option_or this rest ≡ None → (this ≡ None) × (rest ≡ None)
-  none_both (Some y) rest is = cc is
-  none_both None rest is = (refl, is)
 
   silent_before : (later before : List Event) → last_of said (later ++ before) ≡ None → AllSilent said later before
   silent_before [] before is = tt

@@ -61,48 +61,48 @@ abbrev pub said_on : {X : Type 0} → ℕ → (Act → Option X) → Event → L
 said_on change said event before = option_and_then said (done_to change event)
 
 -- ROLES, SETTINGS, BASE, CLOCK
-abbrev pub role_in : List ℕ → Act → Option RoleOf
-role_in person (Role other role) = if bytes_eq person other then Some role else None
-role_in person _ = None
+abbrev pub role_said : List ℕ → Act → Option RoleOf
+role_said person (Role other role) = if bytes_eq person other then Some role else None
+role_said person _ = None
 
 abbrev pub role_back : List Event → List ℕ → RoleOf
-role_back events person = unwrap_or (last_of (said_by (role_in person)) events) Nobody
+role_back events person = unwrap_or (last_of (said_by (role_said person)) events) Nobody
 
-abbrev pub settings_in : Act → Option SettingsView
-settings_in (Settings text) = result_ok (settings_of text)
-settings_in _ = None
+abbrev pub settings_said : Act → Option SettingsView
+settings_said (Settings text) = result_ok (settings_of text)
+settings_said _ = None
 
 abbrev pub settings_back : List Event → Option SettingsView
-settings_back events = last_of (said_by settings_in) events
+settings_back events = last_of (said_by settings_said) events
 
-abbrev pub base_in : Act → Option (List ℕ)
-base_in (Base commit) = Some commit
-base_in _ = None
+abbrev pub base_said : Act → Option (List ℕ)
+base_said (Base commit) = Some commit
+base_said _ = None
 
 abbrev pub base_back : List Event → Option (List ℕ)
-base_back events = last_of (said_by base_in) events
+base_back events = last_of (said_by base_said) events
 
 -- No act sets the clock yet.
 abbrev pub clock_back : List Event → ℕ
 clock_back events = 0
 
 -- CHANGES
-abbrev pub author_in : Act → Option (List ℕ)
-author_in (Opened change author head) = Some author
-author_in _ = None
+abbrev pub author_said : Act → Option (List ℕ)
+author_said (Opened change author head) = Some author
+author_said _ = None
 
 -- none if the change was never opened
 abbrev pub author_back : List Event → ℕ → Option (List ℕ)
-author_back events change = last_of (said_on change author_in) events
+author_back events change = last_of (said_on change author_said) events
 
-abbrev pub head_in : Act → Option (List ℕ)
-head_in (Opened change author head) = Some head
-head_in (Pushed change head) = Some head
-head_in _ = None
+abbrev pub head_said : Act → Option (List ℕ)
+head_said (Opened change author head) = Some head
+head_said (Pushed change head) = Some head
+head_said _ = None
 
 -- empty if the change was never opened
 abbrev pub head_back : List Event → ℕ → List ℕ
-head_back events change = unwrap_or (last_of (said_on change head_in) events) []
+head_back events change = unwrap_or (last_of (said_on change head_said) events) []
 
 -- a head move: the change is opened, or another head than before is pushed
 abbrev pub moves_head : ℕ → List Event → Act → Bool
@@ -113,30 +113,30 @@ moves_head change before _ = false
 abbrev pub moves : ℕ → Event → List Event → Bool
 moves change event before = option_map_or (moves_head change before) (done_to change event) false
 
-abbrev pub phase_in : Act → Option Phase
-phase_in (Opened change author head) = Some phase.Opened
-phase_in (Closed change) = Some phase.Closed
-phase_in _ = None
+abbrev pub phase_said : Act → Option Phase
+phase_said (Opened change author head) = Some phase.Opened
+phase_said (Closed change) = Some phase.Closed
+phase_said _ = None
 
 -- A change that was never opened isn't open.
 abbrev pub phase_back : List Event → ℕ → Phase
-phase_back events change = unwrap_or (last_of (said_on change phase_in) events) phase.Closed
+phase_back events change = unwrap_or (last_of (said_on change phase_said) events) phase.Closed
 
-abbrev pub priority_in : Act → Option ℤ
-priority_in (Spoken change person (Known (Priority priority))) = Some priority
-priority_in _ = None
+abbrev pub priority_said : Act → Option ℤ
+priority_said (Spoken change person (Known (Priority priority))) = Some priority
+priority_said _ = None
 
 abbrev pub priority_back : List Event → ℕ → ℤ
-priority_back events change = unwrap_or (last_of (said_on change priority_in) events) (pos 0)
+priority_back events change = unwrap_or (last_of (said_on change priority_said) events) (pos 0)
 
 -- the last `r+` or `r=`
-abbrev pub repeat_in : Act → Option Repeat
-repeat_in (Spoken change person (Known Approve)) = Some repeat.Approve
-repeat_in (Spoken change person (Known (ApproveFor names))) = Some (repeat.ApproveFor names)
-repeat_in _ = None
+abbrev pub repeat_said : Act → Option Repeat
+repeat_said (Spoken change person (Known Approve)) = Some repeat.Approve
+repeat_said (Spoken change person (Known (ApproveFor names))) = Some (repeat.ApproveFor names)
+repeat_said _ = None
 
 abbrev pub repeat_back : List Event → ℕ → Option Repeat
-repeat_back events change = last_of (said_on change repeat_in) events
+repeat_back events change = last_of (said_on change repeat_said) events
 
 -- SETS of a change: each act on it may put a text in or take one out.
 pub data Mark : Type 0 where
@@ -148,23 +148,23 @@ marked None texts = texts
 marked (Some (put text)) texts = set.insert texts text
 marked (Some (taken text)) texts = set.remove texts text
 
-abbrev pub label_in : Act → Option Mark
-label_in (Labeled change label) = Some (put label)
-label_in (Unlabeled change label) = Some (taken label)
-label_in _ = None
+abbrev pub label_said : Act → Option Mark
+label_said (Labeled change label) = Some (put label)
+label_said (Unlabeled change label) = Some (taken label)
+label_said _ = None
 
 abbrev pub labels_back : List Event → ℕ → Texts
 labels_back [] change = set.empty
-labels_back (event ∷ events) change = marked (said_on change label_in event events) (labels_back events change)
+labels_back (event ∷ events) change = marked (said_on change label_said event events) (labels_back events change)
 
-abbrev pub review_in : Act → Option Mark
-review_in (Review change person head approves) = Some (if approves then put person else taken person)
-review_in _ = None
+abbrev pub review_said : Act → Option Mark
+review_said (Review change person head approves) = Some (if approves then put person else taken person)
+review_said _ = None
 
 -- A head move ends all reviews.
 abbrev pub reviews_back : List Event → ℕ → Texts
 reviews_back [] change = set.empty
-reviews_back (event ∷ events) change = if moves change event events then set.empty else marked (said_on change review_in event events) (reviews_back events change)
+reviews_back (event ∷ events) change = if moves change event events then set.empty else marked (said_on change review_said event events) (reviews_back events change)
 
 -- who becomes a delegate: the author at that moment, the people of a list, or nobody any longer
 pub data Delegation : Type 0 where
@@ -172,11 +172,11 @@ pub data Delegation : Type 0 where
   to_people : List (List ℕ) → Delegation
   to_nobody : Delegation
 
-abbrev pub delegation_in : Act → Option Delegation
-delegation_in (Spoken change person (Known DelegateAuthor)) = Some to_author
-delegation_in (Spoken change person (Known (DelegateTo names))) = Some (to_people names)
-delegation_in (Spoken change person (Known DelegateNone)) = Some to_nobody
-delegation_in _ = None
+abbrev pub delegation_said : Act → Option Delegation
+delegation_said (Spoken change person (Known DelegateAuthor)) = Some to_author
+delegation_said (Spoken change person (Known (DelegateTo names))) = Some (to_people names)
+delegation_said (Spoken change person (Known DelegateNone)) = Some to_nobody
+delegation_said _ = None
 
 abbrev pub with_author : Option (List ℕ) → Texts → Texts
 with_author None delegates = delegates
@@ -190,7 +190,7 @@ delegated author (Some to_nobody) delegates = set.empty
 
 abbrev pub delegates_back : List Event → ℕ → Texts
 delegates_back [] change = set.empty
-delegates_back (event ∷ events) change = delegated (author_back events change) (said_on change delegation_in event events) (delegates_back events change)
+delegates_back (event ∷ events) change = delegated (author_back events change) (said_on change delegation_said event events) (delegates_back events change)
 
 -- APPROVALS
 -- fit: the change is open, settings exist, no label of it is blocking, and it has reviews enough
@@ -198,10 +198,10 @@ abbrev pub fit_back : List Event → ℕ → Bool
 fit_back events change = is_fit (settings_back events) (phase_back events change) (labels_back events change) (reviews_back events change)
 
 -- the approvers that an act gives its change
-abbrev pub approval_in : Act → Option (List (List ℕ))
-approval_in (Spoken change person (Known Approve)) = Some (person ∷ [])
-approval_in (Spoken change person (Known (ApproveFor names))) = Some names
-approval_in _ = None
+abbrev pub approval_said : Act → Option (List (List ℕ))
+approval_said (Spoken change person (Known Approve)) = Some (person ∷ [])
+approval_said (Spoken change person (Known (ApproveFor names))) = Some names
+approval_said _ = None
 
 -- what ends an approval, beside the loss of fitness: `r-`, a head move, and that the change is closed
 abbrev pub ends_it : ℕ → List Event → Act → Bool
@@ -216,13 +216,13 @@ ends change event before = option_map_or (ends_it change before) (done_to change
 -- nothing has ended it.
 abbrev pub standing_back : List Event → ℕ → Bool
 standing_back events change = since
-    (λ event before. is_some (said_on change approval_in event before) && fit_back (event ∷ before) change)
+    (λ event before. is_some (said_on change approval_said event before) && fit_back (event ∷ before) change)
     (λ event before. not (ends change event before) && fit_back (event ∷ before) change)
     events
 
 -- its approvers are those of the last approval
 abbrev pub approvers_back : List Event → ℕ → Option (List (List ℕ))
-approvers_back events change = if standing_back events change then last_of (said_on change approval_in) events else None
+approvers_back events change = if standing_back events change then last_of (said_on change approval_said) events else None
 
 -- A CHANGE that was opened, with all that the history says of it
 abbrev pub change_of : List Event → ℕ → List ℕ → Change

@@ -1,9 +1,10 @@
--- THE ORDER OF SERVICE over a whole list of waiting batches.
-use Rattle.std.specs.Prelude.{◌≡◌, ℕ, Bool, true, List}
+-- THE ORDER OF SERVICE of a lane, and the numbers of its batches, after all that is done to it.
+use Rattle.std.specs.Prelude.{◌≡◌, ◌≤◌, ℕ, ◌+◌, nat_lt, nat_le, ℤ, Bool, true, ◌&&◌, List, Option, if◌then◌else◌}
 use Rattle.std.specs.List.{AllPairs}
 use Rattle.gate_queue.specs.Counts.{uses}
-use Rattle.gate_queue.specs.Lanes.{goes_before, placed, left}
+use Rattle.gate_queue.specs.Lanes.{batches_of, goes_before, placed, left, enqueued, enqueue_uses, taken_out, taken_out_uses, restarted, restarted_uses, requeued, requeued_uses, failed, failed_uses, started, dropped}
 use Rattle.gate_queue.specs.declared.batch.Batch.{Batch}
+use Rattle.gate_queue.specs.declared.lane.Lane.{Lane}
 
 -- Each batch goes before all that are behind it.
 abbrev pub IsInService : List Batch → Type 0
@@ -16,3 +17,42 @@ LawOfPlaces = (batch : Batch) (waiting : List Batch) → IsInService waiting →
 -- What is left of the batches is in order as before.
 abbrev pub LawOfRests : Type 0
 LawOfRests = (stays : ℕ → Bool) (waiting : List Batch) → IsInService waiting → IsInService (left stays waiting)
+
+-- A LANE IN ORDER, under the next number: the waiting batches are in order of service, no two batches have the same number,
+-- and none has one that is still to come.
+pub record IsInOrder (next : ℕ) (lane : Lane) : Type 0 where
+  pub service : IsInService lane.waiting
+  pub numbers : (number : ℕ) → uses number (batches_of lane) ≤ (if nat_lt number next then 1 else 0)
+
+-- It stays so, whatever is done to it.
+pub record StaysInOrder (next : ℕ) (lane : Lane) : Type 0 where
+  pub enqueue : (size : Option ℕ) (priority : ℤ) (change : ℕ) → IsInOrder (next + enqueue_uses size priority lane) (enqueued size next priority change lane)
+  pub take_out : (stays : ℕ → Bool) → IsInOrder (next + taken_out_uses stays lane) (taken_out stays next lane)
+  pub restart : IsInOrder (next + restarted_uses lane) (restarted next lane)
+  pub requeue : (stays : ℕ → Bool) → IsInOrder (next + requeued_uses stays lane) (requeued stays next lane)
+  pub fail : IsInOrder (next + failed_uses lane) (failed next lane)
+  pub start : (now : ℕ) → IsInOrder next (started now lane)
+  pub drop : IsInOrder next (dropped lane)
+
+abbrev pub LawOfOrder : Type 0
+LawOfOrder = (next : ℕ) (lane : Lane) → IsInOrder next lane → StaysInOrder next lane
+
+-- NEW NUMBERS: so many from the next one on. No number is used more often than before, but for these, each once more.
+abbrev pub is_new : ℕ → ℕ → ℕ → Bool
+is_new next count number = nat_le next number && nat_lt number (next + count)
+
+pub record OnlyNew (next count : ℕ) (lane after : Lane) : Type 0 where
+  pub waiting : (number : ℕ) → uses number after.waiting ≤ uses number lane.waiting + (if is_new next count number then 1 else 0)
+  pub all : (number : ℕ) → uses number (batches_of after) ≤ uses number (batches_of lane) + (if is_new next count number then 1 else 0)
+
+pub record UsesNewNumbers (next : ℕ) (lane : Lane) : Type 0 where
+  pub enqueue : (size : Option ℕ) (priority : ℤ) (change : ℕ) → OnlyNew next (enqueue_uses size priority lane) lane (enqueued size next priority change lane)
+  pub take_out : (stays : ℕ → Bool) → OnlyNew next (taken_out_uses stays lane) lane (taken_out stays next lane)
+  pub restart : OnlyNew next (restarted_uses lane) lane (restarted next lane)
+  pub requeue : (stays : ℕ → Bool) → OnlyNew next (requeued_uses stays lane) lane (requeued stays next lane)
+  pub fail : OnlyNew next (failed_uses lane) lane (failed next lane)
+  pub start : (now : ℕ) → OnlyNew next 0 lane (started now lane)
+  pub drop : OnlyNew next 0 lane (dropped lane)
+
+abbrev pub LawOfNumbers : Type 0
+LawOfNumbers = (next : ℕ) (lane : Lane) → UsesNewNumbers next lane

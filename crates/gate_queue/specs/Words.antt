@@ -5,7 +5,7 @@ use Rattle.std.specs.FinSet as set
 use Rattle.std.specs.List.{list_any}
 use Rattle.std.specs.Option.{unwrap_or, option_and_then, option_map_or}
 use Rattle.std.specs.Str.{bytes_eq}
-use Rattle.gate_queue.specs.History.{Event, Mark, put, taken, Delegation, to_author, to_people, to_nobody, last_of, since, said_on, author_back, moves, label_in, labels_back, review_in, reviews_back, delegation_in, delegates_back}
+use Rattle.gate_queue.specs.History.{Event, Mark, put, taken, Delegation, to_author, to_people, to_nobody, last_of, since, said_on, author_back, moves, label_said, labels_back, review_said, reviews_back, delegation_said, delegates_back}
 use Rattle.gate_queue.specs.declared.act.Act.{Act}
 
 -- SINCE. The list can be cut at an event that started it, and each event that came after has kept it.
@@ -39,16 +39,16 @@ mark_of text (put other) = if bytes_eq text other then Some true else None
 mark_of text (taken other) = if bytes_eq text other then Some false else None
 
 abbrev pub marks : ℕ → (Act → Option Mark) → List ℕ → Event → List Event → Option Bool
-marks change mark_in text event before = option_and_then (mark_of text) (said_on change mark_in event before)
+marks change mark_said text event before = option_and_then (mark_of text) (said_on change mark_said event before)
 
 abbrev pub is_labeled : List Event → ℕ → List ℕ → Bool
-is_labeled events change label = unwrap_or (last_of (marks change label_in label) events) false
+is_labeled events change label = unwrap_or (last_of (marks change label_said label) events) false
 
 -- A person is among the reviews of a change since the person approved of it, until another review or a head move.
 abbrev pub has_reviewed : List Event → ℕ → List ℕ → Bool
 has_reviewed events change person = since
-    (λ event before. not (moves change event before) && unwrap_or (marks change review_in person event before) false)
-    (λ event before. not (moves change event before) && is_none (marks change review_in person event before))
+    (λ event before. not (moves change event before) && unwrap_or (marks change review_said person event before) false)
+    (λ event before. not (moves change event before) && is_none (marks change review_said person event before))
     events
 
 -- A person is a delegate of a change since a delegation, until all are taken back.
@@ -64,8 +64,8 @@ takes_back to_nobody = true
 
 abbrev pub is_delegated : List Event → ℕ → List ℕ → Bool
 is_delegated events change person = since
-    (λ event before. option_map_or (names_person person (author_back before change)) (said_on change delegation_in event before) false)
-    (λ event before. not (option_map_or takes_back (said_on change delegation_in event before) false))
+    (λ event before. option_map_or (names_person person (author_back before change)) (said_on change delegation_said event before) false)
+    (λ event before. not (option_map_or takes_back (said_on change delegation_said event before) false))
     events
 
 abbrev pub LawOfSets : Type 0

@@ -1,5 +1,5 @@
 ghost use Rattle.gate_queue.specs.Counts.{LawOfEnqueue, LawOfTakeOut, LawOfRestart, LawOfStart, LawOfRequeue, LawOfFail, LawOfDrop};
-ghost use Rattle.gate_queue.specs.Service.{LawOfPlaces, LawOfRests};
+ghost use Rattle.gate_queue.specs.Service.{LawOfNumbers, LawOfOrder, LawOfPlaces, LawOfRests};
 ghost use Rattle.gate_queue.specs.Words.{LawOfSince, LawOfTheLast, LawOfSets};
 
 /// The law of `since`: it holds exactly if the events can be cut at one that started it, and each event that came after
@@ -8,8 +8,8 @@ pub fn law_of_since()
     ensures { LawOfSince }
 {}
 
-/// The law of `last_of`: it gives what some act says after which no act says anything, and nothing exactly if no act
-/// says anything.
+/// The law of `last_of`: it gives what some event says after which no event says anything, and nothing exactly if no
+/// event says anything.
 pub fn law_of_the_last<X>()
     ensures { LawOfTheLast X }
 {}
@@ -21,10 +21,13 @@ pub fn law_of_sets()
 {}
 
 /// The law of service: if each waiting batch goes before all behind it, then it does so after a batch was put at its place
-/// under a new number, and after changes were taken out.
+/// under a new number, and after changes were taken out. If also no two batches of a lane have the same number, and none one
+/// that is still to come, then both stay so, whatever is done to the lane; and no batch is given a number but the next ones.
 pub fn law_of_service()
     ensures places { LawOfPlaces }
     ensures rests { LawOfRests }
+    ensures order { LawOfOrder }
+    ensures numbers { LawOfNumbers }
 {}
 
 /// The law of changes: what is done to a lane loses no change and doubles none, but for those that it names.

@@ -1,5 +1,4 @@
-use Rattle.std.proofs.Common.{rules, ◌≡◌, ◌++◌, List, [], ◌∷◌}
-use Rattle.gate_queue.specs.declared.reply.Reply.{Reply}
+use Rattle.std.proofs.Common.{rules, ◌≡◌, ◌++◌, [], ◌∷◌}
 use Rattle.gate_bot.proofs.Telling.{told_next, led_next, tells_next}
 use Rattle.gate_bot.proofs.machine.step_all.Goals as goal
 

@@ -1,3 +1,5 @@
+use Rattle.gate_queue.proofs.InOrder.{order_law}
+use Rattle.gate_queue.proofs.Numbers.{numbers_law}
 use Rattle.gate_queue.proofs.Service.{placed_in_service, left_in_service}
 use Rattle.gate_queue.proofs.laws.law_of_service.Goals as goal
 
@@ -6,3 +8,9 @@ returns-clause-places c = placed_in_service
 
 pub returns-clause-rests : goal.returns-clause-rests
 returns-clause-rests c = left_in_service
+
+pub returns-clause-order : goal.returns-clause-order
+returns-clause-order c = order_law
+
+pub returns-clause-numbers : goal.returns-clause-numbers
+returns-clause-numbers c = numbers_law
