@@ -60,18 +60,17 @@ ends opened input bot new line count before between after so_far is written =
     }
 
 -- A FAULT AT A LINE FEED
-wants_memory : (bot new : Shown) (served : Shown) (line last : List ℕ) → bot ≡ served → line ≡ kept_of last → StopsAtLine bot line new → StopsAtLine served last new
-wants_memory bot new served line last is kept (inl nothing) = inl (nothing ∙ is)
-wants_memory bot new served line last is kept (inr (inl acted)) =
-    inr (inl (acted ∙ ap (after_line bot) kept ∙ ap (λ (b : Shown). after_line b (kept_of last)) is ∙ after_line-kept served last))
-wants_memory bot new served line last is kept (inr (inr stopped)) =
-    inr (inr (subst (λ (b : Bool). IsTrue b) (ap is_delivery kept ∙ is_delivery-kept last) stopped.0, stopped.1))
+stops_at : (fault : Fault) (bot new : Shown) (served : Shown) (line last : List ℕ) → bot ≡ served → line ≡ kept_of last → StopsAtLine fault bot line new → StopsAtLine fault served last new
+stops_at fault bot new served line last is kept (inl (memory, inl nothing)) = inl (memory, inl (nothing ∙ is))
+stops_at fault bot new served line last is kept (inl (memory, inr acted)) =
+    inl (memory, inr (acted ∙ ap (after_line bot) kept ∙ ap (λ (b : Shown). after_line b (kept_of last)) is ∙ after_line-kept served last))
+stops_at fault bot new served line last is kept (inr stopped) = inr (subst (λ (b : Bool). IsTrue b) (ap is_delivery kept ∙ is_delivery-kept last) stopped.0, stopped.1)
 
 pub stops : (may_answer : Fault → Type 0) (opened : Shown) (input : List ℕ) (bot new : Shown) (line : List ℕ) (count : ℕ) (before between after : Option (List ℕ)) (fault : HookFault)
     → IsUpTo opened input bot line count before between → IsAnswered may_answer (Err fault) bot line new between after → StopsBehind may_answer fault opened input new before after
 stops may_answer opened input bot new line count before between after (Gate fault) so_far refused = (
   refused.0,
-  wants_memory bot new _ line (open_line input) so_far.bot so_far.line refused.1,
+  stops_at fault bot new _ line (open_line input) so_far.bot so_far.line refused.1,
   subst (Appends before after) (append-nil _) (Appends-trans before between after _ [] so_far.written refused.2),
 )
 stops may_answer opened input bot new line count before between after Write so_far refused =

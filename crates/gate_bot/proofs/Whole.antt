@@ -2,18 +2,24 @@
 use Rattle.std.proofs.Common.{◌≡◌, false, List, [], ◌∷◌, map, refl}
 use Rattle.serde_json.specs.View.{items_of}
 use Rattle.serde_json.specs.Written.{has_float, items_have_float}
-use Rattle.gate_rules.specs.declared.rule.Rule.TheVariants.{UnknownChange, NotACommand, NotPermitted, NotOpen, NoSettings, NoBase, AlreadyApproved, NotApproved, Blocked, TooFewReviews, AlreadyOpen, StaleHead, NotMember, OwnChange, BadSettings, SameAsBase}
-use Rattle.gate_bot.specs.Answers.{order_data, reply_data, answer_data}
+use Rattle.gate_rules.specs.declared.rule.Rule.TheVariants.{UnknownChange, NotACommand, NotPermitted, NotOpen, NoSettings, NoBase, AlreadyApproved, NotApproved, Blocked, TooFewReviews, AlreadyOpen, StaleHead, NotMember, OwnChange, BadSettings, ClockBack, NoSuchBatch, SameAsBase}
+use Rattle.gate_bot.specs.Answers.{head_data, order_data, reply_data, answer_data}
 use Rattle.gate_bot.specs.Errors.{error_data}
 use Rattle.gate_bot.specs.declared.reading.DeliveryFault.{DeliveryFault}
 use Rattle.gate_bot.specs.declared.reading.DeliveryFault.TheVariants.{NotJson, BadField, UnknownEvent, Memory}
+use Rattle.gate_queue.specs.declared.reply.Head.{Head}
 use Rattle.gate_queue.specs.declared.reply.Order.{Order}
-use Rattle.gate_queue.specs.declared.reply.Order.TheVariants.{Notice}
+use Rattle.gate_queue.specs.declared.reply.Order.TheVariants.{Stage, Notice}
 use Rattle.gate_queue.specs.declared.reply.Reply.{Reply}
 use Rattle.gate_queue.specs.declared.reply.Reply.TheVariants.{Done, Denied}
 
+heads_whole : (heads : List Head) → items_have_float (items_of (map head_data heads)) ≡ false
+heads_whole [] = refl
+heads_whole (staged ∷ heads) = heads_whole heads
+
 orders_whole : (orders : List Order) → items_have_float (items_of (map order_data orders)) ≡ false
 orders_whole [] = refl
+orders_whole (Stage batch branch base heads ∷ orders) = rw (heads_whole heads) (orders_whole orders)
 orders_whole (Notice change why ∷ orders) = orders_whole orders
 
 reply_whole : (reply : Reply) → has_float (reply_data reply) ≡ false
@@ -33,6 +39,8 @@ reply_whole (Denied StaleHead) = refl
 reply_whole (Denied NotMember) = refl
 reply_whole (Denied OwnChange) = refl
 reply_whole (Denied (BadSettings refusal)) = refl
+reply_whole (Denied ClockBack) = refl
+reply_whole (Denied NoSuchBatch) = refl
 reply_whole (Denied SameAsBase) = refl
 
 replies_whole : (replies : List Reply) → items_have_float (items_of (map reply_data replies)) ≡ false

@@ -5,9 +5,12 @@ use Rattle.serde_json.specs.View.{items_of}
 use Rattle.serde_json.specs.Written.{compact_text}
 use Rattle.gate_rules.specs.Words.{number_of, word_of, level_word_of}
 use Rattle.gate_rules.specs.declared.rule.Rule.{Rule}
-use Rattle.gate_rules.specs.declared.rule.Rule.TheVariants.{UnknownChange, NotACommand, NotPermitted, NotOpen, NoSettings, NoBase, AlreadyApproved, NotApproved, Blocked, TooFewReviews, AlreadyOpen, StaleHead, NotMember, OwnChange, BadSettings, SameAsBase}
+use Rattle.gate_rules.specs.declared.rule.Rule.TheVariants.{UnknownChange, NotACommand, NotPermitted, NotOpen, NoSettings, NoBase, AlreadyApproved, NotApproved, Blocked, TooFewReviews, AlreadyOpen, StaleHead, NotMember, OwnChange, BadSettings, ClockBack, NoSuchBatch, SameAsBase}
+use Rattle.gate_queue.specs.declared.batch.Branch.{Branch}
+use Rattle.gate_queue.specs.declared.batch.Branch.TheVariants.{Staging, Trying}
+use Rattle.gate_queue.specs.declared.reply.Head.{Head}
 use Rattle.gate_queue.specs.declared.reply.Order.{Order}
-use Rattle.gate_queue.specs.declared.reply.Order.TheVariants.{Notice}
+use Rattle.gate_queue.specs.declared.reply.Order.TheVariants.{Stage, Notice}
 use Rattle.gate_queue.specs.declared.reply.Why.{Why}
 use Rattle.gate_queue.specs.declared.reply.Why.TheVariants as why
 use Rattle.gate_queue.specs.declared.reply.Reply.{Reply}
@@ -36,6 +39,8 @@ detail_of StaleHead = None
 detail_of NotMember = None
 detail_of OwnChange = None
 detail_of (BadSettings refusal) = Some (number (unsigned refusal))
+detail_of ClockBack = None
+detail_of NoSuchBatch = None
 detail_of SameAsBase = None
 
 abbrev with_detail : Option Data → Members → Members
@@ -43,13 +48,31 @@ with_detail None members = members
 with_detail (Some detail) members = member (codes "detail") detail members
 
 abbrev pub why_word_of : Why → List ℕ
+why_word_of why.Conflict = codes "Conflict"
 why_word_of why.Pushed = codes "Pushed"
 why_word_of why.Closed = codes "Closed"
 why_word_of why.Labeled = codes "Labeled"
 why_word_of why.Reviews = codes "Reviews"
 why_word_of why.Settings = codes "Settings"
 
+abbrev pub branch_word_of : Branch → List ℕ
+branch_word_of Staging = codes "staging"
+branch_word_of Trying = codes "trying"
+
+-- a change and its head, as a pair
+abbrev pub head_data : Head → Data
+head_data staged = array (items_of (number (unsigned staged.change) ∷ string staged.head ∷ []))
+
+abbrev pub heads_data : List Head → Data
+heads_data heads = array (items_of (map head_data heads))
+
 abbrev pub order_data : Order → Data
+order_data (Stage batch branch base heads) =
+    object (member (codes "base") (string base)
+    (member (codes "batch") (number (unsigned batch))
+    (member (codes "branch") (string (branch_word_of branch))
+    (member (codes "heads") (heads_data heads)
+    (member (codes "order") (string (codes "stage")) no_members)))))
 order_data (Notice change why) =
     object (member (codes "change") (number (unsigned change))
     (member (codes "order") (string (codes "notice"))

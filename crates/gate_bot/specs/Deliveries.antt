@@ -1,12 +1,12 @@
 -- DELIVERIES: the delivery that a text is, as JSON (RFC 8259), or why it is none.
-use Rattle.std.specs.Prelude.{◌≡◌, ℕ, Bool, List, Option, Some, None, Result, Ok, Err, option_and_then, ok_or, codes, if◌then◌else◌}
+use Rattle.std.specs.Prelude.{◌≡◌, ℕ, nat_le, Bool, ◌&&◌, List, Option, Some, None, Result, Ok, Err, option_and_then, ok_or, codes, if◌then◌else◌}
 use Rattle.std.specs.Result.{result_ok}
 use Rattle.std.specs.Str.{bytes_eq, is_utf8}
 use Rattle.serde_json.specs.Data.{Data, object}
 use Rattle.serde_json.specs.Find.{get, as_str, as_bool, as_u64, as_number}
 use Rattle.serde_json.specs.Read.{read}
 use Rattle.gate_text.specs.Steps.{◌>>=◌}
-use Rattle.gate_text.specs.SmallTexts.{name_of, plain_of, commit_of, delivery_id_of, change_no_from}
+use Rattle.gate_text.specs.SmallTexts.{name_of, plain_of, commit_of, delivery_id_of}
 use Rattle.gate_text.specs.declared.fault.TextFault.{TextFault}
 use Rattle.gate_text.specs.declared.fault.TextFault.TheVariants as text_fault
 use Rattle.serde_json.specs.View.{view}
@@ -16,7 +16,7 @@ use Rattle.gate_rules.specs.declared.role.Role.{Role as RoleOf}
 use Rattle.gate_rules.specs.declared.role.Role.TheVariants.{Nobody, Member, Reviewer}
 use Rattle.gate_bot.specs.declared.delivery.Delivery.{Delivery}
 use Rattle.gate_bot.specs.declared.delivery.Event.{Event}
-use Rattle.gate_bot.specs.declared.delivery.Event.TheVariants.{Comment, Role, Settings, Base, Opened, Pushed, Closed, Labeled, Unlabeled, Review}
+use Rattle.gate_bot.specs.declared.delivery.Event.TheVariants.{Comment, Role, Settings, Base, Opened, Pushed, Closed, Labeled, Unlabeled, Review, Staged, Conflict, Tick}
 use Rattle.gate_bot.specs.declared.reading.Field.{Field}
 use Rattle.gate_bot.specs.declared.reading.Field.TheVariants as field
 use Rattle.gate_bot.specs.declared.reading.DeliveryFault.{DeliveryFault}
@@ -43,6 +43,8 @@ field_name field.Head = codes "head"
 field_name field.Commit = codes "commit"
 field_name field.Label = codes "label"
 field_name field.Approves = codes "approves"
+field_name field.Batch = codes "batch"
+field_name field.Now = codes "now"
 
 -- a value that has to be there, or the refusal that names its field
 abbrev pub required : {X : Type 0} → Field → Option X → Result X DeliveryFault
@@ -56,9 +58,22 @@ id_at d = do
   text ← text_at field.Id d
   required field.Id (result_ok (delivery_id_of text))
 
--- a whole number written in digits alone
+-- the number, if it is within the limits
+abbrev pub between : ℕ → ℕ → ℕ → Option ℕ
+between least greatest n = if nat_le least n && nat_le n greatest then Some n else None
+
+-- such a number that stands at a field, written in digits alone
+abbrev pub number_at : Field → ℕ → ℕ → Data → Result ℕ DeliveryFault
+number_at name least greatest d = required name (option_and_then (between least greatest) (option_and_then as_u64 (option_and_then as_number (get (field_name name) d))))
+
 abbrev pub change_at : Data → Result ℕ DeliveryFault
-change_at d = required field.Change (option_and_then change_no_from (option_and_then as_u64 (option_and_then as_number (get (field_name field.Change) d))))
+change_at d = number_at field.Change 1 4_294_967_295 d
+
+abbrev pub batch_at : Data → Result ℕ DeliveryFault
+batch_at d = number_at field.Batch 1 9_000_000_000_000_000 d
+
+abbrev pub now_at : Data → Result ℕ DeliveryFault
+now_at d = number_at field.Now 0 9_000_000_000_000_000 d
 
 abbrev pub name_at : Field → Data → Result (List ℕ) DeliveryFault
 name_at name d = do
@@ -152,6 +167,22 @@ review_in d = do
   approves ← approves_at d
   Ok (Review change person head approves)
 
+abbrev pub staged_in : Data → Result Event DeliveryFault
+staged_in d = do
+  batch ← batch_at d
+  commit ← commit_at field.Commit d
+  Ok (Staged batch commit)
+
+abbrev pub conflict_in : Data → Result Event DeliveryFault
+conflict_in d = do
+  batch ← batch_at d
+  Ok (Conflict batch)
+
+abbrev pub tick_in : Data → Result Event DeliveryFault
+tick_in d = do
+  now ← now_at d
+  Ok (Tick now)
+
 abbrev pub event_called : List ℕ → Data → Result Event DeliveryFault
 event_called kind d =
     if bytes_eq kind (codes "comment") then comment_in d
@@ -164,7 +195,10 @@ event_called kind d =
     else (if bytes_eq kind (codes "labeled") then labeled_in d
     else (if bytes_eq kind (codes "unlabeled") then unlabeled_in d
     else (if bytes_eq kind (codes "review") then review_in d
-    else Err UnknownEvent)))))))))
+    else (if bytes_eq kind (codes "staged") then staged_in d
+    else (if bytes_eq kind (codes "conflict") then conflict_in d
+    else (if bytes_eq kind (codes "tick") then tick_in d
+    else Err UnknownEvent))))))))))))
 
 -- DELIVERIES: the identifier first, then the event and its fields
 abbrev pub delivery_in : Data → Result Delivery DeliveryFault

@@ -3,7 +3,7 @@
 --     Acts         the acts of a delivery
 --     Answers      the text of an answer
 --     Errors       the text of an error
---     Run          the replies to acts in order, and what their entries tell, by the machine and the history of gate_queue
+--     Run          the replies to acts in order, how they end, and what their entries tell, by the machine and the history of gate_queue
 --     Shown        what a bot shows, before and after a delivery
 --     Lines        the lines of a text, and what is written for them
 --     Outcome      the exit status, and the line on standard error

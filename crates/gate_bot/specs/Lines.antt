@@ -1,5 +1,5 @@
 -- LINES: what is written for the lines that were read. A text is seen whole; the code takes it byte by byte.
-use Rattle.std.specs.Prelude.{◌≡◌, ◌⊎◌, ℕ, ◌+◌, ◌<◌, ◌≤◌, ◌==◌, ◌&&◌, not, nat_lt, List, [], ◌∷◌, ◌++◌, length, take, Bool, false, Option, Result, Ok, Err, is_ok, IsTrue, codes, if◌then◌else◌}
+use Rattle.std.specs.Prelude.{◌≡◌, ◌⊎◌, ℕ, ◌+◌, ◌<◌, ◌≤◌, ◌==◌, ◌&&◌, not, nat_lt, List, [], ◌∷◌, ◌++◌, length, take, Bool, false, Option, Some, Result, Ok, Err, is_ok, IsTrue, codes, if◌then◌else◌}
 use Rattle.std.specs.Io.KnownBytes.{Appends, IsAtEnd}
 use Rattle.gate_bot.specs.Answers.{answer_text_of}
 use Rattle.gate_bot.specs.Errors.{error_text_of}
@@ -89,21 +89,22 @@ HasServed old lines new before after = (new ≡ after_lines old lines) × Append
 abbrev pub MayEnd : (Fault → Type 0) → Fault → Type 0
 MayEnd may_answer fault = (fault ≡ Memory) ⊎ may_answer fault
 
--- A fault at a line that comes after those served: nothing of its answer is written. The line may have acted already; or
--- it is a delivery at which the bot met the fault, and has stopped; or neither.
-abbrev pub StopsAtLine : Shown → List ℕ → Shown → Type 0
-StopsAtLine old line new = (new ≡ old) ⊎ ((new ≡ after_line old line) ⊎ (IsTrue (is_delivery line) × IsTrue new.stopped))
+-- A fault at a line that comes after those served: nothing of its answer is written. It is a delivery at which the bot met
+-- the fault, and has stopped; or memory was wanting before the line acted, or after.
+abbrev pub StopsAtLine : Fault → Shown → List ℕ → Shown → Type 0
+StopsAtLine fault old line new =
+    ((fault ≡ Memory) × ((new ≡ old) ⊎ (new ≡ after_line old line))) ⊎ (IsTrue (is_delivery line) × (new.stopped ≡ Some fault))
 
 -- these lines are the first that are complete: line feeds ended them; or they are all, and the input is at its end
 abbrev pub AreComplete : List ℕ → Option (List ℕ) → List (List ℕ) → Type 0
 AreComplete input left lines =
     ((others : List (List ℕ)) × (ended_lines input ≡ lines ++ others)) ⊎ ((lines_of input ≡ lines) × IsAtEnd left)
 
-pub record StopsAtGate (old : Shown) (input : List ℕ) (left : Option (List ℕ)) (new : Shown) (before after : Option (List ℕ)) : Type 0 where
+pub record StopsAtGate (fault : Fault) (old : Shown) (input : List ℕ) (left : Option (List ℕ)) (new : Shown) (before after : Option (List ℕ)) : Type 0 where
   pub served : List (List ℕ)
   pub line : List ℕ
   pub complete : AreComplete input left (served ++ line ∷ [])
-  pub bot : StopsAtLine (after_lines old served) line new
+  pub bot : StopsAtLine fault (after_lines old served) line new
   pub written : Appends before after (text_for old served)
 
 -- The writer refused a line's text, or what was left of it: a part from its front is written, but not all, and the line
@@ -125,7 +126,7 @@ IsServed may_answer (Err Read) old input left new before after = HasServed old (
 -- there is more input than may be read: the lines that end within the limit are answered
 IsServed may_answer (Err TooMuch) old input left new before after = HasServed old (ended_lines (take max_input input)) new before after
 -- the bot met a fault, or there was no memory for a line or its answer
-IsServed may_answer (Err (Gate fault)) old input left new before after = MayEnd may_answer fault × StopsAtGate old input left new before after
+IsServed may_answer (Err (Gate fault)) old input left new before after = MayEnd may_answer fault × StopsAtGate fault old input left new before after
 IsServed may_answer (Err Write) old input left new before after = StopsAtWrite old input left new before after
 
 -- how much of the input was consumed: never more than the limit, but for the one byte that shows that there is more

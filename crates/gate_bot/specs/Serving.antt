@@ -10,7 +10,7 @@ use Rattle.gate_bot.specs.declared.lines.HookFault.TheVariants.{Gate, Read, Writ
 -- a line was answered, or its answer was refused
 abbrev pub IsAnswered : (Fault → Type 0) → Result (Unit {0}) HookFault → Shown → List ℕ → Shown → Option (List ℕ) → Option (List ℕ) → Type 0
 IsAnswered may_answer (Ok _) old line new before after = (new ≡ after_line old line) × Appends before after (line_text old line ++ 10 ∷ [])
-IsAnswered may_answer (Err (Gate fault)) old line new before after = MayEnd may_answer fault × StopsAtLine old line new × Appends before after []
+IsAnswered may_answer (Err (Gate fault)) old line new before after = MayEnd may_answer fault × StopsAtLine fault old line new × Appends before after []
 IsAnswered may_answer (Err Write) old line new before after = (new ≡ after_line old line) × ((taken : ℕ) × (taken < length (line_text old line ++ 10 ∷ [])) × Appends before after (take taken (line_text old line ++ 10 ∷ [])))
 IsAnswered may_answer (Err Read) old line new before after = ⊥
 IsAnswered may_answer (Err TooMuch) old line new before after = ⊥
@@ -37,7 +37,7 @@ pub record IsUpTo (opened : Shown) (input : List ℕ) (now : Shown) (kept : List
 -- The answer to the line that is open was refused, and all before it are served.
 abbrev pub StopsBehind : (Fault → Type 0) → HookFault → Shown → List ℕ → Shown → Option (List ℕ) → Option (List ℕ) → Type 0
 StopsBehind may_answer (Gate fault) opened input new before after =
-    MayEnd may_answer fault × StopsAtLine (after_lines opened (ended_lines input)) (open_line input) new × Appends before after (text_for opened (ended_lines input))
+    MayEnd may_answer fault × StopsAtLine fault (after_lines opened (ended_lines input)) (open_line input) new × Appends before after (text_for opened (ended_lines input))
 StopsBehind may_answer Write opened input new before after =
     (new ≡ after_line (after_lines opened (ended_lines input)) (open_line input))
     × ((taken : ℕ) × (taken < length (line_text (after_lines opened (ended_lines input)) (open_line input) ++ 10 ∷ []))

@@ -2,10 +2,10 @@ ghost use Rattle.std.specs.Prelude.{◌≡◌, IfOk};
 ghost use Rattle.std.specs.Option.{option_map};
 ghost use Rattle.std.specs.String.{string_bytes};
 ghost use Rattle.serde_json.specs.View.{view};
-ghost use Rattle.gate_bot.specs.Answers.{detail_of, order_data, orders_data, why_word_of, reply_data, answer_data, answer_text_of};
+ghost use Rattle.gate_bot.specs.Answers.{detail_of, branch_word_of, head_data, heads_data, order_data, orders_data, why_word_of, reply_data, answer_data, answer_text_of};
 ghost use Rattle.gate_queue.specs.declared.reply.Reply.TheVariants.{Denied};
 
-use gate_queue::{Order, Reply, Why};
+use gate_queue::{Branch, Head, Order, Reply, Why};
 use gate_rules::Rule;
 use serde_json::{Value, json};
 use std::alloc::{AllocError, Global};
@@ -46,6 +46,7 @@ fn why_word(why: Why) -> &'static str
     ensures { result.now ≡ why_word_of why }
 {
     match why {
+        Why::Conflict => "Conflict",
         Why::Pushed => "Pushed",
         Why::Closed => "Closed",
         Why::Labeled => "Labeled",
@@ -54,11 +55,52 @@ fn why_word(why: Why) -> &'static str
     }
 }
 
+// The name of a branch, as orders write it.
+fn branch_word(branch: Branch) -> &'static str
+    ensures { result.now ≡ branch_word_of branch }
+{
+    match branch {
+        Branch::Staging => "staging",
+        Branch::Trying => "trying",
+    }
+}
+
+// A change and its head as JSON.
+fn head_value(alloc: Global, staged: &Head) -> Result<Value, AllocError>
+    ensures { IfOk result (λ value. view value ≡ head_data staged.now) }
+{
+    let number = staged.change.number();
+    let head = staged.head.text();
+    json!(in alloc; [number, head])
+}
+
+// Heads as JSON.
+fn heads_value(alloc: Global, heads: &[Head]) -> Result<Value, AllocError>
+    ensures { IfOk result (λ value. view value ≡ heads_data heads.now) }
+{
+    let mut values = Vec::new(alloc);
+    for staged in heads {
+        values.push(head_value(alloc, staged)?)?;
+    }
+    Ok(Value::from(values))
+}
+
 // An order as JSON.
 fn order_value(alloc: Global, order: &Order) -> Result<Value, AllocError>
     ensures { IfOk result (λ value. view value ≡ order_data order.now) }
 {
     match order {
+        Order::Stage {
+            batch,
+            branch,
+            base,
+            heads,
+        } => {
+            let heads = heads_value(alloc, heads.as_slice())?;
+            let base = base.text();
+            let branch = branch_word(*branch);
+            json!(in alloc; {"base": base, "batch": *batch, "branch": branch, "heads": heads, "order": "stage"})
+        }
         Order::Notice { change, why } => {
             let number = change.number();
             let word = why_word(*why);

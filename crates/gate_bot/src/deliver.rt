@@ -1,4 +1,4 @@
-ghost use Rattle.std.specs.Prelude.{◌≡◌, IfOk, IfErr, OnOk, OnErr, IsTrue};
+ghost use Rattle.std.specs.Prelude.{◌≡◌, Some, IfOk, IfErr, OnOk};
 ghost use Rattle.gate_bot.specs.Shown.{Shown, replies_of, after_delivery};
 
 use crate::answers::Answer;
@@ -10,7 +10,7 @@ use std::alloc::Global;
 pub trait Deliver {
     ghost use Rattle.gate_queue.specs.declared.fault.Fault.{Fault as FaultOf};
 
-    // What it shows: its state, and whether it has met a fault.
+    // What it shows: its state, and the fault that it has met.
     ghost shows: { Self → Shown };
 
     // The faults that it may answer.
@@ -21,5 +21,5 @@ pub trait Deliver {
         ensures answer { IfOk result (λ answer. answer.items ≡ replies_of (shows self.old) delivery.now) }
         ensures state { OnOk result (shows self.new ≡ after_delivery (shows self.old) delivery.now) }
         ensures cause { IfErr result may_answer }
-        ensures stops { OnErr result (IsTrue (shows self.new).stopped) };
+        ensures stops { IfErr result (λ fault. (shows self.new).stopped ≡ Some fault) };
 }

@@ -3,6 +3,7 @@ ghost use Rattle.std.specs.List.{All};
 ghost use Rattle.gate_queue.specs.Acts.{ActKeepsLimits};
 ghost use Rattle.gate_bot.specs.Acts.{acts_of_event, spoken_acts_of};
 
+use crate::moment::Moment;
 use gate_queue::Act;
 use gate_rules::Role;
 use gate_text::{ChangeNo, Commit, DeliveryId, Label, Name, Spoken, Text, read_comment};
@@ -83,6 +84,23 @@ pub enum Event {
         /// Whether the person approves of it.
         approves: bool,
     },
+    /// The staging commit of a batch was made.
+    Staged {
+        /// The number of the batch.
+        batch: u64,
+        /// The commit.
+        commit: Commit,
+    },
+    /// The changes of a batch can't be merged.
+    Conflict {
+        /// The number of the batch.
+        batch: u64,
+    },
+    /// The clock was read.
+    Tick {
+        /// The reading.
+        now: Moment,
+    },
 }
 
 /// One hand-in of the host, with its identifier.
@@ -126,6 +144,9 @@ pub fn acts_of(alloc: Global, delivery: &Delivery) -> Result<Vec<Act>, AllocErro
             head,
             approves,
         } => review_act(alloc, *change, person, *head, *approves)?,
+        Event::Staged { batch, commit } => staged_act(*batch, *commit),
+        Event::Conflict { batch } => Act::Conflict { batch: *batch },
+        Event::Tick { now } => tick_act(*now),
     };
     Ok(vec![in alloc; fact]?)
 }
@@ -196,6 +217,19 @@ fn review_act(
         head,
         approves,
     })
+}
+
+fn staged_act(batch: u64, commit: Commit) -> Act
+    ensures { result ≡ Act.Staged batch commit }
+{
+    Act::Staged { batch, commit }
+}
+
+fn tick_act(now: Moment) -> Act
+    ensures value { result ≡ Act.Tick now }
+    ensures limits { ActKeepsLimits result }
+{
+    Act::Tick { now: now.seconds() }
 }
 
 // The acts of what a person says about a change.

@@ -1,4 +1,4 @@
-ghost use Rattle.std.specs.Prelude.{◌≡◌, ◌+◌, ◌<◌, ◌≤◌, ◌^◌, ◌++◌, ◌∷◌, ℕ, [], List, Option, length, IfOk, IfErr, OnOk, OnErr, Ok, IsTrue, ◌⊎◌};
+ghost use Rattle.std.specs.Prelude.{◌≡◌, ◌+◌, ◌<◌, ◌≤◌, ◌^◌, ◌++◌, ◌∷◌, ℕ, [], List, Option, length, IfOk, IfErr, OnOk, Ok, Some, ◌⊎◌};
 ghost use Rattle.std.specs.String.{string_bytes};
 ghost use Rattle.std.specs.Io.KnownBytes.{Consumes, IsAtEnd};
 ghost use Rattle.gate_bot.specs.Lines.{line_text, after_line, text_answered, after_reading, MayEnd, StopsAtLine, IsServed, IsWithinLimit};
@@ -60,7 +60,7 @@ fn delivery_answer<D: Deliver>(
     ensures text { IfOk result (λ text. string_bytes text ≡ text_answered (D.shows bot.old) (Ok delivery.now) ++ 10 ∷ []) }
     ensures bot { OnOk result (D.shows bot.new ≡ after_reading (D.shows bot.old) (Ok delivery.now)) }
     ensures cause { IfErr result (MayEnd D.may_answer) }
-    ensures stops { OnErr result ((D.shows bot.new ≡ after_reading (D.shows bot.old) (Ok delivery.now)) ⊎ IsTrue (D.shows bot.new).stopped) }
+    ensures stops { IfErr result (λ fault. ((fault ≡ Fault.Memory) × (D.shows bot.new ≡ after_reading (D.shows bot.old) (Ok delivery.now))) ⊎ ((D.shows bot.new).stopped ≡ Some fault)) }
 {
     let answer = bot.answer(alloc, delivery)?;
     let text = answer_text(alloc, answer.as_slice())?;
@@ -72,7 +72,7 @@ fn line_answer<D: Deliver>(alloc: Global, bot: &mut D, line: &Line) -> Result<St
     ensures text { IfOk result (λ text. string_bytes text ≡ line_text (D.shows bot.old) line.now ++ 10 ∷ []) }
     ensures bot { OnOk result (D.shows bot.new ≡ after_line (D.shows bot.old) line.now) }
     ensures cause { IfErr result (MayEnd D.may_answer) }
-    ensures stops { OnErr result (StopsAtLine (D.shows bot.old) line.now (D.shows bot.new)) }
+    ensures stops { IfErr result (λ fault. StopsAtLine fault (D.shows bot.old) line.now (D.shows bot.new)) }
 {
     if line.is_too_long() {
         return Ok(String::from_str(alloc, TOO_LONG)?);

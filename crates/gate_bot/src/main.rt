@@ -9,6 +9,7 @@ mod errors;
 mod line;
 mod lines;
 mod machine;
+mod moment;
 mod outcome;
 mod reading;
 mod sending;

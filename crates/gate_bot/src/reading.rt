@@ -1,10 +1,11 @@
-ghost use Rattle.std.specs.Prelude.{◌≡◌, IfOk, IfErr, Some, Ok};
+ghost use Rattle.std.specs.Prelude.{◌≡◌, ◌≤◌, IfOk, IfErr, Some, Ok};
 ghost use Rattle.std.specs.Str.{is_utf8};
 ghost use Rattle.serde_json.specs.View.{view};
 ghost use Rattle.gate_bot.specs.Deliveries as deliveries;
 ghost use Rattle.gate_bot.specs.Deliveries.{Reads, delivery_of};
 
 use crate::delivery::{Delivery, Event};
+use crate::moment::Moment;
 use gate_rules::Role;
 use gate_text::{ChangeNo, Commit, DeliveryId, Label, Name, Text, TextFault, unless_bad};
 use serde_json::Value;
@@ -12,6 +13,12 @@ use std::alloc::{AllocError, Global};
 use std::fmt;
 use std::fmt::{Display, Formatter, Write};
 use thiserror::Error;
+
+// The greatest change number.
+const MAX_CHANGE: u64 = 4_294_967_295;
+
+// The greatest batch number, and the last moment.
+const MAX_NUMBER: u64 = 9_000_000_000_000_000;
 
 /// A field of a delivery.
 #[derive(Clone, Copy, Debug, PartialEq, Eq)]
@@ -38,6 +45,10 @@ pub enum Field {
     Label,
     /// `approves`
     Approves,
+    /// `batch`
+    Batch,
+    /// `now`
+    Now,
 }
 
 impl Field {
@@ -57,6 +68,8 @@ impl Field {
             Field::Commit => "commit",
             Field::Label => "label",
             Field::Approves => "approves",
+            Field::Batch => "batch",
+            Field::Now => "now",
         }
     }
 }
@@ -144,12 +157,36 @@ fn approves_at(value: &Value) -> Result<bool, DeliveryFault>
     approves.ok_or(DeliveryFault::BadField(Field::Approves))
 }
 
+// A whole number from the least to the greatest, written in digits alone.
+fn number_at(field: Field, least: u64, greatest: u64, value: &Value) -> Result<u64, DeliveryFault>
+    ensures value { Reads result (deliveries.number_at field least greatest (view value.now)) }
+    ensures least { IfOk result (λ n. least ≤ n) }
+    ensures greatest { IfOk result (λ n. n ≤ greatest) }
+{
+    match value.get(field.name()).and_then(Value::as_u64) {
+        Some(number) if least <= number && number <= greatest => Ok(number),
+        _ => Err(DeliveryFault::BadField(field)),
+    }
+}
+
 fn change_at(value: &Value) -> Result<ChangeNo, DeliveryFault>
     ensures { Reads result (deliveries.change_at (view value.now)) }
 {
-    let number = value.get(Field::Change.name()).and_then(Value::as_u64);
-    let change = number.and_then(ChangeNo::from_number);
-    change.ok_or(DeliveryFault::BadField(Field::Change))
+    let number = number_at(Field::Change, 1, MAX_CHANGE, value)?;
+    ChangeNo::from_number(number).ok_or(DeliveryFault::BadField(Field::Change))
+}
+
+fn batch_at(value: &Value) -> Result<u64, DeliveryFault>
+    ensures { Reads result (deliveries.batch_at (view value.now)) }
+{
+    number_at(Field::Batch, 1, MAX_NUMBER, value)
+}
+
+fn now_at(value: &Value) -> Result<Moment, DeliveryFault>
+    ensures { Reads result (deliveries.now_at (view value.now)) }
+{
+    let seconds = number_at(Field::Now, 0, MAX_NUMBER, value)?;
+    Ok(Moment::at(seconds))
 }
 
 fn role_at(value: &Value) -> Result<Role, DeliveryFault>
@@ -257,6 +294,28 @@ fn review_in(alloc: Global, value: &Value) -> Result<Event, DeliveryFault>
     })
 }
 
+fn staged_in(value: &Value) -> Result<Event, DeliveryFault>
+    ensures { Reads result (deliveries.staged_in (view value.now)) }
+{
+    let batch = batch_at(value)?;
+    let commit = commit_at(Field::Commit, value)?;
+    Ok(Event::Staged { batch, commit })
+}
+
+fn conflict_in(value: &Value) -> Result<Event, DeliveryFault>
+    ensures { Reads result (deliveries.conflict_in (view value.now)) }
+{
+    let batch = batch_at(value)?;
+    Ok(Event::Conflict { batch })
+}
+
+fn tick_in(value: &Value) -> Result<Event, DeliveryFault>
+    ensures { Reads result (deliveries.tick_in (view value.now)) }
+{
+    let now = now_at(value)?;
+    Ok(Event::Tick { now })
+}
+
 fn event_called(alloc: Global, kind: &str, value: &Value) -> Result<Event, DeliveryFault>
     ensures { Reads result (deliveries.event_called kind.now (view value.now)) }
 {
@@ -271,6 +330,9 @@ fn event_called(alloc: Global, kind: &str, value: &Value) -> Result<Event, Deliv
         "labeled" => labeled_in(alloc, value),
         "unlabeled" => unlabeled_in(alloc, value),
         "review" => review_in(alloc, value),
+        "staged" => staged_in(value),
+        "conflict" => conflict_in(value),
+        "tick" => tick_in(value),
         _ => Err(DeliveryFault::UnknownEvent),
     }
 }

@@ -1,4 +1,5 @@
--- What the history says of a change after one more event: by the act that the event did to the change, if it did one.
+-- What the history says of a change after one more event: by the act that the event did to the change, if it did one, and by
+-- whether the event ends its approval.
 use Rattle.std.proofs.Common.{◌≡◌, ℕ, ℤ, pos, Bool, true, false, cond, not, ◌&&◌, ◌||◌, List, [], ◌∷◌, Option, Some, None, is_some, eqb, refl, sym, ◌∙◌, ap}
 use Rattle.std.specs.FinSet as set
 use Rattle.std.specs.Option.{option_and_then, option_map, option_map_or, option_or, unwrap_or}
@@ -8,8 +9,11 @@ use Rattle.gate_rules.specs.declared.change.Change.{Change}
 use Rattle.gate_rules.specs.declared.change.Phase.{Phase}
 use Rattle.gate_rules.specs.declared.change.Phase.TheVariants as phase
 use Rattle.gate_rules.specs.declared.change.Repeat.{Repeat}
-use Rattle.gate_queue.specs.History.{Event, did, last_of, done_to, said_on, author_said, author_back, head_said, moves_head, phase_said, priority_said, repeat_said, marked, label_said, labels_back, review_said, reviews_back, delegation_said, delegated, delegates_back, settings_back, fit_back, approval_said, ends_it, ends, standing_back, approvers_back, change_of, change_back}
+use Rattle.gate_rules.specs.View.{without_approval}
+use Rattle.gate_queue.specs.Acts.{on}
+use Rattle.gate_queue.specs.History.{Event, did, gave, last_of, said_on, author_said, author_back, head_said, moves_head, phase_said, priority_said, repeat_said, marked, label_said, labels_back, review_said, reviews_back, delegation_said, delegated, delegates_back, settings_back, fit_back, approval_said, ends_it, order_ends, ends, standing_back, approvers_back, change_of, change_back}
 use Rattle.gate_queue.specs.declared.act.Act.{Act}
+use Rattle.gate_queue.specs.declared.reply.Order.{Order}
 
 -- STANDING AND FIT
 fit_so : (starts keeps fit had : Bool) → ((starts && fit) || ((keeps && fit) && had)) ≡ true → fit ≡ true
@@ -71,31 +75,49 @@ module _ (events : List Event) (c : ℕ) (settings : Option SettingsView) (done 
   abbrev pub fit_after : Bool
   fit_after = is_fit settings phase_after labels_after reviews_after
 
-  abbrev standing_after : Bool
-  standing_after =
-      (is_some (option_and_then approval_said done) && fit_after) || ((not (option_map_or (ends_it c events) done false) && fit_after) && standing_back events c)
+-- if it ends the approval, or doesn't
+module _ (events : List Event) (c : ℕ) (settings : Option SettingsView) (done : Option Act) (ending : Bool) where
+  abbrev fit_now : Bool
+  fit_now = fit_after events c settings done
 
-  abbrev pub approvers_after : Option (List (List ℕ))
-  approvers_after = cond standing_after (option_or (option_and_then approval_said done) (last_of (said_on c approval_said) events)) None
+  abbrev standing_by : Bool
+  standing_by = (is_some (option_and_then approval_said done) && fit_now) || ((not ending && fit_now) && standing_back events c)
 
-  abbrev pub change_of_after : List ℕ → Change
-  change_of_after author = record {
+  abbrev approvers_by : Option (List (List ℕ))
+  approvers_by = cond standing_by (option_or (option_and_then approval_said done) (last_of (said_on c approval_said) events)) None
+
+  abbrev change_of_by : List ℕ → Change
+  change_of_by author = record {
     author = author;
     head = unwrap_or (option_or (option_and_then head_said done) (last_of (said_on c head_said) events)) [];
-    phase = phase_after;
-    priority = priority_after;
-    labels = labels_after;
-    reviews = reviews_after;
-    delegates = delegates_after;
-    approved = approvers_after;
-    last = repeat_after;
+    phase = phase_after events c settings done;
+    priority = priority_after events c settings done;
+    labels = labels_after events c settings done;
+    reviews = reviews_after events c settings done;
+    delegates = delegates_after events c settings done;
+    approved = approvers_by;
+    last = repeat_after events c settings done;
   }
 
+  abbrev change_by : Option Change
+  change_by = option_map change_of_by (author_after events c settings done)
+
+-- an act ends it by what it is
+module _ (events : List Event) (c : ℕ) (settings : Option SettingsView) (done : Option Act) where
+  abbrev ending_by : Bool
+  ending_by = option_map_or (ends_it c events) done false
+
+  abbrev pub approvers_after : Option (List (List ℕ))
+  approvers_after = approvers_by events c settings done ending_by
+
+  abbrev pub change_of_after : List ℕ → Change
+  change_of_after = change_of_by events c settings done ending_by
+
   abbrev pub change_after : Option Change
-  change_after = option_map change_of_after author_after
+  change_after = change_by events c settings done ending_by
 
 module _ (events : List Event) (c : ℕ) where
-  -- AN EVENT THAT DID NOTHING TO THE CHANGE
+  -- AN EVENT THAT DID NOTHING TO THE CHANGE: an act elsewhere, and an order that ends no approval of it
   untouched : approvers_after events c (settings_back events) None ≡ approvers_back events c
   untouched =
       goes_on true (fit_back events c) (standing_back events c) (last_of (said_on c approval_said) events)
@@ -104,8 +126,18 @@ module _ (events : List Event) (c : ℕ) where
   unaltered : change_after events c (settings_back events) None ≡ change_back events c
   unaltered = λ i. option_map (λ author. record (change_of events c author) { approved = untouched i }) (author_back events c)
 
-  pub elsewhere : (event : Event) → done_to c event ≡ None → settings_back (event ∷ events) ≡ settings_back events → change_back (event ∷ events) c ≡ change_back events c
-  elsewhere event none same = (λ i. change_after events c (same i) (none i)) ∙ unaltered
+  pub elsewhere : (act : Act) → on c act ≡ None → settings_back (did act ∷ events) ≡ settings_back events → change_back (did act ∷ events) c ≡ change_back events c
+  elsewhere act none same = (λ i. change_after events c (same i) (none i)) ∙ unaltered
+
+  pub order_elsewhere : (order : Order) → order_ends c order ≡ false → change_back (gave order ∷ events) c ≡ change_back events c
+  order_elsewhere order goes = (λ i. change_by events c (settings_back events) None (goes i)) ∙ unaltered
+
+  -- and one that ends it
+  pub order_ended : (order : Order) → order_ends c order ≡ true → change_back (gave order ∷ events) c ≡ option_map without_approval (change_back events c)
+  order_ended order ending = (λ i. change_by events c (settings_back events) None (ending i)) ∙ by (author_back events c) where
+    by : (author : Option (List ℕ)) → option_map (change_of_by events c (settings_back events) None true) author ≡ option_map without_approval (option_map (change_of events c) author)
+    by None = refl
+    by (Some author) = refl
 
   -- new settings: the approval goes on if the change is fit under them
   pub unless_unfit : (settings : Option SettingsView) → approvers_after events c settings None ≡ cond (fit_after events c settings None) (approvers_back events c) None
@@ -148,9 +180,9 @@ module _ (events : List Event) (c : ℕ) where
 
   -- BY THE NUMBER: an act on one change, seen from this one
   pub by_number : (n : ℕ) (act : Act) (after : Option Change → Option Change)
-      → done_to c (did act) ≡ cond (eqb c n) (Some act) None → settings_back (did act ∷ events) ≡ settings_back events
+      → on c act ≡ cond (eqb c n) (Some act) None → settings_back (did act ∷ events) ≡ settings_back events
       → (eqb c n ≡ true → after (change_back events c) ≡ change_after events c (settings_back events) (Some act))
       → (b : Bool) → eqb c n ≡ b → cond b (after (change_back events c)) (change_back events c) ≡ change_back (did act ∷ events) c
   by_number n act after about same here true is =
       here is ∙ (λ i. change_after events c ((sym same) i) ((sym (about ∙ ap (λ (b : Bool). cond b (Some act) None) is)) i))
-  by_number n act after about same here false is = sym (elsewhere (did act) (about ∙ ap (λ (b : Bool). cond b (Some act) None) is) same)
+  by_number n act after about same here false is = sym (elsewhere act (about ∙ ap (λ (b : Bool). cond b (Some act) None) is) same)

@@ -7,7 +7,7 @@ use Rattle.std.proofs.lemmas.Option.{slice_get_within, get_or_from_slice_get, sa
 use Rattle.std.specs.List.{sum_by, filter, list_all}
 use Rattle.std.specs.Bool.{then_some}
 use Rattle.std.specs.Option.{option_map, option_map_or, option_or}
-use Rattle.gate_queue.specs.Counts.{occurs, held_by, inside, held, in_running, in_landing, in_lone, LawOfEnqueue, LawOfTakeOut, LawOfRestart, LawOfStart, LawOfRequeue, LawOfFail, LawOfDrop}
+use Rattle.gate_queue.specs.Counts.{occurs, held_by, inside, held, in_running, in_landing, in_lone, LawOfEnqueue, LawOfTakeOut, LawOfRestart, LawOfStart, LawOfStage, LawOfRequeue, LawOfFail, LawOfDrop}
 use Rattle.gate_queue.specs.Lanes as lanes
 use Rattle.gate_queue.specs.Lanes.{placed, retried, with_change, has_changes, back, only, left, half, first_half, second_half, split_into}
 use Rattle.gate_queue.specs.declared.batch.Batch.{Batch}
@@ -119,6 +119,12 @@ start_law test now change lane = by lane.running lane.waiting where
   by None [] = refl
   by None (first ∷ waiting) = refl
   by (Some batch) waiting = refl
+
+pub stage_law : LawOfStage
+stage_law test now commit change lane = by lane.running where
+  by : (at : Option Batch) → held test change (lanes.staged now commit (record lane { running = at })) ≡ held test change (record lane { running = at })
+  by None = refl
+  by (Some batch) = refl
 
 pub drop_law : LawOfDrop
 drop_law test change lane = omega (arith, held_is test change lane)

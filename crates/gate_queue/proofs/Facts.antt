@@ -109,4 +109,4 @@ module _ (events : List Event) (c : ℕ) (text : List ℕ) (settings : SettingsV
         ∙ (λ i. record (change_of events c author) { approved = (sym (unless_unfit events c (Some settings))) i }))
 
   pub unsettled_next : settings_back events ≡ Some settings → change_back events c ≡ change_back (did (Settings text) ∷ events) c
-  unsettled_next same = sym (elsewhere events c (did (Settings text)) refl (taken_settings ∙ sym same))
+  unsettled_next same = sym (elsewhere events c (Settings text) refl (taken_settings ∙ sym same))

@@ -1,9 +1,14 @@
+pub mod Acting
 pub mod After
+pub mod Batches
 pub mod Changes
 pub mod Counts
 pub mod Facts
 pub mod Fitness
+pub mod Following
+pub mod Growing
 pub mod InOrder
+pub mod Keeping
 pub mod Lanes
 pub mod Law
 pub mod Limits
@@ -12,6 +17,7 @@ pub mod Numbers
 pub mod Premises
 pub mod Service
 pub mod Sets
+pub mod States
 pub mod Unseen
 pub mod Wording
 pub mod Worked

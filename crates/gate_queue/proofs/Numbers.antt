@@ -7,7 +7,7 @@ use Rattle.std.specs.Option.{option_map_or}
 use Rattle.gate_queue.proofs.Counts.{sum-placed, sum-back, sum-left, sum-split}
 use Rattle.gate_queue.specs.Counts.{uses}
 use Rattle.gate_queue.specs.Lanes as lanes
-use Rattle.gate_queue.specs.Lanes.{batches_of, fresh, with_change, with_joined, entered, joins, enqueued, enqueue_uses, has_changes, back, back_uses, only, left, stops_running, running_back, running_back_uses, taken_out, taken_out_uses, restarted, restarted_uses, requeued, requeued_uses, has_several, failed, failed_uses, ordered_at, started, dropped}
+use Rattle.gate_queue.specs.Lanes.{batches_of, fresh, with_change, with_joined, entered, joins, enqueued, enqueue_uses, has_changes, back, back_uses, only, left, stops_running, running_back, running_back_uses, taken_out, taken_out_uses, restarted, restarted_uses, requeued, requeued_uses, has_several, failed, failed_uses, ordered_at, started, staged, dropped}
 use Rattle.gate_queue.specs.Service.{is_new, OnlyNew, LawOfNumbers}
 use Rattle.gate_queue.specs.declared.batch.Batch.{Batch}
 use Rattle.gate_queue.specs.declared.lane.Lane.{Lane}
@@ -155,6 +155,14 @@ module _ (next : ℕ) (lane : Lane) where
         }
     by (Some batch) waiting = unchanged next (record { running = Some batch; waiting = waiting })
 
+  pub stage_new : (now : ℕ) (commit : List ℕ) → OnlyNew next 0 lane (staged now commit lane)
+  stage_new now commit = by lane.running where
+    by : (running : Option Batch) → OnlyNew next 0 (beside running) (staged now commit (beside running))
+    by None = unchanged next (beside None)
+    by (Some batch) =
+        let same = unchanged next (beside (Some batch)) in
+        record { waiting = same.waiting; all = same.all }
+
 pub numbers_law : LawOfNumbers
 numbers_law next lane =
     record {
@@ -164,5 +172,6 @@ numbers_law next lane =
       requeue = requeue_new next lane;
       fail = fail_new next lane;
       start = start_new next lane;
+      stage = stage_new next lane;
       drop = drop_new next lane;
     }

@@ -13,7 +13,7 @@ use Rattle.gate_queue.specs.Acts.{subject, on}
 use Rattle.gate_queue.specs.History.{Event, did, gave, done_to, author_said, author_back, phase_back, priority_back, labels_back, delegates_back, repeat_back, change_of, settings_back, look_back}
 use Rattle.gate_queue.specs.Machine.{broken}
 use Rattle.gate_queue.specs.declared.act.Act.{Act}
-use Rattle.gate_queue.specs.declared.act.Act.TheVariants.{Spoken, Role, Settings, Base, Opened, Pushed, Closed, Labeled, Unlabeled, Review}
+use Rattle.gate_queue.specs.declared.act.Act.TheVariants.{Spoken, Role, Settings, Base, Opened, Pushed, Closed, Labeled, Unlabeled, Review, Staged, Conflict, Tick}
 use Rattle.gate_queue.specs.declared.reply.Order.{Order}
 use Rattle.gate_queue.proofs.After.{author_after, phase_after, priority_after, labels_after, delegates_after, repeat_after}
 use Rattle.gate_queue.proofs.Changes.{same_number}
@@ -67,6 +67,9 @@ known_first s act holds n is = first act holds is where
   first (Labeled m label) so at = inl (known m (passed (is_known s m) UnknownChange _ so).0 at)
   first (Unlabeled m label) so at = inl (known m (passed (is_known s m) UnknownChange _ so).0 at)
   first (Review m person head approves) so at = inl (known m (passed (is_known s m) UnknownChange _ so).0 at)
+  first (Staged batch commit) so at = cc at
+  first (Conflict batch) so at = cc at
+  first (Tick now) so at = cc at
 
 -- an act is on a change if that is its subject
 about : (c : ℕ) (act : Act) (at : Option ℕ)

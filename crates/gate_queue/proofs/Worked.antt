@@ -1,17 +1,23 @@
 -- Worked acts: what the definitions come to on a short history. Each is computed.
-use Rattle.std.proofs.Common.{◌≡◌, ℕ, pos, true, false, List, [], ◌∷◌, Some, None, refl}
+use Rattle.std.proofs.Common.{◌≡◌, ℕ, pos, true, false, List, [], ◌∷◌, Some, None, Ok, refl}
+use Rattle.std.specs.FinSet as set
+use Rattle.gate_text.specs.Settings.{SettingsView, settings_of}
 use Rattle.gate_text.specs.declared.command.Command.TheVariants.{Approve, Withdraw, Priority, Retry}
 use Rattle.gate_text.specs.declared.command.Spoken.TheVariants.{Known, Unknown}
-use Rattle.gate_rules.specs.Rules.{need, permits}
+use Rattle.gate_rules.specs.Rules.{Texts, has_too_few_reviews, need, permits}
 use Rattle.gate_rules.specs.declared.change.Phase.TheVariants as phase
 use Rattle.gate_rules.specs.declared.change.Repeat.TheVariants as repeat
 use Rattle.gate_rules.specs.declared.role.Level.TheVariants as level
 use Rattle.gate_rules.specs.declared.role.Role.TheVariants.{Nobody, Reviewer}
-use Rattle.gate_rules.specs.declared.rule.Rule.TheVariants.{UnknownChange, NotACommand, NotOpen, NoSettings, NotApproved, AlreadyOpen, SameAsBase}
+use Rattle.gate_rules.specs.declared.rule.Rule.TheVariants.{UnknownChange, NotACommand, NotOpen, NoSettings, NotApproved, AlreadyOpen, ClockBack, NoSuchBatch, SameAsBase}
 use Rattle.gate_queue.specs.Acts.{on}
-use Rattle.gate_queue.specs.History.{Event, did, role_back, author_back, head_back, moves, phase_back, priority_back, standing_back, look_back}
-use Rattle.gate_queue.specs.Machine.{empty_state, broken, reply_to, pushed, ends_approval, just_opened, approved_by}
-use Rattle.gate_queue.specs.declared.act.Act.TheVariants.{Spoken, Role, Base, Opened, Pushed, Closed}
+use Rattle.gate_queue.specs.History.{Event, did, gave, role_back, author_back, head_back, moves, phase_back, priority_back, standing_back, look_back}
+use Rattle.gate_queue.specs.Lanes.{fresh}
+use Rattle.gate_queue.specs.Machine.{empty_state, broken, denial, followed, reply_to, pushed, ends_approval, just_opened, approved_by}
+use Rattle.gate_queue.specs.Queue.{empty_queue}
+use Rattle.gate_queue.specs.declared.act.Act.TheVariants.{Spoken, Role, Settings, Base, Opened, Pushed, Closed, Staged, Conflict, Tick}
+use Rattle.gate_queue.specs.declared.reply.Order.TheVariants.{Notice}
+use Rattle.gate_queue.specs.declared.reply.Why.TheVariants as why
 use Rattle.gate_queue.specs.declared.reply.Reply.TheVariants.{Done}
 
 abbrev alice : List ℕ
@@ -79,8 +85,34 @@ pushes : (ends_approval (pushed b) (approved_by (alice ∷ []) repeat.Approve (j
     × (ends_approval (pushed a) (approved_by (alice ∷ []) repeat.Approve (just_opened carol a)) ≡ false)
 pushes = (refl, refl)
 
-first_reply : reply_to empty_state (Role alice Reviewer) ≡ Done []
+first_reply : reply_to (empty_state 1) (Role alice Reviewer) ≡ Done []
 first_reply = refl
 
 subjects : (on 1 (Closed 1) ≡ Some (Closed 1)) × (on 2 (Closed 1) ≡ None) × (on 1 (Base a) ≡ None)
 subjects = (refl, refl, refl)
+
+-- an act on a batch that wasn't ordered, and a clock that goes back
+batches : (denial (empty_state 1) (Staged 1 a) ≡ Some NoSuchBatch)
+    × (denial (empty_state 1) (Conflict 1) ≡ Some NoSuchBatch)
+    × (broken (look_back (did (Tick 5) ∷ opened_one)) (Tick 4) ≡ Some ClockBack)
+    × (broken (look_back (did (Tick 5) ∷ opened_one)) (Tick 5) ≡ None)
+batches = (refl, refl, refl, refl)
+
+-- what the queue does by the marks of a change: its first approval, and its last
+queues : (followed false true false None (pos 0) 1 (empty_queue 7) ≡ record (empty_queue 8) { staging = record { running = None; waiting = fresh 7 (pos 0) 1 ∷ [] } })
+    × (followed true false false None (pos 0) 1 (followed false true false None (pos 0) 1 (empty_queue 7)) ≡ empty_queue 8)
+queues = (refl, refl)
+
+-- Under settings that block nothing and ask for no review, an approval makes the change stand, until the notice of a conflict.
+module _ (text : List ℕ) (settings : SettingsView) (read : settings_of text ≡ Ok settings) (free : settings.block_labels ≡ []) (enough : (reviews : Texts) → has_too_few_reviews settings reviews ≡ false) where
+  abbrev approved_one : List Event
+  approved_one = did (Spoken 1 alice (Known Approve)) ∷ did (Settings text) ∷ opened_one
+
+  stands : standing_back approved_one 1 ≡ true
+  stands = rw (read, free, enough set.empty) refl
+
+  ended : standing_back (gave (Notice 1 why.Conflict) ∷ approved_one) 1 ≡ false
+  ended = refl
+
+  elsewhere : standing_back (gave (Notice 2 why.Conflict) ∷ approved_one) 1 ≡ true
+  elsewhere = rw (read, free, enough set.empty) refl

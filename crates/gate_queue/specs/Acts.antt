@@ -1,11 +1,11 @@
 -- WHAT AN ACT IS ABOUT, and the limits that it keeps.
-use Rattle.std.specs.Prelude.{ℕ, ◌==◌, false, ⊤, Option, Some, None, if◌then◌else◌}
+use Rattle.std.specs.Prelude.{ℕ, ◌==◌, ◌≤◌, false, ⊤, Option, Some, None, if◌then◌else◌}
 use Rattle.std.specs.Option.{option_map_or}
 use Rattle.gate_text.specs.Limits.{IsPriority, AreNames}
 use Rattle.gate_text.specs.declared.command.Command.TheVariants.{ApproveFor, Priority}
 use Rattle.gate_text.specs.declared.command.Spoken.TheVariants.{Known}
 use Rattle.gate_queue.specs.declared.act.Act.{Act}
-use Rattle.gate_queue.specs.declared.act.Act.TheVariants.{Spoken, Role, Settings, Base, Opened, Pushed, Closed, Labeled, Unlabeled, Review}
+use Rattle.gate_queue.specs.declared.act.Act.TheVariants.{Spoken, Role, Settings, Base, Opened, Pushed, Closed, Labeled, Unlabeled, Review, Staged, Conflict, Tick}
 
 -- the change, if there is one
 abbrev pub subject : Act → Option ℕ
@@ -19,14 +19,38 @@ subject (Closed change) = Some change
 subject (Labeled change label) = Some change
 subject (Unlabeled change label) = Some change
 subject (Review change person head approves) = Some change
+subject (Staged batch commit) = None
+subject (Conflict batch) = None
+subject (Tick now) = None
+
+-- the batch that it names, if it names one
+abbrev pub batch_of : Act → Option ℕ
+batch_of (Staged batch commit) = Some batch
+batch_of (Conflict batch) = Some batch
+batch_of (Tick now) = None
+batch_of (Spoken change person spoken) = None
+batch_of (Role person role) = None
+batch_of (Settings text) = None
+batch_of (Base commit) = None
+batch_of (Opened change author head) = None
+batch_of (Pushed change head) = None
+batch_of (Closed change) = None
+batch_of (Labeled change label) = None
+batch_of (Unlabeled change label) = None
+batch_of (Review change person head approves) = None
 
 -- the act, if it is about this change
 abbrev pub on : ℕ → Act → Option Act
 on change act = if option_map_or (λ other. change == other) (subject act) false then Some act else None
 
--- A priority is from -9999 to 9999, and an `r=` lists one or more names, no two the same. What `read_comment` reads keeps
--- that.
+-- a reading of the clock
+abbrev pub IsMoment : ℕ → Type 0
+IsMoment moment = moment ≤ 9_000_000_000_000_000
+
+-- A priority is from -9999 to 9999, an `r=` lists one or more names, no two the same, and a reading of the clock is not above
+-- its limit. What comments and deliveries are read as keeps that.
 abbrev pub ActKeepsLimits : Act → Type 0
 ActKeepsLimits (Spoken change person (Known (Priority priority))) = IsPriority priority
 ActKeepsLimits (Spoken change person (Known (ApproveFor names))) = AreNames names
+ActKeepsLimits (Tick now) = IsMoment now
 ActKeepsLimits _ = ⊤

@@ -2,7 +2,7 @@
 use Rattle.std.specs.Prelude.{◌≡◌, ℕ, ◌+◌, ◌==◌, ℤ, Bool, true, ◌&&◌, List, Option, if◌then◌else◌}
 use Rattle.std.specs.List.{sum_by, count_by}
 use Rattle.std.specs.Option.{option_map_or}
-use Rattle.gate_queue.specs.Lanes.{batches_of, is_landing, has_several, enqueued, taken_out, restarted, requeued, failed, started, dropped}
+use Rattle.gate_queue.specs.Lanes.{batches_of, is_landing, has_several, enqueued, taken_out, restarted, requeued, failed, started, staged, dropped}
 use Rattle.gate_queue.specs.declared.batch.Batch.{Batch}
 use Rattle.gate_queue.specs.declared.lane.Lane.{Lane}
 
@@ -51,12 +51,15 @@ abbrev pub LawOfTakeOut : Type 0
 LawOfTakeOut = (test : ℤ → Bool) (stays : ℕ → Bool) (number change : ℕ) (lane : Lane) →
     held test change (taken_out stays number lane) ≡ (if stays change then held test change lane else in_landing test change lane)
 
--- A restart loses nothing, and a start neither.
+-- A restart loses nothing, and neither does a start, nor that a batch is staged.
 abbrev pub LawOfRestart : Type 0
 LawOfRestart = (test : ℤ → Bool) (number change : ℕ) (lane : Lane) → held test change (restarted number lane) ≡ held test change lane
 
 abbrev pub LawOfStart : Type 0
 LawOfStart = (test : ℤ → Bool) (now change : ℕ) (lane : Lane) → held test change (started now lane) ≡ held test change lane
+
+abbrev pub LawOfStage : Type 0
+LawOfStage = (test : ℤ → Bool) (now : ℕ) (commit : List ℕ) (change : ℕ) (lane : Lane) → held test change (staged now commit lane) ≡ held test change lane
 
 -- A running batch that waits again loses what isn't chosen.
 abbrev pub LawOfRequeue : Type 0

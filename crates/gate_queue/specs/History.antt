@@ -1,16 +1,19 @@
 -- THE HISTORY: all acts so far with their replies, and what it says of people and changes.
-use Rattle.std.specs.Prelude.{◌≡◌, ℕ, ℤ, pos, Bool, true, false, not, ◌&&◌, ◌||◌, List, [], ◌∷◌, Option, Some, None, is_some, if◌then◌else◌}
+use Rattle.std.specs.Prelude.{◌≡◌, ℕ, ℤ, pos, ◌==◌, ◌≤◌, Bool, true, false, not, ◌&&◌, ◌||◌, ⊤, List, [], ◌∷◌, Option, Some, None, is_some, if◌then◌else◌}
 use Rattle.std.specs.FinMap as finite
 use Rattle.std.specs.FinSet as set
-use Rattle.std.specs.List.{fold}
+use Rattle.std.specs.List.{fold, count_by, All}
 use Rattle.std.specs.Option.{unwrap_or, option_or, option_map, option_map_or, option_and_then}
 use Rattle.std.specs.Result.{result_ok}
 use Rattle.std.specs.Str.{bytes_eq}
-use Rattle.gate_queue.specs.Vocabulary.{SettingsView, settings_of, Approve, ApproveFor, Withdraw, Priority, DelegateAuthor, DelegateTo, DelegateNone, Known, Look, Texts, is_fit, DeskView, role_on, Change, Phase, Repeat, Nobody, RoleOf, Rule, Act, Spoken, Role, Settings, Base, Opened, Pushed, Closed, Labeled, Unlabeled, Review, Order, Reply, Done, Denied}
+use Rattle.gate_queue.specs.Vocabulary.{SettingsView, settings_of, Approve, ApproveFor, Withdraw, Priority, DelegateAuthor, DelegateTo, DelegateNone, Known, Look, Texts, is_fit, DeskView, role_on, Change, Phase, Repeat, Nobody, RoleOf, Rule, Act, Spoken, Role, Settings, Base, Opened, Pushed, Closed, Labeled, Unlabeled, Review, Tick, Order, Stage, Notice, Reply, Done, Denied, Why}
 use Rattle.gate_rules.specs.declared.change.Phase.TheVariants as phase
 use Rattle.gate_rules.specs.declared.change.Repeat.TheVariants as repeat
 use Rattle.gate_queue.specs.Acts.{on}
-use Rattle.gate_queue.specs.Machine.{State, IsEmpty, broken, Step}
+use Rattle.gate_queue.specs.Counts.{held, of_any_priority}
+use Rattle.gate_queue.specs.Machine.{State, IsEmpty, broken, missing, Step}
+use Rattle.gate_queue.specs.declared.reply.Head.{Head}
+use Rattle.gate_queue.specs.declared.reply.Why.TheVariants as why
 
 -- A history is a list of entries, the newest first.
 pub record Entry : Type 0 where
@@ -82,9 +85,12 @@ base_said _ = None
 abbrev pub base_back : List Event → Option (List ℕ)
 base_back events = last_of (said_by base_said) events
 
--- No act sets the clock yet.
+abbrev pub clock_said : Act → Option ℕ
+clock_said (Tick now) = Some now
+clock_said _ = None
+
 abbrev pub clock_back : List Event → ℕ
-clock_back events = 0
+clock_back events = unwrap_or (last_of (said_by clock_said) events) 0
 
 -- CHANGES
 abbrev pub author_said : Act → Option (List ℕ)
@@ -203,14 +209,27 @@ approval_said (Spoken change person (Known Approve)) = Some (person ∷ [])
 approval_said (Spoken change person (Known (ApproveFor names))) = Some names
 approval_said _ = None
 
--- what ends an approval, beside the loss of fitness: `r-`, a head move, and that the change is closed
+-- what ends an approval, beside the loss of fitness: `r-`, a head move, that the change is closed, and the notice of a conflict
 abbrev pub ends_it : ℕ → List Event → Act → Bool
 ends_it change before (Spoken other person (Known Withdraw)) = true
 ends_it change before (Closed other) = true
 ends_it change before act = moves_head change before act
 
+abbrev pub ends_why : Why → Bool
+ends_why why.Conflict = true
+ends_why why.Pushed = false
+ends_why why.Closed = false
+ends_why why.Labeled = false
+ends_why why.Reviews = false
+ends_why why.Settings = false
+
+abbrev pub order_ends : ℕ → Order → Bool
+order_ends change (Notice other why) = ends_why why && (change == other)
+order_ends change (Stage batch branch base heads) = false
+
 abbrev pub ends : ℕ → Event → List Event → Bool
-ends change event before = option_map_or (ends_it change before) (done_to change event) false
+ends change (did act) before = option_map_or (ends_it change before) (on change act) false
+ends change (gave order) before = order_ends change order
 
 -- A change is standing if an approval of it was given while it was fit, and it has been fit at each moment since, and
 -- nothing has ended it.
@@ -241,6 +260,26 @@ change_of events change author = record {
 abbrev pub change_back : List Event → ℕ → Option Change
 change_back events change = option_map (change_of events change) (author_back events change)
 
+-- ORDERS TO STAGE: how many named a batch
+abbrev pub is_stage_of : ℕ → Event → Bool
+is_stage_of number (did act) = false
+is_stage_of number (gave (Stage batch branch base heads)) = number == batch
+is_stage_of number (gave (Notice change why)) = false
+
+abbrev pub stages : ℕ → List Event → ℕ
+stages number events = count_by (is_stage_of number) events
+
+-- a change that is staged is standing, at its present head, and has this priority
+pub record IsStandingAt (events : List Event) (priority : ℤ) (staged : Head) : Type 0 where
+  pub standing : standing_back events staged.change ≡ true
+  pub head : head_back events staged.change ≡ staged.head
+  pub ranks : priority_back events staged.change ≡ priority
+
+-- An order to stage names the present base, and changes that stand, at their heads; they have one priority.
+abbrev pub IsFitOrder : List Event → Order → Type 0
+IsFitOrder events (Stage batch branch base heads) = (base_back events ≡ Some base) × ((priority : ℤ) × All (IsStandingAt events priority) heads)
+IsFitOrder events (Notice change why) = ⊤
+
 -- WHAT THE RULES READ of a history
 abbrev pub look_back : List Event → Look
 look_back events = record {
@@ -265,7 +304,11 @@ abbrev pub approvers_on : DeskView → ℕ → Option (List (List ℕ))
 approvers_on desk change = option_and_then (λ c. c.approved) (finite.get desk.changes change)
 
 -- WHAT ONE MORE ENTRY TELLS, after a history that led from an empty state to `old`.
--- the rule that a reply names
+-- the orders of a reply, and the rule that it names
+abbrev pub orders_in : Reply → List Order
+orders_in (Done orders) = orders
+orders_in (Denied rule) = []
+
 abbrev pub denied_by : Reply → Option Rule
 denied_by (Done orders) = None
 denied_by (Denied rule) = Some rule
@@ -281,8 +324,14 @@ pub record EntryTells (history : List Entry) (old : State) (entry : Entry) (new 
   pub changes : (change : ℕ) → finite.get new.desk.changes change ≡ change_back (events_of (entry ∷ history)) change
   -- a change has approvers exactly if it is standing, and then those of its last approval
   pub approvers : (change : ℕ) → approvers_on new.desk change ≡ approvers_back (events_of (entry ∷ history)) change
-  -- acts exactly by rule: done if no rule fails on the history before, and else denied by the first that does
-  pub by_rule : denied_by entry.reply ≡ rule_back history entry.act
+  -- a change is in exactly one batch on staging if it is standing, and in none if it isn't
+  pub queued : (change : ℕ) → held of_any_priority change new.queue.staging ≡ (if standing_back (events_of (entry ∷ history)) change then 1 else 0)
+  -- no number was staged twice, and each order to stage is fit
+  pub staged_once : (number : ℕ) → stages number (events_of (entry ∷ history)) ≤ 1
+  pub fit : All (IsFitOrder (events_of (entry ∷ history))) (orders_in entry.reply)
+  -- acts exactly by rule: done if no rule fails on the history before, and else denied by the first that does; an act on a
+  -- batch is denied before if no batch of that number was ordered
+  pub by_rule : denied_by entry.reply ≡ option_or (missing old.queue entry.act) (rule_back history entry.act)
   -- a denied act changes nothing
   pub denied : (rule : Rule) → entry.reply ≡ Denied rule → new ≡ old
   -- legality goes on

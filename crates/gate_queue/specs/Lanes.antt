@@ -1,8 +1,9 @@
 -- LANES: the batches of a branch in order of service, and what is done to them.
 use Rattle.std.specs.Prelude.{ℕ, ◌+◌, ◌/◌, suc, nat_lt, int_lt, ℤ, Bool, true, false, not, ◌&&◌, ◌==◌, List, [], ◌∷◌, ◌++◌, length, map, take, drop, slice_get, slice_set, Option, Some, None, is_some, if◌then◌else◌}
 use Rattle.std.proofs.Math.Bool.{beq}
+use Rattle.std.specs.FinMap as finite
 use Rattle.std.specs.Bool.{then_some}
-use Rattle.std.specs.List.{filter, insert, list_all, position}
+use Rattle.std.specs.List.{filter, find, insert, list_all, position}
 use Rattle.std.specs.Option.{option_map, option_map_or, option_or, unwrap_or}
 use Rattle.std.specs.Ordering.{int_eq}
 use Rattle.gate_queue.specs.declared.batch.Batch.{Batch}
@@ -32,6 +33,10 @@ batches_of lane = in_service lane.running lane.waiting where
   in_service : Option Batch → List Batch → List Batch
   in_service None waiting = waiting
   in_service (Some batch) waiting = batch ∷ waiting
+
+-- the one of a number, if there is one
+abbrev pub batch_numbered : ℕ → Lane → Option Batch
+batch_numbered number lane = find (λ (batch : Batch). batch.number == number) (batches_of lane)
 
 -- NEW BATCHES
 abbrev pub fresh : ℕ → ℤ → ℕ → Batch
@@ -208,6 +213,13 @@ started_beside now (Some batch) waiting = record { running = Some batch; waiting
 
 abbrev pub started : ℕ → Lane → Lane
 started now lane = started_beside now lane.running lane.waiting
+
+-- STAGED: the running batch is tested from now on
+abbrev pub staged_at : ℕ → List ℕ → Batch → Batch
+staged_at now commit batch = record batch { stage = stage.Staged now commit finite.empty }
+
+abbrev pub staged : ℕ → List ℕ → Lane → Lane
+staged now commit lane = record lane { running = option_map (staged_at now commit) lane.running }
 
 -- DROP the running batch
 abbrev pub dropped : Lane → Lane

@@ -1,5 +1,6 @@
 -- THE QUEUE: the batches of both branches, and the next number.
 use Rattle.std.specs.Prelude.{ℕ, ◌+◌, ℤ, Bool, List, ◌++◌, map, Option}
+use Rattle.std.specs.Option.{option_or}
 use Rattle.gate_queue.specs.Lanes as lanes
 use Rattle.gate_queue.specs.declared.batch.Batch.{Batch}
 use Rattle.gate_queue.specs.declared.batch.Branch.{Branch}
@@ -17,6 +18,10 @@ batches_of queue = lanes.batches_of queue.staging ++ lanes.batches_of queue.tryi
 -- their numbers
 abbrev pub numbers_of : Queue → List ℕ
 numbers_of queue = map (λ batch. batch.number) (batches_of queue)
+
+-- the one of a number, if there is one
+abbrev pub batch_numbered : ℕ → Queue → Option Batch
+batch_numbered number queue = option_or (lanes.batch_numbered number queue.staging) (lanes.batch_numbered number queue.trying)
 
 abbrev pub lane_of : Branch → Queue → Lane
 lane_of Staging queue = queue.staging
@@ -55,6 +60,9 @@ failed branch queue = with_lane branch (lanes.failed queue.next (lane_of branch 
 
 abbrev pub started : Branch → ℕ → Queue → Queue
 started branch now queue = with_lane branch (lanes.started now (lane_of branch queue)) 0 queue
+
+abbrev pub staged : Branch → ℕ → List ℕ → Queue → Queue
+staged branch now commit queue = with_lane branch (lanes.staged now commit (lane_of branch queue)) 0 queue
 
 abbrev pub dropped : Branch → Queue → Queue
 dropped branch queue = with_lane branch (lanes.dropped (lane_of branch queue)) 0 queue

@@ -2,7 +2,7 @@
 use Rattle.std.specs.Prelude.{◌≡◌, ◌≤◌, ℕ, ◌+◌, nat_lt, nat_le, ℤ, Bool, true, ◌&&◌, List, Option, if◌then◌else◌}
 use Rattle.std.specs.List.{AllPairs}
 use Rattle.gate_queue.specs.Counts.{uses}
-use Rattle.gate_queue.specs.Lanes.{batches_of, goes_before, placed, left, enqueued, enqueue_uses, taken_out, taken_out_uses, restarted, restarted_uses, requeued, requeued_uses, failed, failed_uses, started, dropped}
+use Rattle.gate_queue.specs.Lanes.{batches_of, goes_before, placed, left, enqueued, enqueue_uses, taken_out, taken_out_uses, restarted, restarted_uses, requeued, requeued_uses, failed, failed_uses, started, staged, dropped}
 use Rattle.gate_queue.specs.declared.batch.Batch.{Batch}
 use Rattle.gate_queue.specs.declared.lane.Lane.{Lane}
 
@@ -32,6 +32,7 @@ pub record StaysInOrder (next : ℕ) (lane : Lane) : Type 0 where
   pub requeue : (stays : ℕ → Bool) → IsInOrder (next + requeued_uses stays lane) (requeued stays next lane)
   pub fail : IsInOrder (next + failed_uses lane) (failed next lane)
   pub start : (now : ℕ) → IsInOrder next (started now lane)
+  pub stage : (now : ℕ) (commit : List ℕ) → IsInOrder next (staged now commit lane)
   pub drop : IsInOrder next (dropped lane)
 
 abbrev pub LawOfOrder : Type 0
@@ -52,6 +53,7 @@ pub record UsesNewNumbers (next : ℕ) (lane : Lane) : Type 0 where
   pub requeue : (stays : ℕ → Bool) → OnlyNew next (requeued_uses stays lane) lane (requeued stays next lane)
   pub fail : OnlyNew next (failed_uses lane) lane (failed next lane)
   pub start : (now : ℕ) → OnlyNew next 0 lane (started now lane)
+  pub stage : (now : ℕ) (commit : List ℕ) → OnlyNew next 0 lane (staged now commit lane)
   pub drop : OnlyNew next 0 lane (dropped lane)
 
 abbrev pub LawOfNumbers : Type 0

@@ -7,19 +7,19 @@ pub use Rattle.gate_text.specs.declared.command.Spoken.TheVariants.{Known, Unkno
 pub use Rattle.gate_text.specs.declared.settings.fault.SettingsFault.{SettingsFault}
 -- people, changes, the desk, the rules
 pub use Rattle.gate_rules.specs.Rules.{Look, Texts, asks, is_known, is_open, is_member, is_blocked, has_too_few_reviews, is_fit, first_failing}
-pub use Rattle.gate_rules.specs.View.{DeskView, empty_desk, with_role, role_on, with_change, with_settings, with_base, with_ended, numbers_where, ended_if, without_approval, look}
+pub use Rattle.gate_rules.specs.View.{DeskView, empty_desk, with_role, role_on, with_change, with_settings, with_base, with_clock, with_ended, numbers_where, ended_if, without_approval, look}
 pub use Rattle.gate_rules.specs.declared.change.Change.{Change}
 pub use Rattle.gate_rules.specs.declared.change.Phase.{Phase}
 pub use Rattle.gate_rules.specs.declared.change.Repeat.{Repeat}
 pub use Rattle.gate_rules.specs.declared.role.Role.{Role as RoleOf}
 pub use Rattle.gate_rules.specs.declared.role.Role.TheVariants.{Nobody}
 pub use Rattle.gate_rules.specs.declared.rule.Rule.{Rule}
-pub use Rattle.gate_rules.specs.declared.rule.Rule.TheVariants.{UnknownChange, NotOpen, AlreadyOpen, StaleHead, NotMember, OwnChange, BadSettings, SameAsBase}
+pub use Rattle.gate_rules.specs.declared.rule.Rule.TheVariants.{UnknownChange, NotOpen, AlreadyOpen, StaleHead, NotMember, OwnChange, BadSettings, ClockBack, NoSuchBatch, SameAsBase}
 -- acts, orders, replies
 pub use Rattle.gate_queue.specs.declared.act.Act.{Act}
-pub use Rattle.gate_queue.specs.declared.act.Act.TheVariants.{Spoken, Role, Settings, Base, Opened, Pushed, Closed, Labeled, Unlabeled, Review}
+pub use Rattle.gate_queue.specs.declared.act.Act.TheVariants.{Spoken, Role, Settings, Base, Opened, Pushed, Closed, Labeled, Unlabeled, Review, Staged, Conflict, Tick}
 pub use Rattle.gate_queue.specs.declared.reply.Order.{Order}
-pub use Rattle.gate_queue.specs.declared.reply.Order.TheVariants.{Notice}
+pub use Rattle.gate_queue.specs.declared.reply.Order.TheVariants.{Stage, Notice}
 pub use Rattle.gate_queue.specs.declared.reply.Reply.{Reply}
 pub use Rattle.gate_queue.specs.declared.reply.Reply.TheVariants.{Done, Denied}
 pub use Rattle.gate_queue.specs.declared.reply.Why.{Why}

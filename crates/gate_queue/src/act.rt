@@ -76,4 +76,21 @@ pub enum Act {
         /// Whether the person approves of it.
         approves: bool,
     },
+    /// The fact `staged`: the host has made the staging commit of a batch.
+    Staged {
+        /// The number of the batch.
+        batch: u64,
+        /// The commit that is tested now.
+        commit: Commit,
+    },
+    /// The fact `conflict`: the changes of a batch can't be merged.
+    Conflict {
+        /// The number of the batch.
+        batch: u64,
+    },
+    /// The fact `tick`: the clock is read.
+    Tick {
+        /// The reading, in seconds: 0 to 9,000,000,000,000,000.
+        now: u64,
+    },
 }

@@ -1,10 +1,11 @@
-ghost use Rattle.std.specs.Prelude.{◌≡◌, [], not, ◌&&◌, Some, is_some, false, IfOk, IsOk, OnOk};
+ghost use Rattle.std.specs.Prelude.{◌≡◌, [], ◌∷◌, not, ◌&&◌, Some, is_some, false, IfOk, IsOk, OnOk};
 ghost use Rattle.std.specs.FinMap as finite;
 ghost use Rattle.std.specs.FinSet as set;
 ghost use Rattle.std.specs.List.{fold};
 ghost use Rattle.gate_rules.specs.View.{with_change, without_approval};
 ghost use Rattle.gate_queue.specs.Machine as machine;
 ghost use Rattle.gate_queue.specs.Machine.{altered, notice_if, notice_of};
+ghost use Rattle.gate_queue.specs.declared.reply.Order.TheVariants.{Notice};
 ghost use Rattle.gate_queue.specs.declared.reply.Why.TheVariants as why;
 
 use crate::reply::{Order, Orders, Why};
@@ -19,6 +20,13 @@ pub fn no_orders(alloc: Global) -> Orders
     Orders::from(Vec::new(alloc))
 }
 
+/// One notice.
+pub fn one_notice(alloc: Global, change: ChangeNo, why: Why) -> Result<Orders, AllocError>
+    ensures { IfOk result (λ orders. orders ≡ Notice change why ∷ []) }
+{
+    Ok(Orders::from(vec![in alloc; Order::Notice { change, why }]?))
+}
+
 // A notice, if an approval has ended.
 fn ending_notice(
     alloc: Global,
@@ -29,14 +37,11 @@ fn ending_notice(
     ensures value { IfOk result (λ orders. orders ≡ machine.notice_if has_ended number why) }
     ensures no_memory { has_ended ≡ false → IsOk result }
 {
-    let mut orders = Vec::new(alloc);
     if has_ended {
-        orders.push(Order::Notice {
-            change: number,
-            why,
-        })?;
+        one_notice(alloc, number, why)
+    } else {
+        Ok(no_orders(alloc))
     }
-    Ok(Orders::from(orders))
 }
 
 // Keeps a change that was altered, and gives a notice if its approval has ended.

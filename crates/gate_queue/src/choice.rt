@@ -1,5 +1,6 @@
 ghost use Rattle.std.specs.Prelude.{◌≡◌, ℕ, Bool};
 
+use gate_rules::Desk;
 use gate_text::ChangeNo;
 
 /// A choice of changes.
@@ -26,5 +27,25 @@ impl Choice for AllBut {
 
     fn has(&self, change: ChangeNo) -> bool {
         change != self.change
+    }
+}
+
+/// The changes that are approved on a desk.
+#[derive(Clone, Copy)]
+pub struct Approved<'a> {
+    /// The desk.
+    pub desk: &'a Desk,
+}
+
+impl Choice for Approved<'_> {
+    ghost use Rattle.gate_queue.specs.Machine.{approved_on};
+
+    ghost chooses = { λ change approved. approved_on approved.desk.now change };
+
+    fn has(&self, change: ChangeNo) -> bool {
+        match self.desk.change(change) {
+            Some(change) => change.approved.is_some(),
+            None => false,
+        }
     }
 }

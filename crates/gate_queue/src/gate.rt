@@ -1,28 +1,32 @@
-ghost use Rattle.std.specs.Prelude.{◌≡◌, [], List, Some, IfOk, IfErr, IsOk};
+ghost use Rattle.std.specs.Prelude.{◌≡◌, ◌↔◌, ◌⊎◌, ◌<◌, ◌≤◌, ℕ, [], List, Err, Some, IfOk, IfErr, IsOk};
 ghost use Rattle.std.specs.FinMap as map;
 ghost use Rattle.std.specs.Option.{option_copied};
-ghost use Rattle.gate_rules.specs.View.{look};
 ghost use Rattle.gate_rules.specs.declared.rule.Rule.{Rule};
-ghost use Rattle.gate_queue.specs.Acts.{ActKeepsLimits};
+ghost use Rattle.gate_queue.specs.Acts.{ActKeepsLimits, IsMoment};
 ghost use Rattle.gate_queue.specs.History.{Entry, Legal, EntryTells, entry_of};
+ghost use Rattle.gate_queue.specs.Machine.{DeskTakesNoMemory, QueueTakesNoMemory, RefusalMayWantMemory, Step, denial, empty_state};
+ghost use Rattle.gate_queue.specs.Queue as queue_specs;
+ghost use Rattle.gate_queue.specs.Service.{IsInOrder};
 ghost use Rattle.gate_queue.specs.State.{IsState};
-ghost use Rattle.gate_queue.specs.Machine.{RefusalMayWantMemory, Step, TakesNoMemory, empty_state, broken};
 ghost use Rattle.gate_queue.specs.declared.reply.Reply.TheVariants.{Denied};
 
 use crate::act::Act;
+use crate::batch::Batch;
 use crate::fault::Fault;
 use crate::judging::rule_of;
-use crate::performing::perform;
+use crate::queue::Queue;
 use crate::reply::Reply;
+use crate::stepping::step;
 use gate_rules::{Change, Desk, Rule};
 use gate_text::ChangeNo;
 use std::alloc::{AllocError, Global};
 use std::marker::Model;
 
-/// The state of the merge bot, on which acts step one after the other. A contract sees it as its desk.
+/// The state of the merge bot, on which acts step one after the other. A contract sees it as its desk and its queue.
 #[derive(Drop)]
 pub struct Gate {
     desk: Desk,
+    queue: Queue,
 }
 
 impl Model for Gate {
@@ -35,24 +39,38 @@ impl Model for Gate {
 
     ghost coded = { Prim.hlevel (codes, finite_codes) };
 
-    ghost view = { λ gate. record { desk = gate.desk } };
+    ghost view = { λ gate. record { desk = gate.desk; queue = gate.queue } };
 
     // What a state keeps, whatever has happened.
-    ghost invariant = { λ gate. IsState (record { desk = gate.desk }) };
+    ghost invariant = { λ gate. IsState (record { desk = gate.desk; queue = gate.queue }) };
 }
 
+// The greatest next number under which an act may step: no act uses more than the four from it on.
+const LAST_NEXT: u64 = 8_999_999_999_999_996;
+
 impl Gate {
-    /// A gate with an empty desk, its clock at 0. It takes no memory; its maps keep the allocator.
+    /// A gate with an empty desk, its clock at 0, and without batches; the first will have the number 1. It takes no memory;
+    /// its maps and lists keep the allocator.
     pub fn new(alloc: Global) -> Gate
-        ensures value { result ≡ empty_state }
+        ensures value { result ≡ empty_state 1 }
+    {
+        Gate::starting_at(alloc, 1)
+    }
+
+    /// The same, and the first batch will have the number `next`, from 1 to 9,000,000,000,000,000.
+    pub fn starting_at(alloc: Global, next: u64) -> Gate
+        requires low { 1 ≤ next }
+        requires high { next ≤ 9_000_000_000_000_000 }
+        ensures value { result ≡ empty_state next }
     {
         Gate {
             desk: Desk::new(alloc),
+            queue: Queue::new(alloc, next),
         }
     }
 
-    /// Lets an act that keeps its limits step, and answers the gate after it and the reply. The one fault is `Memory`; the gate
-    /// is spent then.
+    /// Lets an act that keeps its limits step, and answers the gate after it and the reply. `Full` if the next number is
+    /// above 8,999,999,999,999,996, whatever the act is; else the one fault is `Memory`. After a fault the gate is spent.
     pub fn act(self, alloc: Global, act: &Act) -> Result<(Gate, Reply), Fault>
         requires { ActKeepsLimits act.now }
 
@@ -65,26 +83,31 @@ impl Gate {
         // An act that a rule denies changes nothing, and its reply has no orders.
         ensures denied { IfOk result (λ done. (rule : Rule) → done.1 ≡ Denied rule → done.0 ≡ self) }
 
-        // The one fault. An act that a rule denies meets it only if the rule itself may want memory.
-        ensures cause { IfErr result (λ fault. fault ≡ Fault.Memory) }
-        ensures refused { IfErr result (λ _. (rule : Rule) → broken (look self.desk) act.now ≡ Some rule → RefusalMayWantMemory act.now (Some rule)) }
+        // The faults. An act that a rule denies meets `Memory` only if the rule itself may want memory.
+        ensures full { (result ≡ Err Fault.Full) ↔ (8_999_999_999_999_996 < self.queue.next) }
+        ensures cause { IfErr result (λ fault. (fault ≡ Fault.Memory) ⊎ (fault ≡ Fault.Full)) }
+        ensures refused { IfErr result (λ fault. fault ≡ Fault.Memory → (rule : Rule) → denial self act.now ≡ Some rule → RefusalMayWantMemory act.now (Some rule)) }
 
-        // An act that allocates nothing is always answered.
-        ensures no_memory { TakesNoMemory self.desk act.now → IsOk result }
+        // An act that allocates nothing is always answered, if the gate isn't full.
+        ensures no_memory { self.queue.next ≤ 8_999_999_999_999_996 → DeskTakesNoMemory self.desk act.now → QueueTakesNoMemory self act.now → IsOk result }
     {
-        match step(self.desk, alloc, act) {
-            Ok((desk, reply)) => Ok((Gate { desk }, reply)),
+        let Gate { desk, queue } = self;
+        if queue.next > LAST_NEXT {
+            return Err(Fault::Full);
+        }
+        match step(desk, queue, alloc, act) {
+            Ok((desk, queue, reply)) => Ok((Gate { desk, queue }, reply)),
             Err(_) => Err(Fault::Memory),
         }
     }
 
-    /// The rule that would deny the act: the first of its row that fails, and nothing if all hold. `AllocError` if
-    /// there is no memory to read settings, or to copy a label that the rule names.
+    /// The rule that would deny the act: the first of its row that fails, and nothing if all hold; on a full gate too.
+    /// `AllocError` if there is no memory to read settings, or to copy a label that the rule names.
     pub fn refusal(&self, alloc: Global, act: &Act) -> Result<Option<Rule>, AllocError>
-        ensures value { IfOk result (λ rule. rule ≡ broken (look self.now.desk) act.now) }
-        ensures cause { IfErr result (λ _. RefusalMayWantMemory act.now (broken (look self.now.desk) act.now)) }
+        ensures value { IfOk result (λ rule. rule ≡ denial self.now act.now) }
+        ensures cause { IfErr result (λ _. RefusalMayWantMemory act.now (denial self.now act.now)) }
     {
-        rule_of(&self.desk, alloc, act)
+        rule_of(&self.desk, &self.queue, alloc, act)
     }
 
     /// The change of this number, if it was opened.
@@ -101,22 +124,34 @@ impl Gate {
     {
         &self.desk
     }
-}
 
-// The step on the desk.
-fn step(mut desk: Desk, alloc: Global, act: &Act) -> Result<(Desk, Reply), AllocError>
-    ensures step { IfOk result (λ done. Step (record { desk = desk }) act.now done.1 (record { desk = done.0 })) }
-    ensures refused { IfErr result (λ _. (rule : Rule) → broken (look desk) act.now ≡ Some rule → RefusalMayWantMemory act.now (Some rule)) }
-    ensures no_memory { TakesNoMemory desk act.now → IsOk result }
-{
-    if let Some(rule) = rule_of(&desk, alloc, act)? {
-        return Ok((desk, Reply::Denied(rule)));
+    /// The numbers of all batches, in order of service: of a branch the running batch first, then the waiting ones by greater
+    /// priority, then retried before fresh, then smaller number. `AllocError` if there is no memory for them.
+    pub fn queue(&self, alloc: Global) -> Result<Vec<u64>, AllocError>
+        ensures value { IfOk result (λ numbers. numbers.items ≡ queue_specs.numbers_of self.now.queue) }
+        ensures order { IsInOrder self.now.queue.next self.now.queue.staging }
+    {
+        self.queue.numbers(alloc)
     }
-    let orders = perform(&mut desk, alloc, act)?;
-    Ok((desk, Reply::Done(orders)))
+
+    /// The batch of this number, if there is one.
+    pub fn batch(&self, number: u64) -> Option<&Batch>
+        ensures value { option_copied result ≡ queue_specs.batch_numbered number self.now.queue }
+    {
+        self.queue.batch(number)
+    }
+
+    /// The number of the next batch.
+    pub fn next(&self) -> u64
+        ensures value { result ≡ self.now.queue.next }
+        ensures limit { result ≤ 9_000_000_000_000_000 }
+    {
+        self.queue.next
+    }
 }
 
-/// The law of the first history: the one without entries is legal to an empty state, as `Gate::new` shows one.
+/// The law of the first history: the one without entries is legal to an empty state, whatever its next number is, as
+/// `Gate::new` and `Gate::starting_at` show one.
 pub fn empty_history_is_legal()
-    ensures { Legal [] empty_state }
+    ensures { (next : ℕ) → Legal [] (empty_state next) }
 {}

@@ -2,20 +2,28 @@ ghost use Rattle.std.specs.Prelude.{◌≡◌, [], IfOk, IfErr, IsOk};
 ghost use Rattle.gate_text.specs.Settings.{settings_of};
 ghost use Rattle.gate_rules.specs.Rules.{first_failing};
 ghost use Rattle.gate_rules.specs.View.{look};
-ghost use Rattle.gate_queue.specs.Machine.{RefusalMayWantMemory, TakesNoMemory, broken, bad_settings, of_open_change, review_row, row};
+ghost use Rattle.gate_queue.specs.Machine as machine;
+ghost use Rattle.gate_queue.specs.Machine.{RefusalMayWantMemory, DeskTakesNoMemory, denial, bad_settings, of_open_change, review_row, row};
 ghost use Rattle.gate_queue.specs.declared.act.Act.TheVariants as act;
 
 use crate::act::Act;
+use crate::batch::Stage;
+use crate::queue::Queue;
 use gate_rules::{Desk, Rule};
 use gate_text::{ChangeNo, Commit, Name, SettingsFault, Text, read_settings};
 use std::alloc::{AllocError, Global};
 
 /// The rule that denies an act: the first of its row that fails, and nothing if all hold. `AllocError` if there is
 /// no memory to read settings, or to copy a label that the rule names.
-pub fn rule_of(desk: &Desk, alloc: Global, act: &Act) -> Result<Option<Rule>, AllocError>
-    ensures value { IfOk result (λ rule. rule ≡ broken (look desk.now) act.now) }
-    ensures cause { IfErr result (λ _. RefusalMayWantMemory act.now (broken (look desk.now) act.now)) }
-    ensures no_memory { TakesNoMemory desk.now act.now → IsOk result }
+pub fn rule_of(
+    desk: &Desk,
+    queue: &Queue,
+    alloc: Global,
+    act: &Act,
+) -> Result<Option<Rule>, AllocError>
+    ensures value { IfOk result (λ rule. rule ≡ denial (record { desk = desk.now; queue = queue.now }) act.now) }
+    ensures cause { IfErr result (λ _. RefusalMayWantMemory act.now (denial (record { desk = desk.now; queue = queue.now }) act.now)) }
+    ensures no_memory { DeskTakesNoMemory desk.now act.now → IsOk result }
 {
     match act {
         Act::Spoken {
@@ -38,6 +46,32 @@ pub fn rule_of(desk: &Desk, alloc: Global, act: &Act) -> Result<Option<Rule>, Al
             head,
             ..
         } => Ok(review_rule(desk, *change, person, *head)),
+        Act::Staged { batch, .. } | Act::Conflict { batch } if !has_ordered(queue, *batch) => {
+            Ok(Some(Rule::NoSuchBatch))
+        }
+        Act::Staged { commit, .. } => Ok(base_rule(desk, *commit)),
+        Act::Conflict { .. } => Ok(None),
+        Act::Tick { now } if *now < desk.clock() => Ok(Some(Rule::ClockBack)),
+        Act::Tick { .. } => Ok(None),
+    }
+}
+
+// Whether the host was ordered to stage the batch of this number, and hasn't answered yet.
+fn has_ordered(queue: &Queue, number: u64) -> bool
+    ensures { result ≡ machine.has_ordered queue.now number }
+{
+    match &queue.staging.running {
+        Some(batch) => batch.number == number && is_ordered(&batch.stage),
+        None => false,
+    }
+}
+
+fn is_ordered(stage: &Stage) -> bool
+    ensures { result ≡ machine.is_ordered stage.now }
+{
+    match stage {
+        Stage::Ordered { .. } => true,
+        Stage::Waiting | Stage::Staged { .. } | Stage::Landing { .. } => false,
     }
 }
 

@@ -1,12 +1,14 @@
-ghost use Rattle.std.specs.Prelude.{◌≡◌, ◌<◌, None, Some, IfOk};
+ghost use Rattle.std.specs.Prelude.{◌≡◌, ◌==◌, ◌<◌, true, None, Some, is_none, IfOk, IsOk};
+ghost use Rattle.std.specs.List.{find};
+ghost use Rattle.std.specs.Option.{option_copied};
 ghost use Rattle.gate_queue.specs.Lanes as lanes;
 
-use crate::batch::{Batch, Stage};
+use crate::batch::{Batch, Reports, Stage};
 use crate::choice::Choice;
 use crate::waiting::{
     MAX_NUMBER, enter, has_all, has_several, is_landing, keep, left, put_back, split_into,
 };
-use gate_text::{ChangeNo, List};
+use gate_text::{ChangeNo, Commit, List};
 use std::alloc::{AllocError, Global};
 
 /// Batches in order of service. A contract sees them as the list of the batches.
@@ -30,6 +32,18 @@ impl Lane {
             running: None,
             waiting: Batches::from(Vec::new(alloc)),
         }
+    }
+
+    /// The batch of this number, if it is on this branch.
+    pub fn batch(&self, number: u64) -> Option<&Batch>
+        ensures value { option_copied result ≡ lanes.batch_numbered number self.now }
+    {
+        if let Some(batch) = &self.running {
+            if batch.number == number {
+                return Some(batch);
+            }
+        }
+        numbered(self.waiting.as_slice(), number)
     }
 
     /// Queues a change: it joins the last fresh batch of its priority, if that has fewer changes than `size`, or is a batch of
@@ -73,10 +87,11 @@ impl Lane {
     }
 
     /// Lets the running batch wait again, under `number`, unless it is landing. With it comes how many numbers were used.
-    /// `AllocError` if there is no memory for it.
+    /// `AllocError` if there is no memory for it; if no batch runs, it takes none.
     pub fn restart(self, number: u64) -> Result<(Lane, u64), AllocError>
         ensures lane { IfOk result (λ done. done.0 ≡ lanes.restarted number self) }
         ensures uses { IfOk result (λ done. done.1 ≡ lanes.restarted_uses self) }
+        ensures no_memory { is_none self.running ≡ true → IsOk result }
     {
         let Lane { running, waiting } = self;
         let mut waiting = waiting.into_vec();
@@ -137,12 +152,42 @@ impl Lane {
         }
     }
 
+    /// Has the running batch, if there is one, tested at this commit since this reading of the clock; nothing was reported yet.
+    /// It takes no memory; the map of reports keeps the allocator.
+    pub fn stage(self, alloc: Global, now: u64, commit: Commit) -> Lane
+        ensures value { result ≡ lanes.staged now commit self }
+    {
+        let Lane { running, waiting } = self;
+        let running = match running {
+            Some(batch) => Some(staged_at(batch, alloc, now, commit)),
+            None => None,
+        };
+        Lane { running, waiting }
+    }
+
     /// Drops the running batch.
     pub fn drop_running(self) -> Lane
         ensures value { result ≡ lanes.dropped self }
     {
         waiting_only(self.waiting.into_vec())
     }
+}
+
+fn staged_at(mut batch: Batch, alloc: Global, now: u64, commit: Commit) -> Batch
+    ensures { result ≡ lanes.staged_at now commit batch }
+{
+    batch.stage = Stage::Staged {
+        since: now,
+        commit,
+        reports: Reports::new(alloc),
+    };
+    batch
+}
+
+fn numbered(batches: &[Batch], number: u64) -> Option<&Batch>
+    ensures { option_copied result ≡ find (λ (batch : Batch). batch.number == number) batches.now }
+{
+    batches.iter().find(|batch| batch.number == number)
 }
 
 // Lets only the chosen changes of a running batch stay.

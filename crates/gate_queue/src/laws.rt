@@ -1,4 +1,5 @@
-ghost use Rattle.gate_queue.specs.Counts.{LawOfEnqueue, LawOfTakeOut, LawOfRestart, LawOfStart, LawOfRequeue, LawOfFail, LawOfDrop};
+ghost use Rattle.gate_queue.specs.Counts.{LawOfEnqueue, LawOfTakeOut, LawOfRestart, LawOfStart, LawOfStage, LawOfRequeue, LawOfFail, LawOfDrop};
+ghost use Rattle.gate_queue.specs.Following.{LawOfTheQueue};
 ghost use Rattle.gate_queue.specs.Service.{LawOfNumbers, LawOfOrder, LawOfPlaces, LawOfRests};
 ghost use Rattle.gate_queue.specs.Words.{LawOfSince, LawOfTheLast, LawOfSets};
 
@@ -36,7 +37,14 @@ pub fn law_of_changes()
     ensures take_out { LawOfTakeOut }
     ensures restart { LawOfRestart }
     ensures start { LawOfStart }
+    ensures stage { LawOfStage }
     ensures requeue { LawOfRequeue }
     ensures fail { LawOfFail }
     ensures drop { LawOfDrop }
+{}
+
+/// The law of the queue: what each act that is about a change does to the batches, act by act, on every state and if no rule
+/// denies it. The machine has one definition for all of them, by which the queue follows the desk.
+pub fn law_of_the_queue()
+    ensures { LawOfTheQueue }
 {}

@@ -14,16 +14,19 @@ mod laws;
 mod performing;
 mod queue;
 mod reply;
-mod settling;
+mod settings;
+mod stepping;
 mod waiting;
 
 pub use act::Act;
 pub use batch::{Batch, Branch, Changes, Report, Reports, Stage};
-pub use choice::{AllBut, Choice};
+pub use choice::{AllBut, Approved, Choice};
 pub use fault::Fault;
 pub use gate::{Gate, empty_history_is_legal};
 pub use lane::{Batches, Lane};
-pub use laws::{law_of_changes, law_of_service, law_of_sets, law_of_since, law_of_the_last};
+pub use laws::{
+    law_of_changes, law_of_service, law_of_sets, law_of_since, law_of_the_last, law_of_the_queue,
+};
 pub use queue::Queue;
-pub use reply::{Order, Orders, Reply, Why};
-pub use settling::LosesApproval;
+pub use reply::{Head, Heads, Order, Orders, Reply, Why};
+pub use settings::LosesApproval;

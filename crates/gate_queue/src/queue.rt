@@ -1,4 +1,5 @@
-ghost use Rattle.std.specs.Prelude.{◌≡◌, ◌<◌, ◌+◌, ◌++◌, ◌∷◌, [], ℕ, map, IfOk, OnOk};
+ghost use Rattle.std.specs.Prelude.{◌≡◌, ◌<◌, ◌+◌, ◌++◌, ◌∷◌, [], ℕ, map, true, is_none, IfOk, IsOk, OnOk};
+ghost use Rattle.std.specs.Option.{option_copied};
 ghost use Rattle.gate_queue.specs.Lanes as lanes;
 ghost use Rattle.gate_queue.specs.Queue as specs;
 
@@ -6,7 +7,7 @@ use crate::batch::{Batch, Branch};
 use crate::choice::Choice;
 use crate::lane::Lane;
 use crate::waiting::MAX_NUMBER;
-use gate_text::ChangeNo;
+use gate_text::{ChangeNo, Commit};
 use std::alloc::{AllocError, Global};
 
 /// The batches of both branches, and the number of the next batch.
@@ -41,6 +42,16 @@ impl Queue {
         push_numbers_of(&mut numbers, &self.staging)?;
         push_numbers_of(&mut numbers, &self.trying)?;
         Ok(numbers)
+    }
+
+    /// The batch of this number, if there is one.
+    pub fn batch(&self, number: u64) -> Option<&Batch>
+        ensures value { option_copied result ≡ specs.batch_numbered number self.now }
+    {
+        match self.staging.batch(number) {
+            Some(batch) => Some(batch),
+            None => self.trying.batch(number),
+        }
     }
 
     /// Queues a change of this priority on `Staging`, in a batch of `size` changes at most. `AllocError` if there is no memory
@@ -86,10 +97,12 @@ impl Queue {
         })
     }
 
-    /// Lets the running batch of a branch wait again, unless it is landing. `AllocError` if there is no memory for it.
+    /// Lets the running batch of a branch wait again, unless it is landing. `AllocError` if there is no memory for it; if no batch
+    /// runs there, it takes none.
     pub fn restart(self, branch: Branch) -> Result<Queue, AllocError>
         requires { self.next < MAX_NUMBER }
         ensures value { IfOk result (λ queue. queue ≡ specs.restarted branch self) }
+        ensures no_memory { is_none (specs.lane_of branch self).running ≡ true → IsOk result }
     {
         let next = self.next;
         let (lane, other) = lanes_of(self, branch);
@@ -128,6 +141,16 @@ impl Queue {
         let next = self.next;
         let (lane, other) = lanes_of(self, branch);
         of_lanes(branch, lane.start(now), other, next)
+    }
+
+    /// Has the running batch of a branch, if there is one, tested at this commit since this reading of the clock; nothing was
+    /// reported yet. It takes no memory; the map of reports keeps the allocator.
+    pub fn stage(self, alloc: Global, branch: Branch, now: u64, commit: Commit) -> Queue
+        ensures value { result ≡ specs.staged branch now commit self }
+    {
+        let next = self.next;
+        let (lane, other) = lanes_of(self, branch);
+        of_lanes(branch, lane.stage(alloc, now, commit), other, next)
     }
 
     /// Drops the running batch of a branch.

@@ -1,9 +1,12 @@
+use crate::batch::Branch;
 use gate_rules::Rule;
-use gate_text::{ChangeNo, List};
+use gate_text::{ChangeNo, Commit, List};
 
 /// Why a change's approval has ended without a command.
 #[derive(Clone, Copy, Debug, PartialEq, Eq)]
 pub enum Why {
+    /// Its batch, in which it was alone, can't be merged.
+    Conflict,
     /// Another head was pushed.
     Pushed,
     /// The change was closed.
@@ -16,9 +19,32 @@ pub enum Why {
     Settings,
 }
 
+/// A change and the head at which it is to be merged.
+#[derive(Clone, Copy, Debug, PartialEq, Eq)]
+pub struct Head {
+    /// The change.
+    pub change: ChangeNo,
+    /// Its head.
+    pub head: Commit,
+}
+
+/// Heads, in the order in which they are to be merged.
+pub type Heads = List<Head>;
+
 /// What the host is to do.
 #[derive(Debug, Drop, PartialEq, Eq)]
 pub enum Order {
+    /// To merge the heads onto the base, on the branch, and to have the outcome tested.
+    Stage {
+        /// The number of the batch.
+        batch: u64,
+        /// The branch.
+        branch: Branch,
+        /// The commit that the main branch stands at.
+        base: Commit,
+        /// The changes of the batch at their heads.
+        heads: Heads,
+    },
     /// To tell the people of a change that its approval has ended.
     Notice {
         /// The change.

@@ -3,7 +3,7 @@ use Rattle.std.specs.Prelude.{ℕ, List, codes}
 use Rattle.gate_rules.specs.declared.role.Level.{Level}
 use Rattle.gate_rules.specs.declared.role.Level.TheVariants.{Anyone, Member, MemberOrDelegate, ReviewerOrDelegate, Reviewer}
 use Rattle.gate_rules.specs.declared.rule.Rule.{Rule}
-use Rattle.gate_rules.specs.declared.rule.Rule.TheVariants.{UnknownChange, NotACommand, NotPermitted, NotOpen, NoSettings, NoBase, AlreadyApproved, NotApproved, Blocked, TooFewReviews, AlreadyOpen, StaleHead, NotMember, OwnChange, BadSettings, SameAsBase}
+use Rattle.gate_rules.specs.declared.rule.Rule.TheVariants.{UnknownChange, NotACommand, NotPermitted, NotOpen, NoSettings, NoBase, AlreadyApproved, NotApproved, Blocked, TooFewReviews, AlreadyOpen, StaleHead, NotMember, OwnChange, BadSettings, ClockBack, NoSuchBatch, SameAsBase}
 
 abbrev pub number_of : Rule → ℕ
 number_of UnknownChange = 1
@@ -21,6 +21,8 @@ number_of StaleHead = 14
 number_of NotMember = 15
 number_of OwnChange = 16
 number_of (BadSettings refusal) = 17
+number_of ClockBack = 18
+number_of NoSuchBatch = 19
 number_of SameAsBase = 20
 
 abbrev pub word_of : Rule → List ℕ
@@ -39,6 +41,8 @@ word_of StaleHead = codes "StaleHead"
 word_of NotMember = codes "NotMember"
 word_of OwnChange = codes "OwnChange"
 word_of (BadSettings refusal) = codes "BadSettings"
+word_of ClockBack = codes "ClockBack"
+word_of NoSuchBatch = codes "NoSuchBatch"
 word_of SameAsBase = codes "SameAsBase"
 
 abbrev pub level_word_of : Level → List ℕ

@@ -37,6 +37,10 @@ pub enum Rule {
     OwnChange,
     /// The text is refused as settings, under this number of `SettingsFault`: 1 to 3.
     BadSettings(u8),
+    /// The reading is less than the clock.
+    ClockBack,
+    /// No batch of this number is where the act needs it.
+    NoSuchBatch,
     /// The commit is the present base.
     SameAsBase,
 }
@@ -61,6 +65,8 @@ impl Rule {
             Rule::NotMember => 15,
             Rule::OwnChange => 16,
             Rule::BadSettings(_) => 17,
+            Rule::ClockBack => 18,
+            Rule::NoSuchBatch => 19,
             Rule::SameAsBase => 20,
         }
     }
@@ -85,6 +91,8 @@ impl Rule {
             Rule::NotMember => "NotMember",
             Rule::OwnChange => "OwnChange",
             Rule::BadSettings(_) => "BadSettings",
+            Rule::ClockBack => "ClockBack",
+            Rule::NoSuchBatch => "NoSuchBatch",
             Rule::SameAsBase => "SameAsBase",
         }
     }

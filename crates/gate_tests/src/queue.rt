@@ -1,9 +1,12 @@
+ghost use Rattle.std.specs.Prelude.{◌≤◌};
+
 mod approvals;
 mod facts;
 mod lanes;
 mod many;
 mod reading;
 mod same;
+mod service;
 mod settings;
 mod stories;
 
@@ -81,10 +84,33 @@ fn desk_words(rt: &impl Abort, alloc: Global, desk: &Desk, person: &str) -> Stri
     format!(in alloc; "{digit} {role:?} {timeout}").expect(rt, "memory")
 }
 
-// The gate shows what a text tells: of `desk eve` the words of `desk_words`, and of a number the change.
+// A batch as its number and its changes.
+fn push_batch(rt: &impl Abort, words: &mut String, gate: &Gate, number: u64) {
+    write!(words, " {number}:").expect(rt, "memory");
+    let batch = gate.batch(number).expect(rt, "a batch");
+    for change in batch.changes.as_slice() {
+        write!(words, " {}", change.number()).expect(rt, "memory");
+    }
+}
+
+// All batches in order of service, and the next number.
+fn queue_words(rt: &impl Abort, alloc: Global, gate: &Gate) -> String {
+    let mut words = String::new(alloc);
+    for number in gate.queue(alloc).expect(rt, "memory") {
+        push_batch(rt, &mut words, gate, number);
+    }
+    write!(words, " next {}", gate.next()).expect(rt, "memory");
+    words
+}
+
+// The gate shows what a text tells: of `desk eve` the words of `desk_words`, of `queue` all batches, and of a number the
+// change.
 fn check_shown(rt: &impl Abort, alloc: Global, gate: &Gate, text: &str) {
     let (word, rest) = cut(text);
-    if word == "desk" {
+    if word == "queue" {
+        let found = queue_words(rt, alloc, gate);
+        check_words(rt, text, found.as_str().trim_start(), rest);
+    } else if word == "desk" {
         let (person, words) = cut(rest);
         let found = desk_words(rt, alloc, gate.desk(), person);
         check_words(rt, text, found.as_str(), words);
@@ -116,8 +142,50 @@ fn an_empty_gate(rt: HostRuntime) {
     let gate = Gate::new(rt.alloc());
     check_shown(&rt, rt.alloc(), &gate, "1 none");
     check_shown(&rt, rt.alloc(), &gate, "desk alice none Nobody 0");
+    check_shown(&rt, rt.alloc(), &gate, "queue next 1");
     check_that(&rt, "the clock", gate.desk().clock() == 0);
+    check_that(&rt, "no batch", gate.batch(1).is_none());
     gate_queue::empty_history_is_legal();
+}
+
+// An act on a gate whose first batch would have the number: what it is answered, or the fault.
+fn numbered(rt: &impl Abort, alloc: Global, next: u64, line: &str) -> String
+    requires low { 1 ≤ next }
+    requires high { next ≤ 9_000_000_000_000_000 }
+{
+    let act = read_act(rt, alloc, line);
+    match Gate::starting_at(alloc, next).act(alloc, &act) {
+        Ok((_, reply)) => shown(rt, alloc, &reply),
+        Err(fault) => format!(in alloc; "{fault}").expect(rt, "memory"),
+    }
+}
+
+#[test]
+fn a_full_gate(rt: HostRuntime) {
+    let lines =
+        "role alice reviewer|base 0|opened 1 carol a|1 alice bors r+|settings|pushed 1 a|conflict 1|tick 5";
+    for line in lines.split('|') {
+        let full = numbered(&rt, rt.alloc(), 8_999_999_999_999_997, line);
+        check_words(&rt, line, full.as_str(), "Full");
+        let last = numbered(&rt, rt.alloc(), 8_999_999_999_999_996, line);
+        check_that(&rt, line, last.as_str() != "Full");
+    }
+    let done = numbered(
+        &rt,
+        rt.alloc(),
+        8_999_999_999_999_996,
+        "role alice reviewer",
+    );
+    check_words(&rt, "the last number", done.as_str(), "done");
+}
+
+#[test]
+fn a_refusal_of_a_full_gate(rt: HostRuntime) {
+    let gate = Gate::starting_at(rt.alloc(), 9_000_000_000_000_000);
+    let act = read_act(&rt, rt.alloc(), "closed 1");
+    let refusal = gate.refusal(rt.alloc(), &act).expect(&rt, "memory");
+    check_that(&rt, "closed 1", refusal == Some(Rule::UnknownChange));
+    check_shown(&rt, rt.alloc(), &gate, "queue next 9000000000000000");
 }
 
 #[test]

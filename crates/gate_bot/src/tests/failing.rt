@@ -2,6 +2,7 @@ use super::check_that;
 use super::fakes::{Refusal, Sink, Source};
 use crate::bench::Bench;
 use crate::lines::{HookFault, serve_lines};
+use gate_queue::{Fault, Gate};
 use std::alloc::Global;
 use std::io::ErrorKind;
 use std::process::Abort;
@@ -254,4 +255,49 @@ fn a_bench_goes_on_after_a_failed_write(rt: HostRuntime) {
     let due = ALREADY_OPEN.as_bytes();
     let goes_on = serves_so(rt.alloc(), &mut bench, &mut second, &mut text, Ok(1), due);
     check_that(&rt, 2, stops && goes_on);
+}
+
+const REMARK: &str =
+    r#"{"id":"f1","event":"comment","change":1,"person":"alice","text":"Thanks!"}"#;
+
+const APPROVAL: &str = concat!(
+    r#"{"id":"f2","event":"role","person":"alice","role":"reviewer"}"#,
+    "\n",
+    r#"{"id":"f3","event":"settings","text":"status = [\"ci\"]"}"#,
+    "\n",
+    r#"{"id":"f4","event":"base","commit":"bbbbbbbbbbbbbbbbbbbbbbbbbbbbbbbbbbbbbbbb"}"#,
+    "\n",
+    r#"{"id":"f5","event":"opened","change":1,"author":"carol","head":"aaaaaaaaaaaaaaaaaaaaaaaaaaaaaaaaaaaaaaaa"}"#,
+    "\n",
+    r#"{"id":"f6","event":"comment","change":1,"person":"alice","text":"bors r+\nbors ping"}"#,
+);
+
+const FOUR_DONE: &str = concat!(
+    "[{\"orders\":[],\"verdict\":\"done\"}]\n",
+    "[{\"orders\":[],\"verdict\":\"done\"}]\n",
+    "[{\"orders\":[],\"verdict\":\"done\"}]\n",
+    "[{\"orders\":[],\"verdict\":\"done\"}]\n",
+);
+
+// One more act fits. The approval uses a number, so the command behind it meets a full gate, and nothing of that comment is
+// answered. From then on the bench answers `Full` to what needs no act, too.
+#[test]
+fn a_full_gate_ends_the_bench(rt: HostRuntime) {
+    let mut bench = Bench::on(Gate::starting_at(rt.alloc(), 8_999_999_999_999_996));
+    let mut first = source(APPROVAL, NEVER);
+    let mut written = sink(rt.alloc(), NEVER);
+    let end = Err(HookFault::Gate(Fault::Full));
+    let due = FOUR_DONE.as_bytes();
+    let stops = serves_so(rt.alloc(), &mut bench, &mut first, &mut written, end, due);
+    let mut second = source(REMARK, NEVER);
+    let mut text = sink(rt.alloc(), NEVER);
+    let stays = serves_so(
+        rt.alloc(),
+        &mut bench,
+        &mut second,
+        &mut text,
+        end,
+        b"".as_slice(),
+    );
+    check_that(&rt, 3, stops && stays);
 }

@@ -1,9 +1,9 @@
 ghost use Rattle.gate_text.specs.Limits.{KeepsLimits};
-ghost use Rattle.gate_queue.specs.Acts.{ActKeepsLimits};
+ghost use Rattle.gate_queue.specs.Acts.{ActKeepsLimits, IsMoment};
 
 use crate::readers::{commit, cut, label, name, number, role, rule_words};
-use gate_queue::{Act, Order, Reply};
-use gate_text::{ChangeNo, Spoken, Text, read_comment};
+use gate_queue::{Act, Head, Order, Reply};
+use gate_text::{ChangeNo, Commit, Spoken, Text, read_comment};
 use std::alloc::Global;
 use std::process::Abort;
 
@@ -18,6 +18,19 @@ fn spoken(rt: &impl Abort, alloc: Global, line: &str) -> Spoken
 fn settings(rt: &impl Abort, alloc: Global, text: &str) -> Text {
     let text = text.replace(alloc, "|", "\n").expect(rt, "memory");
     Text::from_str(alloc, text.as_str()).expect(rt, "memory")
+}
+
+fn whole(rt: &impl Abort, word: &str) -> u64 {
+    word.parse::<u64>().expect(rt, "a number")
+}
+
+// A reading of the clock within its limit.
+fn moment(rt: &impl Abort, word: &str) -> u64
+    ensures { IsMoment result }
+{
+    let now = whole(rt, word);
+    assert!(rt; now <= 9_000_000_000_000_000);
+    now
 }
 
 // The act of a line: a fact's name and its fields, or `1 alice bors r+` for a comment.
@@ -36,6 +49,16 @@ pub(crate) fn read_act(rt: &impl Abort, alloc: Global, line: &str) -> Act
         },
         "base" => Act::Base {
             commit: commit(rt, alloc, rest),
+        },
+        "staged" => Act::Staged {
+            batch: whole(rt, first),
+            commit: commit(rt, alloc, fields),
+        },
+        "conflict" => Act::Conflict {
+            batch: whole(rt, first),
+        },
+        "tick" => Act::Tick {
+            now: moment(rt, first),
         },
         "opened" | "pushed" | "closed" | "labeled" | "unlabeled" | "review" => {
             read_fact(rt, alloc, word, number(rt, first), fields)
@@ -88,7 +111,7 @@ fn read_review(rt: &impl Abort, alloc: Global, change: ChangeNo, person: &str, r
     }
 }
 
-// A reply in words: `done` with the notices, or the rule with what it names.
+// A reply in words: `done` with the orders, or the rule with what it names.
 pub(crate) fn shown(rt: &impl Abort, alloc: Global, reply: &Reply) -> String {
     match reply {
         Reply::Done(orders) => shown_orders(rt, alloc, orders.as_slice()),
@@ -99,8 +122,36 @@ pub(crate) fn shown(rt: &impl Abort, alloc: Global, reply: &Reply) -> String {
 fn shown_orders(rt: &impl Abort, alloc: Global, orders: &[Order]) -> String {
     let mut words = String::from_str(alloc, "done").expect(rt, "memory");
     for order in orders {
-        let Order::Notice { change, why } = order;
-        write!(words, " {} {why:?}", change.number()).expect(rt, "memory");
+        push_order(rt, &mut words, order);
     }
     words
+}
+
+// A notice as the change and the reason; an order to stage as the number, the first digit of the base, and the heads.
+fn push_order(rt: &impl Abort, words: &mut String, order: &Order) {
+    match order {
+        Order::Notice { change, why } => {
+            write!(words, " {} {why:?}", change.number()).expect(rt, "memory");
+        }
+        Order::Stage {
+            batch,
+            base,
+            heads,
+            ..
+        } => {
+            write!(words, " stage {batch} on {}:", digit(base)).expect(rt, "memory");
+            for head in heads.as_slice() {
+                push_head(rt, words, head);
+            }
+        }
+    }
+}
+
+fn push_head(rt: &impl Abort, words: &mut String, head: &Head) {
+    let change = head.change.number();
+    write!(words, " {change}{}", digit(&head.head)).expect(rt, "memory");
+}
+
+fn digit(commit: &Commit) -> char {
+    commit.text().chars().next().unwrap_or('-')
 }

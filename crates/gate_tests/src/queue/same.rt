@@ -1,20 +1,20 @@
 ghost use Rattle.std.specs.Prelude.{◌≡◌, ◌↔◌, IsTrue, IfOk};
 
 use super::reading::read_act;
-use crate::readers::{check_pair, check_that, number};
-use gate_queue::{Act, Order, Orders, Reply, Why};
+use crate::readers::{check_pair, check_that, commit, cut, number};
+use gate_queue::{Act, Branch, Head, Heads, Order, Orders, Reply, Why};
 use gate_rules::Rule;
 use std::alloc::{AllocError, Global};
 use std::process::Abort;
 
-// `==` on reasons and orders is equality, and a clone is its source: the prover refuses any other.
+// `==` on reasons and heads is equality, and a clone is its source: the prover refuses any other.
 fn is_same_why(one: &Why, other: &Why) -> bool
     ensures value { IsTrue result ↔ (one.now ≡ other.now) }
 {
     one == other
 }
 
-fn is_same_order(one: &Order, other: &Order) -> bool
+fn is_same_head(one: &Head, other: &Head) -> bool
     ensures value { IsTrue result ↔ (one.now ≡ other.now) }
 {
     one == other
@@ -27,14 +27,16 @@ fn clone_of_why(why: &Why) -> Result<Why, AllocError>
 }
 
 #[test]
-fn reasons_and_orders(rt: HostRuntime) {
+fn reasons_and_heads(rt: HostRuntime) {
     let pushed = Why::Pushed;
-    let change = number(&rt, "1");
-    let order = |why| Order::Notice { change, why };
     let clone = clone_of_why(&pushed).expect(&rt, "memory");
     check_that(&rt, "a clone", is_same_why(&pushed, &clone));
-    let are_same = is_same_order(&order(Why::Pushed), &order(Why::Closed));
-    check_that(&rt, "two orders", !are_same);
+    let head = |digit| Head {
+        change: number(&rt, "1"),
+        head: commit(&rt, rt.alloc(), digit),
+    };
+    check_that(&rt, "a head", is_same_head(&head("a"), &head("a")));
+    check_that(&rt, "two heads", !is_same_head(&head("a"), &head("b")));
 }
 
 // Acts, no two of which are the same.
@@ -84,7 +86,14 @@ const ACTS: &str = "\
     review 2 mia a yes\n\
     review 1 al a yes\n\
     review 1 mia b yes\n\
-    review 1 mia a no";
+    review 1 mia a no\n\
+    staged 1 a\n\
+    staged 2 a\n\
+    staged 1 b\n\
+    conflict 1\n\
+    conflict 2\n\
+    tick 1\n\
+    tick 2";
 
 fn is_act(rt: &impl Abort, alloc: Global, act: &Act, line: &str) -> bool {
     *act == read_act(rt, alloc, line)
@@ -120,13 +129,52 @@ fn notices(rt: &impl Abort, alloc: Global, numbers: &str) -> Orders {
     Orders::from(orders)
 }
 
-// The reply of a text: a denial, or a notice for each change that it lists.
+fn branch(word: &str) -> Branch {
+    match word {
+        "trying" => Branch::Trying,
+        _ => Branch::Staging,
+    }
+}
+
+// Heads by their changes, at the commit of a digit.
+fn heads(rt: &impl Abort, alloc: Global, digit: &str, numbers: &str) -> Heads {
+    let mut heads = Vec::new(alloc);
+    for word in numbers.split(',') {
+        let change = number(rt, word);
+        let head = commit(rt, alloc, digit);
+        heads.push(Head { change, head }).expect(rt, "memory");
+    }
+    Heads::from(heads)
+}
+
+// The order of a text: the number of the batch, the branch, the digits of the base and of the heads, and their changes.
+fn stage(rt: &impl Abort, alloc: Global, text: &str) -> Order {
+    let (batch, rest) = cut(text);
+    let (branch_word, rest) = cut(rest);
+    let (base, rest) = cut(rest);
+    let (digit, numbers) = cut(rest);
+    Order::Stage {
+        batch: batch.parse::<u64>().expect(rt, "a number"),
+        branch: branch(branch_word),
+        base: commit(rt, alloc, base),
+        heads: heads(rt, alloc, digit, numbers),
+    }
+}
+
+fn one_stage(rt: &impl Abort, alloc: Global, text: &str) -> Orders {
+    let mut orders = Vec::new(alloc);
+    orders.push(stage(rt, alloc, text)).expect(rt, "memory");
+    Orders::from(orders)
+}
+
+// The reply of a text: a denial, an order to stage, or a notice for each change that it lists.
 fn reply(rt: &impl Abort, alloc: Global, text: &str) -> Reply {
     match text {
         "unknown" => Reply::Denied(Rule::UnknownChange),
         "closed" => Reply::Denied(Rule::NotOpen),
         "few" => Reply::Denied(Rule::TooFewReviews(0, 1)),
         "fewer" => Reply::Denied(Rule::TooFewReviews(0, 2)),
+        staged if staged.starts_with("0") => Reply::Done(one_stage(rt, alloc, staged)),
         numbers => Reply::Done(notices(rt, alloc, numbers)),
     }
 }
@@ -137,7 +185,11 @@ fn is_reply(rt: &impl Abort, alloc: Global, found: &Reply, text: &str) -> bool {
 
 #[test]
 fn replies_that_are_equal(rt: HostRuntime) {
-    let replies = "|1|2|1 2|2 1|1 1|unknown|closed|few|fewer";
+    let notices = "|1|2|1 2|2 1|1 1|unknown|closed|few|fewer";
+    let stages =
+        "01 staging 0 a 1|02 staging 0 a 1|01 trying 0 a 1|01 staging 1 a 1|01 staging 0 b 1|01 staging 0 a 1,2|01 staging 0 a 2,1";
+    let replies = format!(in rt.alloc(); "{notices}|{stages}").expect(&rt, "memory");
+    let replies = replies.as_str();
     for one in replies.split('|') {
         let found = reply(&rt, rt.alloc(), one);
         for other in replies.split('|') {

@@ -1,6 +1,13 @@
-use Rattle.std.proofs.Common.{rules, ◌≡◌, ◌++◌, [], ◌∷◌}
-use Rattle.gate_bot.proofs.Telling.{told_next, led_next, tells_next}
+use Rattle.std.proofs.Common.{rules, sym, ◌∙◌, ap, ◌≡◌, ◌<◌, ℕ, false, ltb, ◌++◌, [], ◌∷◌, arith}
+use Rattle.std.proofs.lemmas.Bool.Decides.{nat_tests}
+use Rattle.std.proofs.lemmas.Bool.{true≢false}
+use Rattle.std.proofs.lemmas.List.{drop_all}
+use Rattle.gate_bot.specs.Run.{is_full, meets_full}
+use Rattle.gate_bot.proofs.Telling.{full_met, told_next, full_next, led_next, tells_next}
 use Rattle.gate_bot.proofs.machine.step_all.Goals as goal
+
+not_past : (limit n : ℕ) → (limit < n → ⊥) → ltb limit n ≡ false
+not_past limit n within = grind (arith, nat_tests)
 
 pub loop-act-preserved : goal.loop-act-preserved
 loop-act-preserved c =
@@ -15,9 +22,19 @@ loop-act-preserved c =
     let reply = c.in_ok-next.reply in
     let step = c.in_ok-next.ensures.step in
     let pushed : c.push.new.self.items ≡ replies ++ reply ∷ [] = search rules in
+    let room : is_full s ≡ false = not_past 8_999_999_999_999_996 s.queue.next (λ past. cc (c.in_ok-next.ensures.full.1 past)) in
     record {
       told = rw pushed (told_next acts place act c.act-item.is within old s t replies reply step c.loop-act.invariant.told);
+      full = full_next acts place act c.act-item.is within old s t step.1 room c.loop-act.invariant.full;
+      first = λ full. absurd (true≢false (sym full ∙ ap is_full (sym (c.loop-act.invariant.first full)) ∙ room));
       led = led_next acts place act c.act-item.is within old s t step.1 c.loop-act.invariant.led;
       history = λ history legal.
           rw pushed (tells_next acts place act c.act-item.is within old s t replies reply c.in_ok-next.ensures.history history legal (c.loop-act.invariant.history history legal));
     }
+
+pub returns-clause-at_once : goal.returns-clause-at_once
+returns-clause-at_once c full some =
+    let met = full_met c.args.gate c.args.acts.now full some in
+    let none : meets_full c.args.gate c.args.acts.now ≡ false =
+    sym c.loop-act.invariant.full ∙ ap (meets_full c.loop-act.gate) (drop_all c.loop-act.act-index c.args.acts.now c.loop-act-test.false) in
+    absurd (true≢false (sym met ∙ none))

@@ -1,4 +1,4 @@
-use Rattle.gate_queue.proofs.Counts.{enqueue_law, take_out_law, restart_law, start_law, requeue_law, fail_law, drop_law}
+use Rattle.gate_queue.proofs.Counts.{enqueue_law, take_out_law, restart_law, start_law, stage_law, requeue_law, fail_law, drop_law}
 use Rattle.gate_queue.proofs.laws.law_of_changes.Goals as goal
 
 pub returns-clause-enqueue : goal.returns-clause-enqueue
@@ -12,6 +12,9 @@ returns-clause-restart c = restart_law
 
 pub returns-clause-start : goal.returns-clause-start
 returns-clause-start c = start_law
+
+pub returns-clause-stage : goal.returns-clause-stage
+returns-clause-stage c = stage_law
 
 pub returns-clause-requeue : goal.returns-clause-requeue
 returns-clause-requeue c = requeue_law

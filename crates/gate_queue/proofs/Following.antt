@@ -1,0 +1,281 @@
+-- What the queue does by each act about a change, on every state.
+use Rattle.std.proofs.Common.{◌≡◌, ◌+◌, ℕ, ℤ, pos, eqb, Bool, true, false, not, ◌&&◌, cond, if◌then◌else◌, List, [], ◌∷◌, Option, Some, None, is_some, IfSome, refl, sym, ◌∙◌, ap, arith}
+use Rattle.std.proofs.lemmas.Bool.{not-true}
+use Rattle.std.proofs.lemmas.Bool.Decides.{nat_tests, Decides-eqb}
+use Rattle.std.proofs.lemmas.List.Elements.{All-head, All-tail}
+use Rattle.std.proofs.lemmas.List.Sums.{sum_by-cons}
+use Rattle.std.specs.Cmp.{signed_Decides}
+use Rattle.std.specs.FinMap as finite
+use Rattle.std.specs.List.{All, filter, list_all}
+use Rattle.std.specs.Option.{option_map, option_map_or, option_and_then}
+use Rattle.std.specs.Ordering.{int_eq}
+use Rattle.std.specs.Str.{bytes_eq}
+use Rattle.gate_text.specs.Settings.{SettingsView}
+use Rattle.gate_text.specs.declared.command.Command.{Command}
+use Rattle.gate_text.specs.declared.command.Command.TheVariants.{Approve, ApproveFor}
+use Rattle.gate_text.specs.declared.command.Spoken.TheVariants.{Known}
+use Rattle.gate_rules.specs.Rules.{Look, first_failing, begins_with_rules, approval_rules, is_known, is_open, is_open_phase, is_approved, has_settings, has_base, permits, need}
+use Rattle.gate_rules.specs.View.{DeskView, without_approval, look}
+use Rattle.gate_rules.specs.declared.change.Change.{Change}
+use Rattle.gate_rules.specs.declared.change.Repeat.TheVariants as repeat
+use Rattle.gate_rules.specs.declared.rule.Rule.TheVariants.{UnknownChange, NotPermitted, NotOpen, NoSettings, NoBase, AlreadyApproved, AlreadyOpen}
+use Rattle.gate_queue.specs.Counts.{occurs, inside, held, held_by, of_any_priority}
+use Rattle.gate_queue.specs.Following.{with, without, has_head, ActByAct, LawOfTheQueue}
+use Rattle.gate_queue.specs.Lanes.{has_changes, only, left, taken_out, taken_out_uses}
+use Rattle.gate_queue.specs.Machine.{State, broken, denial, missing, effect, altered, approved_by, with_priority, opened, pushed, moved_to, closed, unless_against, labeled, with_label, without_label, reviewed, with_review, approved_on, priority_on, size_on, all_but, followed, followed_on, ends_approval}
+use Rattle.gate_queue.specs.Queue as specs
+use Rattle.gate_queue.specs.State.{IsChange, IsWaiting, IsState}
+use Rattle.gate_queue.specs.declared.act.Act.{Act}
+use Rattle.gate_queue.specs.declared.act.Act.TheVariants.{Spoken, Opened}
+use Rattle.gate_queue.specs.declared.batch.Batch.{Batch}
+use Rattle.gate_queue.specs.declared.queue.Queue.{Queue}
+use Rattle.gate_queue.proofs.Changes.{altered_look, opened_at}
+use Rattle.gate_queue.proofs.Fitness.{passed}
+use Rattle.gate_queue.proofs.Wording.{none_both}
+
+-- TO TAKE OUT A CHANGE THAT IS IN NO BATCH changes nothing.
+all_others : (change : ℕ) (changes : List ℕ) → occurs change changes ≡ 0 → (filter (all_but change) changes ≡ changes) × (list_all (all_but change) changes ≡ true)
+all_others change [] none = (refl, refl)
+all_others change (first ∷ changes) none =
+    let one = sum_by-cons (λ other. if eqb change other then 1 else 0) first changes in
+    let other : eqb first change ≡ false = grind (arith, nat_tests) in
+    let rest = all_others change changes (grind (arith, nat_tests)) in
+    (rw other (ap (λ (cs : List ℕ). first ∷ cs) rest.0), rw other rest.1)
+
+same_batch : (change : ℕ) (batch : Batch) → occurs change batch.changes ≡ 0 → only (all_but change) batch ≡ batch
+same_batch change batch none = λ i. record batch { changes = (all_others change batch.changes none).0 i }
+
+none_left : (change : ℕ) (waiting : List Batch) → All IsWaiting waiting → inside of_any_priority change waiting ≡ 0 → left (all_but change) waiting ≡ waiting
+none_left change [] all none = refl
+none_left change (first ∷ waiting) all none =
+    let one = sum_by-cons (held_by of_any_priority change) first waiting in
+    let same = same_batch change first (omega (arith, one, none)) in
+    let was = All-head IsWaiting first waiting all in
+    let rest = none_left change waiting (All-tail IsWaiting first waiting all) (omega (arith, one, none)) in
+    ap (λ (batch : Batch). cond (has_changes batch) (batch ∷ left (all_but change) waiting) (left (all_but change) waiting)) same
+    ∙ rw was.changes (ap (λ (batches : List Batch). first ∷ batches) rest)
+
+-- The running batch runs on, and no number is used.
+none_taken_lane : (change number : ℕ) (running : Option Batch) (waiting : List Batch) → All IsWaiting waiting → held of_any_priority change (record { running = running; waiting = waiting }) ≡ 0
+    → (taken_out (all_but change) number (record { running = running; waiting = waiting }) ≡ record { running = running; waiting = waiting })
+    × (taken_out_uses (all_but change) (record { running = running; waiting = waiting }) ≡ 0)
+none_taken_lane change number None waiting all none = ((λ i. record { running = None; waiting = none_left change waiting all none i }), refl)
+none_taken_lane change number (Some batch) waiting all none =
+    let one = sum_by-cons (held_by of_any_priority change) batch waiting in
+    let stays = (all_others change batch.changes (omega (arith, one, none))).1 in
+    let rest = none_left change waiting all (omega (arith, one, none)) in
+    (rw stays (λ i. record { running = Some batch; waiting = rest i }), rw stays refl)
+
+none_taken : (change : ℕ) (queue : Queue) → All IsWaiting queue.staging.waiting → held of_any_priority change queue.staging ≡ 0 → specs.taken_out (all_but change) queue ≡ queue
+none_taken change queue all none =
+    let same = none_taken_lane change queue.next queue.staging.running queue.staging.waiting all none in
+    let used : queue.next + taken_out_uses (all_but change) queue.staging ≡ queue.next = omega (arith, same.1) in
+    λ i. record { staging = same.0 i; trying = queue.trying; next = used i }
+
+-- BY THE MARKS of the change before and after
+module _ (s : State) (change : ℕ) (is : IsState s) where
+  -- a change that isn't approved is taken out of nothing
+  unapproved : approved_on s.desk change ≡ false → specs.taken_out (all_but change) s.queue ≡ s.queue
+  unapproved wasnt = none_taken change s.queue is.queue.waiting (is.queue.places change ∙ ap {B = ℕ} (λ (b : Bool). if b then 1 else 0) wasnt)
+
+  -- an act that alters the change, if it is there
+  module _ (alter : Change → Change) where
+    abbrev new : DeskView
+    new = altered s.desk change alter
+
+    altered_to : (had : Option Change) → finite.get s.desk.changes change ≡ had → finite.get new.changes change ≡ option_map alter had
+    altered_to had at =
+        ap (λ (l : Look). l.change change) (altered_look s.desk change alter)
+        ∙ ap (λ (b : Bool). cond b (option_map alter (finite.get s.desk.changes change)) (finite.get s.desk.changes change)) ((Decides-eqb change change).1 refl)
+        ∙ ap (option_map alter) at
+
+    same_size : size_on new ≡ size_on s.desk
+    same_size = ap (λ (l : Look). option_and_then (λ (settings : SettingsView). settings.max_batch_size) l.settings) (altered_look s.desk change alter)
+
+    followed_to : (had : Option Change) → finite.get s.desk.changes change ≡ had
+        → followed_on s.desk new change s.queue
+        ≡ followed (option_map_or (λ (c : Change). is_some c.approved) had false) (option_map_or (λ (c : Change). is_some c.approved) (option_map alter had) false)
+        (not (int_eq (option_map_or (λ (c : Change). c.priority) had (pos 0)) (option_map_or (λ (c : Change). c.priority) (option_map alter had) (pos 0))))
+        (size_on s.desk) (option_map_or (λ (c : Change). c.priority) (option_map alter had) (pos 0)) change s.queue
+    followed_to had at = λ i. followed
+        (option_map_or (λ (c : Change). is_some c.approved) (at i) false)
+        (option_map_or (λ (c : Change). is_some c.approved) (altered_to had at i) false)
+        (not (int_eq (option_map_or (λ (c : Change). c.priority) (at i) (pos 0)) (option_map_or (λ (c : Change). c.priority) (altered_to had at i) (pos 0))))
+        (same_size i) (option_map_or (λ (c : Change). c.priority) (altered_to had at i) (pos 0)) change s.queue
+
+    -- an act that keeps the priority: what it ends is taken out, what it approves is queued, and all else stays
+    kept_followed : ((c : Change) → (alter c).priority ≡ c.priority) → ((c : Change) → is_some (alter c).approved ≡ true → is_some c.approved ≡ true)
+        → followed_on s.desk new change s.queue ≡ (if option_map_or (ends_approval alter) (finite.get s.desk.changes change) false then specs.taken_out (all_but change) s.queue else s.queue)
+    kept_followed same fewer = followed_to (finite.get s.desk.changes change) refl ∙ by (finite.get s.desk.changes change) where
+      by : (had : Option Change)
+          → followed (option_map_or (λ (c : Change). is_some c.approved) had false) (option_map_or (λ (c : Change). is_some c.approved) (option_map alter had) false)
+          (not (int_eq (option_map_or (λ (c : Change). c.priority) had (pos 0)) (option_map_or (λ (c : Change). c.priority) (option_map alter had) (pos 0))))
+          (size_on s.desk) (option_map_or (λ (c : Change). c.priority) (option_map alter had) (pos 0)) change s.queue
+          ≡ (if option_map_or (ends_approval alter) had false then specs.taken_out (all_but change) s.queue else s.queue)
+      by None = refl
+      by (Some c) =
+          let still : int_eq c.priority (alter c).priority ≡ true = (signed_Decides c.priority (alter c).priority).1 (sym (same c)) in
+          marks (is_some c.approved) (is_some (alter c).approved) (int_eq c.priority (alter c).priority) (fewer c) still where
+            marks : (was now equal : Bool) → (now ≡ true → was ≡ true) → equal ≡ true
+                → followed was now (not equal) (size_on s.desk) (alter c).priority change s.queue ≡ (if was && not now then specs.taken_out (all_but change) s.queue else s.queue)
+            marks false false equal fewer still = refl
+            marks false true equal fewer still = cc (fewer refl)
+            marks true false equal fewer still = refl
+            marks true true true fewer still = refl
+            marks true true false fewer still = cc still
+
+    -- one that ends every approval takes the change out
+    ended_followed : ((c : Change) → (alter c).priority ≡ c.priority) → ((c : Change) → (alter c).approved ≡ None)
+        → followed_on s.desk new change s.queue ≡ specs.taken_out (all_but change) s.queue
+    ended_followed same none = kept_followed same (λ c some. cc (ap is_some (sym (none c)) ∙ some)) ∙ by (finite.get s.desk.changes change) unapproved where
+      by : (had : Option Change) → (option_map_or (λ (c : Change). is_some c.approved) had false ≡ false → specs.taken_out (all_but change) s.queue ≡ s.queue)
+          → (if option_map_or (ends_approval alter) had false then specs.taken_out (all_but change) s.queue else s.queue) ≡ specs.taken_out (all_but change) s.queue
+      by None gone = sym (gone refl)
+      by (Some c) gone = ends (is_some c.approved) gone where
+        ends : (was : Bool) → (was ≡ false → specs.taken_out (all_but change) s.queue ≡ s.queue)
+            → (if was && not (is_some (alter c).approved) then specs.taken_out (all_but change) s.queue else s.queue) ≡ specs.taken_out (all_but change) s.queue
+        ends true gone = ap (λ (o : Option (List (List ℕ))). if not (is_some o) then specs.taken_out (all_but change) s.queue else s.queue) (none c)
+        ends false gone = sym (gone refl)
+
+    -- one that approves what wasn't approved queues it
+    approved_followed : ((c : Change) → (alter c).priority ≡ c.priority) → ((c : Change) → is_some (alter c).approved ≡ true) → is_known (look s.desk) change ≡ true → approved_on s.desk change ≡ false
+        → followed_on s.desk new change s.queue ≡ specs.enqueued (size_on s.desk) (priority_on s.desk change) change s.queue
+    approved_followed same some known wasnt = followed_to (finite.get s.desk.changes change) refl ∙ by (finite.get s.desk.changes change) known wasnt where
+      by : (had : Option Change) → is_some had ≡ true → option_map_or (λ (c : Change). is_some c.approved) had false ≡ false
+          → followed (option_map_or (λ (c : Change). is_some c.approved) had false) (option_map_or (λ (c : Change). is_some c.approved) (option_map alter had) false)
+          (not (int_eq (option_map_or (λ (c : Change). c.priority) had (pos 0)) (option_map_or (λ (c : Change). c.priority) (option_map alter had) (pos 0))))
+          (size_on s.desk) (option_map_or (λ (c : Change). c.priority) (option_map alter had) (pos 0)) change s.queue
+          ≡ specs.enqueued (size_on s.desk) (option_map_or (λ (c : Change). c.priority) had (pos 0)) change s.queue
+      by None known wasnt = cc known
+      by (Some c) known wasnt =
+          (λ i. followed (wasnt i) (some c i) (not (int_eq c.priority (alter c).priority)) (size_on s.desk) (alter c).priority change s.queue)
+          ∙ ap (λ p. specs.enqueued (size_on s.desk) p change s.queue) (same c)
+
+  -- ACT BY ACT
+  holds_by : (act : Act) → denial s act ≡ None → broken (look s.desk) act ≡ None
+  holds_by act holds = (none_both (missing s.queue act) (broken (look s.desk) act) holds).1
+
+  new_by : (person : List ℕ) (command : Command) → first_failing (begins_with_rules (look s.desk) person change command (approval_rules (look s.desk) change)) ≡ None
+      → (is_known (look s.desk) change ≡ true) × (approved_on s.desk change ≡ false)
+  new_by person command holds =
+      let l = look s.desk in
+      let known = passed (is_known l change) UnknownChange _ holds in
+      let permitted = passed (permits l person change command) (NotPermitted (need l change command)) _ known.1 in
+      let opened = passed (is_open l change) NotOpen _ permitted.1 in
+      let settings = passed (has_settings l) NoSettings _ opened.1 in
+      let base = passed (has_base l) NoBase _ settings.1 in
+      let fresh = passed (not (is_approved l change)) AlreadyApproved _ base.1 in
+      (known.0, not-true (is_approved l change) fresh.0)
+
+  approves_by : (command : Command) (person : List ℕ) (alter : Change → Change) → ((c : Change) → (alter c).priority ≡ c.priority) → ((c : Change) → is_some (alter c).approved ≡ true)
+      → first_failing (begins_with_rules (look s.desk) person change command (approval_rules (look s.desk) change)) ≡ None
+      → followed_on s.desk (altered s.desk change alter) change s.queue ≡ with s change
+  approves_by command person alter same some holds =
+      let new = new_by person command holds in
+      approved_followed alter same some new.0 new.1
+
+  priority_by : (priority : ℤ) → followed_on s.desk (altered s.desk change (with_priority priority)) change s.queue
+      ≡ (if approved_on s.desk change && not (int_eq (priority_on s.desk change) priority) then specs.enqueued (size_on s.desk) priority change (without s change) else s.queue)
+  priority_by priority = followed_to (with_priority priority) (finite.get s.desk.changes change) refl ∙ by (finite.get s.desk.changes change) where
+    marks : (was equal : Bool) → followed was was (not equal) (size_on s.desk) priority change s.queue
+        ≡ (if was && not equal then specs.enqueued (size_on s.desk) priority change (without s change) else s.queue)
+    marks true true = refl
+    marks true false = refl
+    marks false equal = refl
+
+    by : (had : Option Change)
+        → followed (option_map_or (λ (c : Change). is_some c.approved) had false) (option_map_or (λ (c : Change). is_some c.approved) (option_map (with_priority priority) had) false)
+        (not (int_eq (option_map_or (λ (c : Change). c.priority) had (pos 0)) (option_map_or (λ (c : Change). c.priority) (option_map (with_priority priority) had) (pos 0))))
+        (size_on s.desk) (option_map_or (λ (c : Change). c.priority) (option_map (with_priority priority) had) (pos 0)) change s.queue
+        ≡ (if option_map_or (λ (c : Change). is_some c.approved) had false && not (int_eq (option_map_or (λ (c : Change). c.priority) had (pos 0)) priority)
+        then specs.enqueued (size_on s.desk) priority change (without s change) else s.queue)
+    by None = refl
+    by (Some c) = marks (is_some c.approved) (int_eq c.priority priority)
+
+  pushed_by : (head : List ℕ) → followed_on s.desk (altered s.desk change (pushed head)) change s.queue ≡ (if has_head s change head then s.queue else without s change)
+  pushed_by head = kept_followed (pushed head) same fewer ∙ by (finite.get s.desk.changes change) unapproved where
+    same : (c : Change) → (pushed head c).priority ≡ c.priority
+    same c = on (bytes_eq c.head head) where
+      on : (b : Bool) → (cond b c (moved_to head c)).priority ≡ c.priority
+      on true = refl
+      on false = refl
+
+    fewer : (c : Change) → is_some (pushed head c).approved ≡ true → is_some c.approved ≡ true
+    fewer c = on (bytes_eq c.head head) where
+      on : (b : Bool) → is_some (cond b c (moved_to head c)).approved ≡ true → is_some c.approved ≡ true
+      on true some = some
+      on false some = cc some
+
+    by : (had : Option Change) → (option_map_or (λ (c : Change). is_some c.approved) had false ≡ false → without s change ≡ s.queue)
+        → (if option_map_or (ends_approval (pushed head)) had false then without s change else s.queue) ≡ (if option_map_or (λ (c : Change). bytes_eq c.head head) had false then s.queue else without s change)
+    by None gone = sym (gone refl)
+    by (Some c) gone = on (bytes_eq c.head head) (is_some c.approved) refl gone where
+      on : (b was : Bool) → is_some c.approved ≡ was → (is_some c.approved ≡ false → without s change ≡ s.queue)
+          → (if is_some c.approved && not (is_some (cond b c (moved_to head c)).approved) then without s change else s.queue) ≡ (if b then s.queue else without s change)
+      on true true at gone = ap (λ (b : Bool). if b && not b then without s change else s.queue) at
+      on true false at gone = ap (λ (b : Bool). if b && not b then without s change else s.queue) at
+      on false true at gone = ap (λ (b : Bool). if b && true then without s change else s.queue) at
+      on false false at gone = ap (λ (b : Bool). if b && true then without s change else s.queue) at ∙ sym (gone at)
+
+  -- a label and a review end the approval or leave it
+  against_same : (against : SettingsView → Change → Bool) (settings : Option SettingsView) (c : Change) → (unless_against against settings c).priority ≡ c.priority
+  against_same against None c = refl
+  against_same against (Some settings) c = on (against settings c) where
+    on : (b : Bool) → (cond b (without_approval c) c).priority ≡ c.priority
+    on true = refl
+    on false = refl
+
+  against_fewer : (against : SettingsView → Change → Bool) (settings : Option SettingsView) (c : Change) → is_some (unless_against against settings c).approved ≡ true → is_some c.approved ≡ true
+  against_fewer against None c some = some
+  against_fewer against (Some settings) c some = on (against settings c) some where
+    on : (b : Bool) → is_some (cond b (without_approval c) c).approved ≡ true → is_some c.approved ≡ true
+    on true some = cc some
+    on false some = some
+
+  unlabeled_by : (label : List ℕ) → followed_on s.desk (altered s.desk change (without_label label)) change s.queue ≡ s.queue
+  unlabeled_by label = kept_followed (without_label label) (λ c. refl) (λ c some. some) ∙ by (finite.get s.desk.changes change) where
+    on : (b : Bool) → (if b && not b then without s change else s.queue) ≡ s.queue
+    on true = refl
+    on false = refl
+
+    by : (had : Option Change) → (if option_map_or (ends_approval (without_label label)) had false then without s change else s.queue) ≡ s.queue
+    by None = refl
+    by (Some c) = on (is_some c.approved)
+
+  -- a change that is opened isn't open, so it isn't approved
+  opened_by : (author head : List ℕ) → is_open (look s.desk) change ≡ false → followed_on s.desk (effect s.desk (Opened change author head)) change s.queue ≡ s.queue
+  opened_by author head shut =
+      let there : finite.get (effect s.desk (Opened change author head)).changes change ≡ Some (opened author head (finite.get s.desk.changes change)) =
+      opened_at s.desk change author head change
+      ∙ ap (λ (b : Bool). cond b (Some (opened author head (finite.get s.desk.changes change))) (finite.get s.desk.changes change)) ((Decides-eqb change change).1 refl) in
+      (λ i. followed (approved_on s.desk change) (option_map_or (λ (c : Change). is_some c.approved) (there i) false)
+      (not (int_eq (priority_on s.desk change) (option_map_or (λ (c : Change). c.priority) (there i) (pos 0)))) (size_on s.desk) (option_map_or (λ (c : Change). c.priority) (there i) (pos 0)) change s.queue)
+      ∙ by (finite.get s.desk.changes change) (is.desk.changes change) shut where
+        by : (had : Option Change) → IfSome had (IsChange s.desk.settings s.desk.base) → option_map_or (λ (c : Change). is_open_phase c.phase) had false ≡ false
+            → followed (option_map_or (λ (c : Change). is_some c.approved) had false) (is_some (opened author head had).approved)
+            (not (int_eq (option_map_or (λ (c : Change). c.priority) had (pos 0)) (opened author head had).priority)) (size_on s.desk) (opened author head had).priority change s.queue ≡ s.queue
+        by None was shut = refl
+        by (Some c) was shut = on (is_some c.approved) was.opened where
+          on : (b : Bool) → (b ≡ true → is_open_phase c.phase ≡ true) → followed b b (not (int_eq c.priority c.priority)) (size_on s.desk) c.priority change s.queue ≡ s.queue
+          on true so = cc (sym (so refl) ∙ shut)
+          on false so = refl
+
+  pub act_by_act : ActByAct s change
+  act_by_act = record {
+    approve = λ person holds. approves_by Approve person (approved_by (person ∷ []) repeat.Approve) (λ c. refl) (λ c. refl) (holds_by (Spoken change person (Known Approve)) holds);
+    approve_for = λ person names holds.
+        approves_by (ApproveFor names) person (approved_by names (repeat.ApproveFor names)) (λ c. refl) (λ c. refl) (holds_by (Spoken change person (Known (ApproveFor names))) holds);
+    withdraw = λ person holds. ended_followed without_approval (λ c. refl) (λ c. refl);
+    priority = λ person priority holds. priority_by priority;
+    pushed = λ head holds. pushed_by head;
+    closed = λ holds. ended_followed closed (λ c. refl) (λ c. refl);
+    labeled = λ label holds. kept_followed (labeled s.desk.settings label) (λ c. against_same _ s.desk.settings (with_label label c)) (λ c some. against_fewer _ s.desk.settings (with_label label c) some);
+    reviewed = λ person head approves holds.
+        kept_followed (reviewed s.desk.settings person approves) (λ c. against_same _ s.desk.settings (with_review person approves c)) (λ c some. against_fewer _ s.desk.settings (with_review person approves c) some);
+    opened = λ author head holds.
+        opened_by author head (not-true (is_open (look s.desk) change) (passed (not (is_open (look s.desk) change)) AlreadyOpen [] (holds_by (Opened change author head) holds)).0);
+    unlabeled = λ label holds. unlabeled_by label;
+  }
+
+pub queue_law : LawOfTheQueue
+queue_law s change is = act_by_act s change is

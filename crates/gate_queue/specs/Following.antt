@@ -1,0 +1,51 @@
+-- WHAT EACH ACT ABOUT A CHANGE DOES TO THE BATCHES, act by act, on every state and if no rule denies it. The machine has one
+-- definition for all of them, by which the queue follows the desk.
+use Rattle.std.specs.Prelude.{◌≡◌, ℕ, ℤ, not, Bool, false, ◌&&◌, List, None, if◌then◌else◌}
+use Rattle.std.specs.FinMap as finite
+use Rattle.std.specs.Option.{option_map_or}
+use Rattle.std.specs.Ordering.{int_eq}
+use Rattle.std.specs.Str.{bytes_eq}
+use Rattle.gate_queue.specs.Vocabulary.{Approve, ApproveFor, Withdraw, Priority, Known, Change, Act, Spoken, Opened, Pushed, Closed, Labeled, Unlabeled, Review}
+use Rattle.gate_queue.specs.Machine.{State, denial, queue_after, approved_on, priority_on, size_on, all_but, ends_approval, labeled, reviewed}
+use Rattle.gate_queue.specs.Queue.{enqueued, taken_out}
+use Rattle.gate_queue.specs.State.{IsState}
+use Rattle.gate_queue.specs.declared.queue.Queue.{Queue}
+
+-- the queue with a change under its priority, and without it
+abbrev pub with : State → ℕ → Queue
+with s change = enqueued (size_on s.desk) (priority_on s.desk change) change s.queue
+
+abbrev pub without : State → ℕ → Queue
+without s change = taken_out (all_but change) s.queue
+
+-- whether the change has this head; whether it is altered so that its approval ends
+abbrev pub has_head : State → ℕ → List ℕ → Bool
+has_head s change head = option_map_or (λ (c : Change). bytes_eq c.head head) (finite.get s.desk.changes change) false
+
+abbrev pub is_ended : State → ℕ → (Change → Change) → Bool
+is_ended s change alter = option_map_or (ends_approval alter) (finite.get s.desk.changes change) false
+
+abbrev pub Leaves : State → Act → Queue → Type 0
+Leaves s act queue = denial s act ≡ None → queue_after s act ≡ queue
+
+pub record ActByAct (s : State) (change : ℕ) : Type 0 where
+  -- `r+` and `r=` queue the change, and `r-` takes it out
+  pub approve : (person : List ℕ) → Leaves s (Spoken change person (Known Approve)) (with s change)
+  pub approve_for : (person : List ℕ) (names : List (List ℕ)) → Leaves s (Spoken change person (Known (ApproveFor names))) (with s change)
+  pub withdraw : (person : List ℕ) → Leaves s (Spoken change person (Known Withdraw)) (without s change)
+  -- another priority of an approved change takes it out, and queues it anew
+  pub priority : (person : List ℕ) (priority : ℤ) → Leaves s (Spoken change person (Known (Priority priority)))
+      (if approved_on s.desk change && not (int_eq (priority_on s.desk change) priority) then enqueued (size_on s.desk) priority change (without s change) else s.queue)
+  -- another head takes it out, and so does that it is closed
+  pub pushed : (head : List ℕ) → Leaves s (Pushed change head) (if has_head s change head then s.queue else without s change)
+  pub closed : Leaves s (Closed change) (without s change)
+  -- a label or a review takes it out if it ends the approval
+  pub labeled : (label : List ℕ) → Leaves s (Labeled change label) (if is_ended s change (labeled s.desk.settings label) then without s change else s.queue)
+  pub reviewed : (person head : List ℕ) (approves : Bool) →
+      Leaves s (Review change person head approves) (if is_ended s change (reviewed s.desk.settings person approves) then without s change else s.queue)
+  -- all else leaves the queue
+  pub opened : (author head : List ℕ) → Leaves s (Opened change author head) s.queue
+  pub unlabeled : (label : List ℕ) → Leaves s (Unlabeled change label) s.queue
+
+abbrev pub LawOfTheQueue : Type 0
+LawOfTheQueue = (s : State) (change : ℕ) → IsState s → ActByAct s change
