@@ -3,9 +3,10 @@ use Rattle.std.proofs.Common.{◌≡◌, ◌<◌, ◌+◌, ℕ, suc, Bool, true,
 use Rattle.std.proofs.Math.Seq.{drop-cons}
 use Rattle.std.proofs.lemmas.List.{take_more}
 use Rattle.gate_queue.specs.History.{Entry, EntryTells, Legal, entry_of}
-use Rattle.gate_queue.specs.Machine.{State, reply_to, after}
+use Rattle.gate_queue.specs.Machine.{reply_to, after}
 use Rattle.gate_queue.specs.declared.act.Act.{Act}
 use Rattle.gate_queue.specs.declared.reply.Reply.{Reply}
+use Rattle.gate_queue.specs.declared.state.State.{State}
 use Rattle.gate_bot.specs.Run.{Tells, replies_to, after_all, is_full, meets_full}
 
 pub full_met : (s : State) (acts : List Act) → is_full s ≡ true → 0 < length acts → meets_full s acts ≡ true

@@ -2,14 +2,15 @@
 use Rattle.std.proofs.Common.{◌≡◌, false, List, [], ◌∷◌, map, refl}
 use Rattle.serde_json.specs.View.{items_of}
 use Rattle.serde_json.specs.Written.{has_float, items_have_float}
-use Rattle.gate_rules.specs.declared.rule.Rule.TheVariants.{UnknownChange, NotACommand, NotPermitted, NotOpen, NoSettings, NoBase, AlreadyApproved, NotApproved, Blocked, TooFewReviews, AlreadyOpen, StaleHead, NotMember, OwnChange, BadSettings, ClockBack, NoSuchBatch, SameAsBase}
+use Rattle.gate_rules.specs.declared.rule.Rule.TheVariants.{UnknownChange, NotACommand, NotPermitted, NotOpen, Landing, NoSettings, NoBase, AlreadyApproved, NotApproved, Blocked, TooFewReviews, AlreadyOpen, ChangeLanded, StaleHead, NotMember, OwnChange, BadSettings, ClockBack, NoSuchBatch, SameAsBase}
 use Rattle.gate_bot.specs.Answers.{head_data, order_data, reply_data, answer_data}
 use Rattle.gate_bot.specs.Errors.{error_data}
 use Rattle.gate_bot.specs.declared.reading.DeliveryFault.{DeliveryFault}
 use Rattle.gate_bot.specs.declared.reading.DeliveryFault.TheVariants.{NotJson, BadField, UnknownEvent, Memory}
 use Rattle.gate_queue.specs.declared.reply.Head.{Head}
 use Rattle.gate_queue.specs.declared.reply.Order.{Order}
-use Rattle.gate_queue.specs.declared.reply.Order.TheVariants.{Stage, Notice}
+use Rattle.gate_queue.specs.declared.reply.Order.TheVariants.{Stage, Land, Notice}
+use Rattle.gate_queue.specs.declared.reply.Why.TheVariants as why
 use Rattle.gate_queue.specs.declared.reply.Reply.{Reply}
 use Rattle.gate_queue.specs.declared.reply.Reply.TheVariants.{Done, Denied}
 
@@ -20,7 +21,15 @@ heads_whole (staged ∷ heads) = heads_whole heads
 orders_whole : (orders : List Order) → items_have_float (items_of (map order_data orders)) ≡ false
 orders_whole [] = refl
 orders_whole (Stage batch branch base heads ∷ orders) = rw (heads_whole heads) (orders_whole orders)
-orders_whole (Notice change why ∷ orders) = orders_whole orders
+orders_whole (Land batch base commit ∷ orders) = orders_whole orders
+orders_whole (Notice change why.Conflict ∷ orders) = orders_whole orders
+orders_whole (Notice change (why.Failed name) ∷ orders) = orders_whole orders
+orders_whole (Notice change why.TimedOut ∷ orders) = orders_whole orders
+orders_whole (Notice change why.Pushed ∷ orders) = orders_whole orders
+orders_whole (Notice change why.Closed ∷ orders) = orders_whole orders
+orders_whole (Notice change why.Labeled ∷ orders) = orders_whole orders
+orders_whole (Notice change why.Reviews ∷ orders) = orders_whole orders
+orders_whole (Notice change why.Settings ∷ orders) = orders_whole orders
 
 reply_whole : (reply : Reply) → has_float (reply_data reply) ≡ false
 reply_whole (Done orders) = rw (orders_whole orders) refl
@@ -28,6 +37,7 @@ reply_whole (Denied UnknownChange) = refl
 reply_whole (Denied NotACommand) = refl
 reply_whole (Denied (NotPermitted level)) = refl
 reply_whole (Denied NotOpen) = refl
+reply_whole (Denied Landing) = refl
 reply_whole (Denied NoSettings) = refl
 reply_whole (Denied NoBase) = refl
 reply_whole (Denied AlreadyApproved) = refl
@@ -35,6 +45,7 @@ reply_whole (Denied NotApproved) = refl
 reply_whole (Denied (Blocked label)) = refl
 reply_whole (Denied (TooFewReviews have need)) = refl
 reply_whole (Denied AlreadyOpen) = refl
+reply_whole (Denied ChangeLanded) = refl
 reply_whole (Denied StaleHead) = refl
 reply_whole (Denied NotMember) = refl
 reply_whole (Denied OwnChange) = refl

@@ -4,7 +4,7 @@ use Rattle.gate_text.specs.Reading.{comment_says}
 use Rattle.gate_queue.specs.declared.act.Act.{Act}
 use Rattle.gate_queue.specs.declared.act.Act.TheVariants as act
 use Rattle.gate_bot.specs.declared.delivery.Event.{Event}
-use Rattle.gate_bot.specs.declared.delivery.Event.TheVariants.{Comment, Role, Settings, Base, Opened, Pushed, Closed, Labeled, Unlabeled, Review, Staged, Conflict, Tick}
+use Rattle.gate_bot.specs.declared.delivery.Event.TheVariants.{Comment, Role, Settings, Base, Opened, Pushed, Closed, Labeled, Unlabeled, Review, Staged, Conflict, Status, Refused, Tick}
 
 -- one act for each command that a comment says, in order
 abbrev pub spoken_acts_of : ℕ → List ℕ → List ℕ → List Act
@@ -24,4 +24,6 @@ acts_of_event (Unlabeled change label) = act.Unlabeled change label ∷ []
 acts_of_event (Review change person head approves) = act.Review change person head approves ∷ []
 acts_of_event (Staged batch commit) = act.Staged batch commit ∷ []
 acts_of_event (Conflict batch) = act.Conflict batch ∷ []
+acts_of_event (Status commit name state) = act.Status commit name state ∷ []
+acts_of_event (Refused batch) = act.Refused batch ∷ []
 acts_of_event (Tick now) = act.Tick now ∷ []

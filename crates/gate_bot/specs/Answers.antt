@@ -5,12 +5,12 @@ use Rattle.serde_json.specs.View.{items_of}
 use Rattle.serde_json.specs.Written.{compact_text}
 use Rattle.gate_rules.specs.Words.{number_of, word_of, level_word_of}
 use Rattle.gate_rules.specs.declared.rule.Rule.{Rule}
-use Rattle.gate_rules.specs.declared.rule.Rule.TheVariants.{UnknownChange, NotACommand, NotPermitted, NotOpen, NoSettings, NoBase, AlreadyApproved, NotApproved, Blocked, TooFewReviews, AlreadyOpen, StaleHead, NotMember, OwnChange, BadSettings, ClockBack, NoSuchBatch, SameAsBase}
+use Rattle.gate_rules.specs.declared.rule.Rule.TheVariants.{UnknownChange, NotACommand, NotPermitted, NotOpen, Landing, NoSettings, NoBase, AlreadyApproved, NotApproved, Blocked, TooFewReviews, AlreadyOpen, ChangeLanded, StaleHead, NotMember, OwnChange, BadSettings, ClockBack, NoSuchBatch, SameAsBase}
 use Rattle.gate_queue.specs.declared.batch.Branch.{Branch}
 use Rattle.gate_queue.specs.declared.batch.Branch.TheVariants.{Staging, Trying}
 use Rattle.gate_queue.specs.declared.reply.Head.{Head}
 use Rattle.gate_queue.specs.declared.reply.Order.{Order}
-use Rattle.gate_queue.specs.declared.reply.Order.TheVariants.{Stage, Notice}
+use Rattle.gate_queue.specs.declared.reply.Order.TheVariants.{Stage, Land, Notice}
 use Rattle.gate_queue.specs.declared.reply.Why.{Why}
 use Rattle.gate_queue.specs.declared.reply.Why.TheVariants as why
 use Rattle.gate_queue.specs.declared.reply.Reply.{Reply}
@@ -28,6 +28,7 @@ detail_of UnknownChange = None
 detail_of NotACommand = None
 detail_of (NotPermitted level) = Some (string (level_word_of level))
 detail_of NotOpen = None
+detail_of Landing = None
 detail_of NoSettings = None
 detail_of NoBase = None
 detail_of AlreadyApproved = None
@@ -35,6 +36,7 @@ detail_of NotApproved = None
 detail_of (Blocked label) = Some (string label)
 detail_of (TooFewReviews have need) = Some (array (items_of (number (unsigned have) ∷ number (unsigned need) ∷ [])))
 detail_of AlreadyOpen = None
+detail_of ChangeLanded = None
 detail_of StaleHead = None
 detail_of NotMember = None
 detail_of OwnChange = None
@@ -49,11 +51,24 @@ with_detail (Some detail) members = member (codes "detail") detail members
 
 abbrev pub why_word_of : Why → List ℕ
 why_word_of why.Conflict = codes "Conflict"
+why_word_of (why.Failed name) = codes "Failed"
+why_word_of why.TimedOut = codes "TimedOut"
 why_word_of why.Pushed = codes "Pushed"
 why_word_of why.Closed = codes "Closed"
 why_word_of why.Labeled = codes "Labeled"
 why_word_of why.Reviews = codes "Reviews"
 why_word_of why.Settings = codes "Settings"
+
+-- the status that has failed, which its notice names beside the word
+abbrev pub with_name : Why → Members → Members
+with_name why.Conflict members = members
+with_name (why.Failed name) members = member (codes "name") (string name) members
+with_name why.TimedOut members = members
+with_name why.Pushed members = members
+with_name why.Closed members = members
+with_name why.Labeled members = members
+with_name why.Reviews members = members
+with_name why.Settings members = members
 
 abbrev pub branch_word_of : Branch → List ℕ
 branch_word_of Staging = codes "staging"
@@ -73,10 +88,16 @@ order_data (Stage batch branch base heads) =
     (member (codes "branch") (string (branch_word_of branch))
     (member (codes "heads") (heads_data heads)
     (member (codes "order") (string (codes "stage")) no_members)))))
+order_data (Land batch base commit) =
+    object (member (codes "base") (string base)
+    (member (codes "batch") (number (unsigned batch))
+    (member (codes "commit") (string commit)
+    (member (codes "order") (string (codes "land")) no_members))))
 order_data (Notice change why) =
     object (member (codes "change") (number (unsigned change))
+    (with_name why
     (member (codes "order") (string (codes "notice"))
-    (member (codes "why") (string (why_word_of why)) no_members)))
+    (member (codes "why") (string (why_word_of why)) no_members))))
 
 abbrev pub orders_data : List Order → Data
 orders_data orders = array (items_of (map order_data orders))

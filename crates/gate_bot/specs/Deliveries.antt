@@ -14,11 +14,13 @@ use Rattle.serde_json.specs.declared.value.Value.{Value}
 use Rattle.std.specs.Borrow.{Bor}
 use Rattle.gate_rules.specs.declared.role.Role.{Role as RoleOf}
 use Rattle.gate_rules.specs.declared.role.Role.TheVariants.{Nobody, Member, Reviewer}
+use Rattle.gate_queue.specs.declared.act.StatusState.{StatusState}
+use Rattle.gate_queue.specs.declared.act.StatusState.TheVariants.{Success, Failure, Error, Pending}
 use Rattle.gate_bot.specs.declared.delivery.Delivery.{Delivery}
 use Rattle.gate_bot.specs.declared.delivery.Event.{Event}
-use Rattle.gate_bot.specs.declared.delivery.Event.TheVariants.{Comment, Role, Settings, Base, Opened, Pushed, Closed, Labeled, Unlabeled, Review, Staged, Conflict, Tick}
-use Rattle.gate_bot.specs.declared.reading.Field.{Field}
-use Rattle.gate_bot.specs.declared.reading.Field.TheVariants as field
+use Rattle.gate_bot.specs.declared.delivery.Event.TheVariants.{Comment, Role, Settings, Base, Opened, Pushed, Closed, Labeled, Unlabeled, Review, Staged, Conflict, Status, Refused, Tick}
+use Rattle.gate_bot.specs.declared.field.Field.{Field}
+use Rattle.gate_bot.specs.declared.field.Field.TheVariants as field
 use Rattle.gate_bot.specs.declared.reading.DeliveryFault.{DeliveryFault}
 use Rattle.gate_bot.specs.declared.reading.DeliveryFault.TheVariants.{NotJson, BadField, UnknownEvent, Memory}
 
@@ -44,6 +46,8 @@ field_name field.Commit = codes "commit"
 field_name field.Label = codes "label"
 field_name field.Approves = codes "approves"
 field_name field.Batch = codes "batch"
+field_name field.Name = codes "name"
+field_name field.State = codes "state"
 field_name field.Now = codes "now"
 
 -- a value that has to be there, or the refusal that names its field
@@ -90,6 +94,11 @@ label_at d = do
   text ← text_at field.Label d
   required field.Label (result_ok (plain_of text))
 
+abbrev pub context_at : Data → Result (List ℕ) DeliveryFault
+context_at d = do
+  text ← text_at field.Name d
+  required field.Name (result_ok (plain_of text))
+
 abbrev pub approves_at : Data → Result Bool DeliveryFault
 approves_at d = required field.Approves (option_and_then as_bool (get (field_name field.Approves) d))
 
@@ -104,6 +113,19 @@ abbrev pub role_at : Data → Result RoleOf DeliveryFault
 role_at d = do
   text ← text_at field.Role d
   required field.Role (role_called text)
+
+abbrev pub state_called : List ℕ → Option StatusState
+state_called text =
+    if bytes_eq text (codes "success") then Some Success
+    else (if bytes_eq text (codes "failure") then Some Failure
+    else (if bytes_eq text (codes "error") then Some Error
+    else (if bytes_eq text (codes "pending") then Some Pending
+    else None)))
+
+abbrev pub state_at : Data → Result StatusState DeliveryFault
+state_at d = do
+  text ← text_at field.State d
+  required field.State (state_called text)
 
 -- EVENTS: the fields of each, in the order in which they are checked
 abbrev pub comment_in : Data → Result Event DeliveryFault
@@ -178,6 +200,18 @@ conflict_in d = do
   batch ← batch_at d
   Ok (Conflict batch)
 
+abbrev pub status_in : Data → Result Event DeliveryFault
+status_in d = do
+  commit ← commit_at field.Commit d
+  name ← context_at d
+  state ← state_at d
+  Ok (Status commit name state)
+
+abbrev pub refused_in : Data → Result Event DeliveryFault
+refused_in d = do
+  batch ← batch_at d
+  Ok (Refused batch)
+
 abbrev pub tick_in : Data → Result Event DeliveryFault
 tick_in d = do
   now ← now_at d
@@ -197,8 +231,10 @@ event_called kind d =
     else (if bytes_eq kind (codes "review") then review_in d
     else (if bytes_eq kind (codes "staged") then staged_in d
     else (if bytes_eq kind (codes "conflict") then conflict_in d
+    else (if bytes_eq kind (codes "status") then status_in d
+    else (if bytes_eq kind (codes "refused") then refused_in d
     else (if bytes_eq kind (codes "tick") then tick_in d
-    else Err UnknownEvent))))))))))))
+    else Err UnknownEvent))))))))))))))
 
 -- DELIVERIES: the identifier first, then the event and its fields
 abbrev pub delivery_in : Data → Result Delivery DeliveryFault
@@ -229,9 +265,9 @@ view_of (Ok value) = Ok (view value)
 view_of (Err fault) = Err fault
 
 abbrev pub at_field : {X : Type 0} → Field → Result X TextFault → Result X DeliveryFault
-at_field name (Ok value) = Ok value
-at_field name (Err text_fault.Memory) = Err Memory
-at_field name (Err text_fault.Empty) = Err (BadField name)
-at_field name (Err text_fault.TooLong) = Err (BadField name)
-at_field name (Err (text_fault.BadByte place)) = Err (BadField name)
-at_field name (Err text_fault.BadNumber) = Err (BadField name)
+at_field key (Ok value) = Ok value
+at_field key (Err text_fault.Memory) = Err Memory
+at_field key (Err text_fault.Empty) = Err (BadField key)
+at_field key (Err text_fault.TooLong) = Err (BadField key)
+at_field key (Err (text_fault.BadByte place)) = Err (BadField key)
+at_field key (Err text_fault.BadNumber) = Err (BadField key)

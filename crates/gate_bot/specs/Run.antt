@@ -1,11 +1,12 @@
 -- ACTS IN ORDER: their replies, the state after all, how they end, and what their entries tell.
 use Rattle.std.specs.Prelude.{◌≡◌, ◌⊎◌, nat_lt, Bool, true, false, ◌||◌, ⊤, List, [], ◌∷◌, Result, Ok, Err}
 use Rattle.gate_queue.specs.History.{Entry, EntryTells, entry_of}
-use Rattle.gate_queue.specs.Machine.{State, reply_to, after}
+use Rattle.gate_queue.specs.Machine.{reply_to, after}
 use Rattle.gate_queue.specs.declared.act.Act.{Act}
 use Rattle.gate_queue.specs.declared.fault.Fault.{Fault}
 use Rattle.gate_queue.specs.declared.fault.Fault.TheVariants.{Memory, Store, Full}
 use Rattle.gate_queue.specs.declared.reply.Reply.{Reply}
+use Rattle.gate_queue.specs.declared.state.State.{State}
 
 abbrev pub replies_to : State → List Act → List Reply
 replies_to s [] = []

@@ -1,8 +1,8 @@
 -- WHAT A BOT SHOWS, of which the lines and their proofs speak: its state, and the fault that it has met, if it has met one.
 use Rattle.std.specs.Prelude.{List, Option, None}
-use Rattle.gate_queue.specs.Machine.{State}
 use Rattle.gate_queue.specs.declared.fault.Fault.{Fault}
 use Rattle.gate_queue.specs.declared.reply.Reply.{Reply}
+use Rattle.gate_queue.specs.declared.state.State.{State}
 use Rattle.gate_bot.specs.Acts.{acts_of_event}
 use Rattle.gate_bot.specs.Run.{replies_to, after_all}
 use Rattle.gate_bot.specs.declared.delivery.Delivery.{Delivery}

@@ -3,10 +3,12 @@ ghost use Rattle.std.specs.Option.{option_map};
 ghost use Rattle.std.specs.String.{string_bytes};
 ghost use Rattle.serde_json.specs.View.{view};
 ghost use Rattle.gate_bot.specs.Answers.{detail_of, branch_word_of, head_data, heads_data, order_data, orders_data, why_word_of, reply_data, answer_data, answer_text_of};
+ghost use Rattle.gate_queue.specs.declared.reply.Order.TheVariants.{Notice};
 ghost use Rattle.gate_queue.specs.declared.reply.Reply.TheVariants.{Denied};
 
 use gate_queue::{Branch, Head, Order, Reply, Why};
 use gate_rules::Rule;
+use gate_text::ChangeNo;
 use serde_json::{Value, json};
 use std::alloc::{AllocError, Global};
 
@@ -42,11 +44,13 @@ fn denied_value(alloc: Global, rule: &Rule) -> Result<Value, AllocError>
 }
 
 // The name of a reason, as notices write it.
-fn why_word(why: Why) -> &'static str
-    ensures { result.now ≡ why_word_of why }
+fn why_word(why: &Why) -> &'static str
+    ensures { result.now ≡ why_word_of why.now }
 {
     match why {
         Why::Conflict => "Conflict",
+        Why::Failed(_) => "Failed",
+        Why::TimedOut => "TimedOut",
         Why::Pushed => "Pushed",
         Why::Closed => "Closed",
         Why::Labeled => "Labeled",
@@ -85,6 +89,21 @@ fn heads_value(alloc: Global, heads: &[Head]) -> Result<Value, AllocError>
     Ok(Value::from(values))
 }
 
+// A notice as JSON.
+fn notice_value(alloc: Global, change: ChangeNo, why: &Why) -> Result<Value, AllocError>
+    ensures { IfOk result (λ value. view value ≡ order_data (Notice change why.now)) }
+{
+    let number = change.number();
+    let word = why_word(why);
+    match why {
+        Why::Failed(name) => {
+            let name = name.text();
+            json!(in alloc; {"change": number, "name": name, "order": "notice", "why": word})
+        }
+        _ => json!(in alloc; {"change": number, "order": "notice", "why": word}),
+    }
+}
+
 // An order as JSON.
 fn order_value(alloc: Global, order: &Order) -> Result<Value, AllocError>
     ensures { IfOk result (λ value. view value ≡ order_data order.now) }
@@ -101,11 +120,16 @@ fn order_value(alloc: Global, order: &Order) -> Result<Value, AllocError>
             let branch = branch_word(*branch);
             json!(in alloc; {"base": base, "batch": *batch, "branch": branch, "heads": heads, "order": "stage"})
         }
-        Order::Notice { change, why } => {
-            let number = change.number();
-            let word = why_word(*why);
-            json!(in alloc; {"change": number, "order": "notice", "why": word})
+        Order::Land {
+            batch,
+            base,
+            commit,
+        } => {
+            let base = base.text();
+            let commit = commit.text();
+            json!(in alloc; {"base": base, "batch": *batch, "commit": commit, "order": "land"})
         }
+        Order::Notice { change, why } => notice_value(alloc, *change, why),
     }
 }
 

@@ -4,9 +4,9 @@ ghost use Rattle.gate_queue.specs.Acts.{ActKeepsLimits};
 ghost use Rattle.gate_bot.specs.Acts.{acts_of_event, spoken_acts_of};
 
 use crate::moment::Moment;
-use gate_queue::Act;
+use gate_queue::{Act, StatusState};
 use gate_rules::Role;
-use gate_text::{ChangeNo, Commit, DeliveryId, Label, Name, Spoken, Text, read_comment};
+use gate_text::{ChangeNo, Commit, Context, DeliveryId, Label, Name, Spoken, Text, read_comment};
 use std::alloc::{AllocError, Global};
 
 /// What happened, as a host hands it in.
@@ -96,6 +96,20 @@ pub enum Event {
         /// The number of the batch.
         batch: u64,
     },
+    /// A status of a commit was reported.
+    Status {
+        /// The commit.
+        commit: Commit,
+        /// The name of the status.
+        name: Context,
+        /// What it says.
+        state: StatusState,
+    },
+    /// A batch can't land.
+    Refused {
+        /// The number of the batch.
+        batch: u64,
+    },
     /// The clock was read.
     Tick {
         /// The reading.
@@ -146,6 +160,12 @@ pub fn acts_of(alloc: Global, delivery: &Delivery) -> Result<Vec<Act>, AllocErro
         } => review_act(alloc, *change, person, *head, *approves)?,
         Event::Staged { batch, commit } => staged_act(*batch, *commit),
         Event::Conflict { batch } => Act::Conflict { batch: *batch },
+        Event::Status {
+            commit,
+            name,
+            state,
+        } => status_act(alloc, *commit, name, *state)?,
+        Event::Refused { batch } => Act::Refused { batch: *batch },
         Event::Tick { now } => tick_act(*now),
     };
     Ok(vec![in alloc; fact]?)
@@ -223,6 +243,22 @@ fn staged_act(batch: u64, commit: Commit) -> Act
     ensures { result ≡ Act.Staged batch commit }
 {
     Act::Staged { batch, commit }
+}
+
+fn status_act(
+    alloc: Global,
+    commit: Commit,
+    name: &Context,
+    state: StatusState,
+) -> Result<Act, AllocError>
+    ensures { IfOk result (λ act. act ≡ Act.Status commit name.now state) }
+{
+    let name = name.copy(alloc)?;
+    Ok(Act::Status {
+        commit,
+        name,
+        state,
+    })
 }
 
 fn tick_act(now: Moment) -> Act

@@ -6,6 +6,7 @@ mod bench;
 mod deliver;
 mod delivery;
 mod errors;
+mod field;
 mod line;
 mod lines;
 mod machine;

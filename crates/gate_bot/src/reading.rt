@@ -5,13 +5,13 @@ ghost use Rattle.gate_bot.specs.Deliveries as deliveries;
 ghost use Rattle.gate_bot.specs.Deliveries.{Reads, delivery_of};
 
 use crate::delivery::{Delivery, Event};
+use crate::field::Field;
 use crate::moment::Moment;
+use gate_queue::StatusState;
 use gate_rules::Role;
-use gate_text::{ChangeNo, Commit, DeliveryId, Label, Name, Text, TextFault, unless_bad};
+use gate_text::{ChangeNo, Commit, Context, DeliveryId, Label, Name, Text, TextFault, unless_bad};
 use serde_json::Value;
 use std::alloc::{AllocError, Global};
-use std::fmt;
-use std::fmt::{Display, Formatter, Write};
 use thiserror::Error;
 
 // The greatest change number.
@@ -19,66 +19,6 @@ const MAX_CHANGE: u64 = 4_294_967_295;
 
 // The greatest batch number, and the last moment.
 const MAX_NUMBER: u64 = 9_000_000_000_000_000;
-
-/// A field of a delivery.
-#[derive(Clone, Copy, Debug, PartialEq, Eq)]
-pub enum Field {
-    /// `id`
-    Id,
-    /// `event`
-    Event,
-    /// `change`
-    Change,
-    /// `person`
-    Person,
-    /// `text`
-    Text,
-    /// `role`
-    Role,
-    /// `author`
-    Author,
-    /// `head`
-    Head,
-    /// `commit`
-    Commit,
-    /// `label`
-    Label,
-    /// `approves`
-    Approves,
-    /// `batch`
-    Batch,
-    /// `now`
-    Now,
-}
-
-impl Field {
-    /// The name of the field, as deliveries write it.
-    pub fn name(self) -> &'static str
-        ensures value { result.now ≡ deliveries.field_name self }
-    {
-        match self {
-            Field::Id => "id",
-            Field::Event => "event",
-            Field::Change => "change",
-            Field::Person => "person",
-            Field::Text => "text",
-            Field::Role => "role",
-            Field::Author => "author",
-            Field::Head => "head",
-            Field::Commit => "commit",
-            Field::Label => "label",
-            Field::Approves => "approves",
-            Field::Batch => "batch",
-            Field::Now => "now",
-        }
-    }
-}
-
-impl Display for Field {
-    fn fmt<W: Write>(&self, f: &mut Formatter<W>) -> Result<(), fmt::Error> {
-        f.write_str(self.name())
-    }
-}
 
 /// Why a text is no delivery. The first check that fails is answered: JSON, the identifier, the event, its fields.
 #[derive(Clone, Copy, Debug, PartialEq, Eq, Error)]
@@ -150,6 +90,13 @@ fn label_at(alloc: Global, value: &Value) -> Result<Label, DeliveryFault>
     at_field(Field::Label, Label::read(alloc, text))
 }
 
+fn context_at(alloc: Global, value: &Value) -> Result<Context, DeliveryFault>
+    ensures { Reads result (deliveries.context_at (view value.now)) }
+{
+    let text = text_at(Field::Name, value)?;
+    at_field(Field::Name, Context::read(alloc, text))
+}
+
 fn approves_at(value: &Value) -> Result<bool, DeliveryFault>
     ensures { Reads result (deliveries.approves_at (view value.now)) }
 {
@@ -197,6 +144,18 @@ fn role_at(value: &Value) -> Result<Role, DeliveryFault>
         "member" => Ok(Role::Member),
         "reviewer" => Ok(Role::Reviewer),
         _ => Err(DeliveryFault::BadField(Field::Role)),
+    }
+}
+
+fn state_at(value: &Value) -> Result<StatusState, DeliveryFault>
+    ensures { Reads result (deliveries.state_at (view value.now)) }
+{
+    match text_at(Field::State, value)? {
+        "success" => Ok(StatusState::Success),
+        "failure" => Ok(StatusState::Failure),
+        "error" => Ok(StatusState::Error),
+        "pending" => Ok(StatusState::Pending),
+        _ => Err(DeliveryFault::BadField(Field::State)),
     }
 }
 
@@ -309,6 +268,26 @@ fn conflict_in(value: &Value) -> Result<Event, DeliveryFault>
     Ok(Event::Conflict { batch })
 }
 
+fn status_in(alloc: Global, value: &Value) -> Result<Event, DeliveryFault>
+    ensures { Reads result (deliveries.status_in (view value.now)) }
+{
+    let commit = commit_at(Field::Commit, value)?;
+    let name = context_at(alloc, value)?;
+    let state = state_at(value)?;
+    Ok(Event::Status {
+        commit,
+        name,
+        state,
+    })
+}
+
+fn refused_in(value: &Value) -> Result<Event, DeliveryFault>
+    ensures { Reads result (deliveries.refused_in (view value.now)) }
+{
+    let batch = batch_at(value)?;
+    Ok(Event::Refused { batch })
+}
+
 fn tick_in(value: &Value) -> Result<Event, DeliveryFault>
     ensures { Reads result (deliveries.tick_in (view value.now)) }
 {
@@ -332,6 +311,8 @@ fn event_called(alloc: Global, kind: &str, value: &Value) -> Result<Event, Deliv
         "review" => review_in(alloc, value),
         "staged" => staged_in(value),
         "conflict" => conflict_in(value),
+        "status" => status_in(alloc, value),
+        "refused" => refused_in(value),
         "tick" => tick_in(value),
         _ => Err(DeliveryFault::UnknownEvent),
     }

@@ -1,11 +1,13 @@
 -- What the rules read after an act that no rule denies: on the desk, and on the history with the act and its orders.
-use Rattle.std.proofs.Common.{◌≡◌, ◌&&◌, ℕ, Bool, true, false, cond, List, [], ◌∷◌, Option, Some, None, Result, Ok, Err, eqb, refl, sym, ◌∙◌, ap}
+use Rattle.std.proofs.Common.{◌≡◌, ◌≤◌, ◌&&◌, ◌||◌, ℕ, Bool, true, false, cond, if◌then◌else◌, List, [], ◌∷◌, Option, Some, None, Result, Ok, Err, eqb, refl, sym, ◌∙◌, ap, arith}
+use Rattle.std.proofs.lemmas.Bool.Decides.{Decides-eqb}
+use Rattle.std.proofs.lemmas.List.Sums.{sum_by-cons}
 use Rattle.std.specs.Bool.{⊤}
 use Rattle.std.specs.Cmp.{nat_cmp_total}
 use Rattle.std.specs.Cmp.Lexicographic.{slice_cmp, nat_list_cmp_total}
 use Rattle.std.specs.FinMap as finite
 use Rattle.std.specs.FinMap.{FinMap, get-insert, get-remove}
-use Rattle.std.specs.List.{filter_map}
+use Rattle.std.specs.List.{filter_map, list_any}
 use Rattle.std.specs.Option.{option_map, option_map_or, option_or, unwrap_or}
 use Rattle.std.specs.Ordering.{nat_cmp}
 use Rattle.std.specs.Str.{bytes_eq}
@@ -16,40 +18,49 @@ use Rattle.gate_text.specs.Settings.{SettingsView, settings_of, same_settings}
 use Rattle.gate_text.specs.declared.command.Command.TheVariants.{Ping, Approve, ApproveFor, Withdraw, Priority, Try, TryCancel, DelegateAuthor, DelegateTo, DelegateNone, Retry}
 use Rattle.gate_text.specs.declared.command.Spoken.TheVariants.{Known, Unknown}
 use Rattle.gate_text.specs.declared.settings.fault.SettingsFault.{SettingsFault}
-use Rattle.gate_rules.specs.Rules.{Look, first_failing}
-use Rattle.gate_rules.specs.View.{DeskView, roles_with, with_settings, without_approval, look}
+use Rattle.gate_rules.specs.Rules.{Look, Texts, first_failing, is_fit}
+use Rattle.gate_rules.specs.View.{DeskView, roles_with, with_role, with_settings, with_base, with_clock, without_approval, look}
 use Rattle.gate_rules.specs.declared.change.Change.{Change}
 use Rattle.gate_rules.specs.declared.change.Repeat.TheVariants as repeat
 use Rattle.gate_rules.specs.declared.role.Role.{Role as RoleOf}
 use Rattle.gate_rules.specs.declared.role.Role.TheVariants.{Nobody, Member, Reviewer}
 use Rattle.gate_rules.specs.declared.rule.Rule.{Rule}
-use Rattle.gate_queue.specs.Acts.{on}
-use Rattle.gate_queue.specs.History.{ends_why, order_ends, Event, did, gave, given, last_of, said_by, role_said, settings_back, change_back, look_back}
-use Rattle.gate_queue.specs.Machine.{State, broken, bad_settings, effect, orders, desk_after, all_orders, notice_if, settings_notices, accepted_notices, are_present, losing_on, lone, without_lone, lone_notices, head_on, stage_orders, altered, with_accepted, approved_by, with_priority, with_delegates, with_author_as_delegate, without_delegates, opened, closed, pushed, labeled, without_label, reviewed, with_settled, settled}
+use Rattle.gate_rules.specs.declared.change.Phase.TheVariants as phase
+use Rattle.gate_queue.specs.Acts.{subject, on}
+use Rattle.gate_queue.specs.Counts.{uses}
+use Rattle.gate_queue.specs.History.{ends_why, order_ends, Event, did, gave, given, last_of, said_by, role_said, settings_back, labels_back, reviews_back, author_back, approvers_back, landing_back, landed_back, landings, change_of, change_back, look_back}
+use Rattle.gate_queue.specs.Machine.{broken, bad_settings, effect, notices, notice_if, settings_notices, are_present, losing_on, quiet, under, accepted, lone, without_lone, lone_notices, failing, head_on, stage_orders, starting, with_landing, to_land, landed, released, released_at, released_on, all_altered, altered, approved_by, with_priority, with_delegates, with_author_as_delegate, without_delegates, opened, closed, pushed, labeled, without_label, reviewed, with_settled, settled}
 use Rattle.gate_queue.specs.declared.act.Act.{Act}
-use Rattle.gate_queue.specs.declared.act.Act.TheVariants.{Spoken, Role, Settings, Base, Opened, Pushed, Closed, Labeled, Unlabeled, Review, Staged, Conflict, Tick}
+use Rattle.gate_queue.specs.declared.act.Act.TheVariants.{Spoken, Role, Settings, Base, Opened, Pushed, Closed, Labeled, Unlabeled, Review, Staged, Conflict, Status, Refused, Tick}
 use Rattle.gate_queue.specs.declared.batch.Batch.{Batch}
+use Rattle.gate_queue.specs.declared.batch.Stage.{Stage as StageOf}
+use Rattle.gate_queue.specs.declared.batch.Stage.TheVariants as stage
+use Rattle.gate_queue.specs.Lanes.{is_landing}
 use Rattle.gate_queue.specs.declared.reply.Order.{Order}
-use Rattle.gate_queue.specs.declared.reply.Order.TheVariants.{Stage, Notice}
+use Rattle.gate_queue.specs.declared.reply.Order.TheVariants.{Stage, Land, Notice}
 use Rattle.gate_queue.specs.declared.reply.Why.{Why}
 use Rattle.gate_queue.specs.declared.reply.Why.TheVariants as why
-use Rattle.gate_queue.proofs.After.{change_after, by_number, elsewhere, order_elsewhere, order_ended, quiet_line, stays}
-use Rattle.gate_queue.proofs.Changes.{altered_look, opened_at}
+use Rattle.gate_queue.specs.declared.state.State.{State}
+use Rattle.gate_queue.proofs.After.{Rest, rest_back, change_after, change_of_after, altered_as, untouched, unaltered, unless_unfit, by_number, elsewhere, order_elsewhere, order_ended, quiet_line, stays}
+use Rattle.gate_queue.proofs.Changes.{altered_look, all_look, opened_at}
 use Rattle.gate_queue.proofs.Facts.{closed_next, labeled_next, reviewed_next, unlabeled_next, pushed_next, opened_next, settled_next, unsettled_next, taken_settings}
+use Rattle.gate_queue.proofs.Keeping.{lands}
+use Rattle.gate_queue.proofs.Landing.{Lands, Members, none_lands, stage_rest, land_rest, not_landing_back, landing_members, base_ends, base_rest, base_landed, refused_ends}
 use Rattle.gate_queue.proofs.Next.{priority_next, author_next, names_next, none_next, withdraw_next, approve_next, approve_for_next}
-use Rattle.gate_queue.proofs.Premises.{fits, shut}
+use Rattle.gate_queue.proofs.Premises.{fits, shut, fresh, still_here}
+use Rattle.gate_queue.proofs.States.{released_twice}
 use Rattle.gate_queue.proofs.Unseen.{Unseen}
 
 -- ONE ACT ON A CHANGE
 altered_next : (desk : DeskView) (events : List Event) (n : ℕ) (alter : Change → Change) (act : Act) → look desk ≡ look_back events
     → look_back (did act ∷ events) ≡ record (look_back events) { change = change_back (did act ∷ events) }
-    → ((c : ℕ) → on c act ≡ cond (eqb c n) (Some act) None)
-    → ((c : ℕ) → eqb c n ≡ true → option_map alter (change_back events c) ≡ change_after events c (settings_back events) (Some act))
+    → ((c : ℕ) → (on c act ≡ cond (eqb c n) (Some act) None) × (rest_back (did act ∷ events) c ≡ rest_back events c))
+    → ((c : ℕ) → eqb c n ≡ true → option_map alter (change_back events c) ≡ change_after events c (rest_back events c) (Some act))
     → look (altered desk n alter) ≡ look_back (did act ∷ events)
 altered_next desk events n alter act same rest about next =
     altered_look desk n alter
     ∙ ap (λ (s : Look). record s { change = λ c. cond (eqb c n) (option_map alter (s.change c)) (s.change c) }) same
-    ∙ (λ i. record (look_back events) { change = λ c. by_number events c n act (option_map alter) (about c) (ap (λ (s : Look). s.settings) rest) (next c) (eqb c n) refl i })
+    ∙ (λ i. record (look_back events) { change = λ c. by_number events c n act (option_map alter) (about c).0 (about c).1 (next c) (eqb c n) refl i })
     ∙ sym rest
 
 -- ROLES
@@ -71,7 +82,7 @@ roles_next roles person Nobody p = rw (get-remove nat_list_cmp_total roles perso
 roles_next roles person Member p = rw (get-insert nat_list_cmp_total roles person Member p, is_eq-slice_cmp p person) (role_chosen (bytes_eq p person) Member _)
 roles_next roles person Reviewer p = rw (get-insert nat_list_cmp_total roles person Reviewer p, is_eq-slice_cmp p person) (role_chosen (bytes_eq p person) Reviewer _)
 
-role_next : (desk : DeskView) (events : List Event) (person : List ℕ) (role : RoleOf) → look desk ≡ look_back events → look (effect desk (Role person role)) ≡ look_back (did (Role person role) ∷ events)
+pub role_next : (desk : DeskView) (events : List Event) (person : List ℕ) (role : RoleOf) → look desk ≡ look_back events → look (with_role desk person role) ≡ look_back (did (Role person role) ∷ events)
 role_next desk events person role same =
     (λ i. record (look desk) { role = λ p. roles_next desk.roles person role p i })
     ∙ ap (λ (s : Look). record s { role = λ p. cond (bytes_eq p person) role (s.role p) }) same
@@ -97,26 +108,26 @@ old_settings_next desk events text settings read same present =
     same
     ∙ (λ i. record (look_back events) { change = λ c. unsettled_next events c text settings read present i; settings = (present ∙ sym (taken_settings events 0 text settings read)) i })
 
-settings_by : (desk : DeskView) (events : List Event) (text : List ℕ) (settings : SettingsView) → settings_of text ≡ Ok settings → look desk ≡ look_back events
-    → (present : Option SettingsView) → desk.settings ≡ present → (b : Bool) → option_map_or (λ p. same_settings p settings) present false ≡ b
-    → look (cond b desk (with_settings (with_settled desk settings) settings)) ≡ look_back (did (Settings text) ∷ events)
-settings_by desk events text settings read same present is false other = new_settings_next desk events text settings read same
-settings_by desk events text settings read same None is true equal = cc equal
-settings_by desk events text settings read same (Some present) is true equal =
-    old_settings_next desk events text settings read same (sym (ap (λ (s : Look). s.settings) same) ∙ is ∙ ap Some (same_settings-is present settings equal))
+settings_by : (s : State) (events : List Event) (text : List ℕ) (settings : SettingsView) → settings_of text ≡ Ok settings → look s.desk ≡ look_back events
+    → (present : Option SettingsView) → s.desk.settings ≡ present → (b : Bool) → option_map_or (λ p. same_settings p settings) present false ≡ b
+    → look (if b then quiet s else under settings s).state.desk ≡ look_back (did (Settings text) ∷ events)
+settings_by s events text settings read same present is false other = new_settings_next s.desk events text settings read same
+settings_by s events text settings read same None is true equal = cc equal
+settings_by s events text settings read same (Some present) is true equal =
+    old_settings_next s.desk events text settings read same (sym (ap (λ (l : Look). l.settings) same) ∙ is ∙ ap Some (same_settings-is present settings equal))
 
-settings_next : (desk : DeskView) (events : List Event) (text : List ℕ) (read : Result SettingsView SettingsFault) → settings_of text ≡ read → bad_settings read ≡ None
-    → look desk ≡ look_back events → look (with_accepted desk read) ≡ look_back (did (Settings text) ∷ events)
-settings_next desk events text (Ok settings) read good same = settings_by desk events text settings read same desk.settings refl _ refl
-settings_next desk events text (Err fault) read good same = cc good
+pub settings_next : (s : State) (events : List Event) (text : List ℕ) (read : Result SettingsView SettingsFault) → settings_of text ≡ read → bad_settings read ≡ None
+    → look s.desk ≡ look_back events → look (accepted s read).state.desk ≡ look_back (did (Settings text) ∷ events)
+settings_next s events text (Ok settings) read good same = settings_by s events text settings read same s.desk.settings refl _ refl
+settings_next s events text (Err fault) read good same = cc good
 
-one_rule : (rule : Option Rule) → first_failing (rule ∷ []) ≡ None → rule ≡ None
+pub one_rule : (rule : Option Rule) → first_failing (rule ∷ []) ≡ None → rule ≡ None
 one_rule None holds = refl
 one_rule (Some rule) holds = cc holds
 
 -- OPENING
 opening_next : (desk : DeskView) (events : List Event) (n : ℕ) (author head : List ℕ) → look desk ≡ look_back events
-    → ((c : ℕ) → eqb c n ≡ true → Some (opened author head (change_back events c)) ≡ change_after events c (settings_back events) (Some (Opened n author head)))
+    → ((c : ℕ) → eqb c n ≡ true → Some (opened author head (change_back events c)) ≡ change_after events c (rest_back events c) (Some (Opened n author head)))
     → look (effect desk (Opened n author head)) ≡ look_back (did (Opened n author head) ∷ events)
 opening_next desk events n author head same next =
     (λ i. record (look desk) { change = λ c. opened_at desk n author head c i })
@@ -126,126 +137,249 @@ opening_next desk events n author head same next =
     })
 
 -- ACTS THAT CHANGE NO CHANGE
-base_next : (desk : DeskView) (events : List Event) (commit : List ℕ) → look desk ≡ look_back events → look (effect desk (Base commit)) ≡ look_back (did (Base commit) ∷ events)
-base_next desk events commit same =
-    ap (λ (s : Look). record s { base = Some commit }) same
-    ∙ (λ i. record (look_back events) { change = λ c. (sym (elsewhere events c (Base commit) refl refl)) i; base = Some commit })
-
--- and a line that does nothing
+-- a line that does nothing
 quiet_next : (desk : DeskView) (events : List Event) (n : ℕ) (act : Act) → look desk ≡ look_back events
     → look_back (did act ∷ events) ≡ record (look_back events) { change = change_back (did act ∷ events) }
-    → ((c : ℕ) → on c act ≡ cond (eqb c n) (Some act) None)
-    → ((c : ℕ) → eqb c n ≡ true → option_map (λ change. change) (change_back events c) ≡ change_after events c (settings_back events) (Some act))
+    → ((c : ℕ) → (on c act ≡ cond (eqb c n) (Some act) None) × (rest_back (did act ∷ events) c ≡ rest_back events c))
+    → ((c : ℕ) → eqb c n ≡ true → option_map (λ change. change) (change_back events c) ≡ change_after events c (rest_back events c) (Some act))
     → look desk ≡ look_back (did act ∷ events)
 quiet_next desk events n act same rest about next =
     same
-    ∙ (λ i. record (look_back events) { change = λ c. (kept_by (eqb c n) (change_back events c) ∙ by_number events c n act (option_map (λ change. change)) (about c) (ap (λ (s : Look). s.settings) rest) (next c) (eqb c n) refl) i })
+    ∙ (λ i. record (look_back events) { change = λ c. (kept_by (eqb c n) (change_back events c) ∙ by_number events c n act (option_map (λ change. change)) (about c).0 (about c).1 (next c) (eqb c n) refl) i })
     ∙ sym rest where
       kept_by : (b : Bool) (change : Option Change) → change ≡ cond b (option_map (λ c. c) change) change
       kept_by true None = refl
       kept_by true (Some change) = refl
       kept_by false change = refl
 
--- A tick sets the clock, and an act on a batch sets nothing that the rules read.
-tick_next : (desk : DeskView) (events : List Event) (now : ℕ) → look desk ≡ look_back events → look (effect desk (Tick now)) ≡ look_back (did (Tick now) ∷ events)
+-- a fact about a batch, of which the rules read nothing; and a tick, which sets the clock
+pub fact_next : (events : List Event) (act : Act) → look_back (did act ∷ events) ≡ record (look_back events) { change = change_back (did act ∷ events) }
+    → ((c : ℕ) → (on c act ≡ None) × (rest_back (did act ∷ events) c ≡ rest_back events c)) → look_back events ≡ look_back (did act ∷ events)
+fact_next events act rest about = (λ i. record (look_back events) { change = λ c. (sym (elsewhere events c act (about c).0 (about c).1)) i }) ∙ sym rest
+
+pub tick_next : (desk : DeskView) (events : List Event) (now : ℕ) → look desk ≡ look_back events → look (with_clock desk now) ≡ look_back (did (Tick now) ∷ events)
 tick_next desk events now same =
     ap (λ (s : Look). record s { clock = now }) same
     ∙ (λ i. record (look_back events) { change = λ c. (sym (elsewhere events c (Tick now) refl refl)) i; clock = now })
 
-staged_next : (events : List Event) (batch : ℕ) (commit : List ℕ) → look_back events ≡ look_back (did (Staged batch commit) ∷ events)
-staged_next events batch commit = λ i. record (look_back events) { change = λ c. (sym (elsewhere events c (Staged batch commit) refl refl)) i }
+-- ORDERS that end no approval, and leave what is landing and has landed, leave all that the rules read.
+abbrev pub AreMild : List Event → List Order → Type 0
+AreMild events [] = ⊤
+AreMild events (order ∷ orders) = ((c : ℕ) → (order_ends c order ≡ false) × (rest_back (gave order ∷ events) c ≡ rest_back events c)) × AreMild (gave order ∷ events) orders
 
-conflict_told : (events : List Event) (batch : ℕ) → look_back events ≡ look_back (did (Conflict batch) ∷ events)
-conflict_told events batch = λ i. record (look_back events) { change = λ c. (sym (elsewhere events c (Conflict batch) refl refl)) i }
-
--- ORDERS that end no approval leave all that the rules read; one that ends an approval ends that alone.
-abbrev AreMild : List Order → Type 0
-AreMild [] = ⊤
-AreMild (order ∷ orders) = ((c : ℕ) → order_ends c order ≡ false) × AreMild orders
-
-look_given : (events : List Event) (orders : List Order) → AreMild orders → look_back (given events orders) ≡ look_back events
+look_given : (events : List Event) (orders : List Order) → AreMild events orders → look_back (given events orders) ≡ look_back events
 look_given events [] mild = refl
 look_given events (order ∷ orders) mild =
     look_given (gave order ∷ events) orders mild.1
-    ∙ (λ i. record (look_back events) { change = λ c. order_elsewhere events c order (mild.0 c) i })
+    ∙ (λ i. record (look_back events) { change = λ c. order_elsewhere events c order (mild.0 c).0 (mild.0 c).1 i })
 
-notice_mild : (b : Bool) (n : ℕ) (why : Why) → ends_why why ≡ false → AreMild (notice_if b n why)
-notice_mild true n why goes = ((λ c. ap (λ (b : Bool). b && eqb c n) goes), tt)
-notice_mild false n why goes = tt
+notice_mild : (events : List Event) (b : Bool) (n : ℕ) (why : Why) → ends_why why ≡ false → AreMild events (notice_if b n why)
+notice_mild events true n why goes = ((λ c. (ap (λ (b : Bool). b && eqb c n) goes, refl)), tt)
+notice_mild events false n why goes = tt
 
-numbers_mild : (numbers : List ℕ) → AreMild (settings_notices numbers)
-numbers_mild [] = tt
-numbers_mild (number ∷ numbers) = ((λ c. refl), numbers_mild numbers)
+numbers_mild : (events : List Event) (numbers : List ℕ) → AreMild events (settings_notices numbers)
+numbers_mild events [] = tt
+numbers_mild events (number ∷ numbers) = ((λ c. (refl, refl)), numbers_mild (gave (Notice number why.Settings) ∷ events) numbers)
 
-settings_mild : (desk : DeskView) (read : Result SettingsView SettingsFault) → AreMild (accepted_notices desk read)
-settings_mild desk (Err fault) = tt
-settings_mild desk (Ok settings) = by (are_present desk settings) where
-  by : (b : Bool) → AreMild (cond b [] (settings_notices (losing_on desk settings)))
+pub settings_mild : (events : List Event) (s : State) (read : Result SettingsView SettingsFault) → AreMild events (accepted s read).orders
+settings_mild events s (Err fault) = tt
+settings_mild events s (Ok settings) = by (are_present s.desk settings) where
+  by : (b : Bool) → AreMild events (if b then quiet s else under settings s).orders
   by true = tt
-  by false = numbers_mild (losing_on desk settings)
+  by false = numbers_mild events (losing_on s.desk settings)
 
-stage_mild : (desk : DeskView) (running : Option Batch) (waiting : List Batch) → AreMild (stage_orders desk running waiting)
-stage_mild desk (Some batch) waiting = tt
-stage_mild desk None [] = tt
-stage_mild desk None (batch ∷ waiting) = by desk.base where
-  by : (base : Option (List ℕ)) → AreMild (option_map_or (λ b. Stage batch.number batch.branch b (filter_map (head_on desk) batch.changes) ∷ []) base [])
+-- A batch is ordered that was never to land.
+stage_mild : (events : List Event) (desk : DeskView) (running : Option Batch) (waiting : List Batch) → ((number : ℕ) → 1 ≤ uses number waiting → landings number events ≡ 0)
+    → AreMild events (stage_orders desk running waiting)
+stage_mild events desk (Some batch) waiting never = tt
+stage_mild events desk None [] never = tt
+stage_mild events desk None (batch ∷ waiting) never = by desk.base where
+  first : 1 ≤ uses batch.number (batch ∷ waiting)
+  first = omega (arith, sum_by-cons (λ (b : Batch). if eqb batch.number b.number then 1 else 0) batch waiting, ap {B = ℕ} (λ (b : Bool). if b then 1 else 0) ((Decides-eqb batch.number batch.number).1 refl))
+
+  by : (base : Option (List ℕ)) → AreMild events (option_map_or (λ b. Stage batch.number batch.branch b (filter_map (head_on desk) batch.changes) ∷ []) base [])
   by None = tt
-  by (Some base) = ((λ c. refl), tt)
+  by (Some base) = ((λ c. (refl, stage_rest events batch.number batch.branch base (filter_map (head_on desk) batch.changes) c (never batch.number first))), tt)
 
-conflict_next : (desk : DeskView) (events : List Event) (batch : ℕ) (lone : Option ℕ) → look desk ≡ look_back events
-    → look (without_lone desk lone) ≡ look_back (given (did (Conflict batch) ∷ events) (lone_notices lone))
-conflict_next desk events batch None same = same ∙ conflict_told events batch
-conflict_next desk events batch (Some n) same =
-    altered_look desk n without_approval
-    ∙ ap (λ (s : Look). record s { change = λ c. cond (eqb c n) (option_map without_approval (s.change c)) (s.change c) }) (same ∙ conflict_told events batch)
-    ∙ (λ i. record (look_back (did (Conflict batch) ∷ events)) { change = λ c. ended_at c (eqb c n) refl i }) where
-      ended_at : (c : ℕ) (b : Bool) → eqb c n ≡ b
-          → cond b (option_map without_approval (change_back (did (Conflict batch) ∷ events) c)) (change_back (did (Conflict batch) ∷ events) c)
-          ≡ change_back (gave (Notice n why.Conflict) ∷ did (Conflict batch) ∷ events) c
-      ended_at c true is = sym (order_ended (did (Conflict batch) ∷ events) c (Notice n why.Conflict) is)
-      ended_at c false is = sym (order_elsewhere (did (Conflict batch) ∷ events) c (Notice n why.Conflict) is)
+pub starting_look : (s : State) (events : List Event) (now : ℕ) → look s.desk ≡ look_back events → ((number : ℕ) → 1 ≤ uses number s.queue.staging.waiting → landings number events ≡ 0)
+    → look (starting now s).state.desk ≡ look_back (given events (starting now s).orders)
+starting_look s events now same never = same ∙ sym (look_given events (starting now s).orders (stage_mild events s.desk s.queue.staging.running s.queue.staging.waiting never))
 
--- ANY ACT
-pub act_next : (s : State) (events : List Event) (act : Act) → look s.desk ≡ look_back events → ((c : ℕ) → Unseen events c) → broken (look_back events) act ≡ None
-    → look (desk_after s act) ≡ look_back (given (did act ∷ events) (all_orders s act))
-act_next s events (Spoken n p (Known Approve)) same unseen holds =
-    altered_next s.desk events n (approved_by (p ∷ []) repeat.Approve) (Spoken n p (Known Approve)) same refl (λ c. refl) (λ c is. approve_next events c n p (fits events p n Approve holds c is))
-act_next s events (Spoken n p (Known (ApproveFor names))) same unseen holds =
-    altered_next s.desk events n (approved_by names (repeat.ApproveFor names)) (Spoken n p (Known (ApproveFor names))) same refl (λ c. refl) (λ c is. approve_for_next events c n p names (fits events p n (ApproveFor names) holds c is))
-act_next s events (Spoken n p (Known Withdraw)) same unseen holds = altered_next s.desk events n without_approval (Spoken n p (Known Withdraw)) same refl (λ c. refl) (λ c is. withdraw_next events c n p)
-act_next s events (Spoken n p (Known (Priority priority))) same unseen holds = altered_next s.desk events n (with_priority priority) (Spoken n p (Known (Priority priority))) same refl (λ c. refl) (λ c is. priority_next events c n p priority)
-act_next s events (Spoken n p (Known DelegateAuthor)) same unseen holds = altered_next s.desk events n with_author_as_delegate (Spoken n p (Known DelegateAuthor)) same refl (λ c. refl) (λ c is. author_next events c n p)
-act_next s events (Spoken n p (Known (DelegateTo names))) same unseen holds = altered_next s.desk events n (with_delegates names) (Spoken n p (Known (DelegateTo names))) same refl (λ c. refl) (λ c is. names_next events c n p names)
-act_next s events (Spoken n p (Known DelegateNone)) same unseen holds = altered_next s.desk events n without_delegates (Spoken n p (Known DelegateNone)) same refl (λ c. refl) (λ c is. none_next events c n p)
-act_next s events (Spoken n p (Known Ping)) same unseen holds = quiet_next s.desk events n (Spoken n p (Known Ping)) same refl (λ c. refl) (λ c is. quiet_line events c (Spoken n p (Known Ping)) refl (λ author. refl) (stays events c (Spoken n p (Known Ping)) refl refl (λ fit. fit)))
-act_next s events (Spoken n p (Known Try)) same unseen holds = quiet_next s.desk events n (Spoken n p (Known Try)) same refl (λ c. refl) (λ c is. quiet_line events c (Spoken n p (Known Try)) refl (λ author. refl) (stays events c (Spoken n p (Known Try)) refl refl (λ fit. fit)))
-act_next s events (Spoken n p (Known TryCancel)) same unseen holds = quiet_next s.desk events n (Spoken n p (Known TryCancel)) same refl (λ c. refl) (λ c is. quiet_line events c (Spoken n p (Known TryCancel)) refl (λ author. refl) (stays events c (Spoken n p (Known TryCancel)) refl refl (λ fit. fit)))
-act_next s events (Spoken n p (Known Retry)) same unseen holds = quiet_next s.desk events n (Spoken n p (Known Retry)) same refl (λ c. refl) (λ c is. quiet_line events c (Spoken n p (Known Retry)) refl (λ author. refl) (stays events c (Spoken n p (Known Retry)) refl refl (λ fit. fit)))
-act_next s events (Spoken n p Unknown) same unseen holds = quiet_next s.desk events n (Spoken n p Unknown) same refl (λ c. refl) (λ c is. quiet_line events c (Spoken n p Unknown) refl (λ author. refl) (stays events c (Spoken n p Unknown) refl refl (λ fit. fit)))
-act_next s events (Role person role) same unseen holds = role_next s.desk events person role same
-act_next s events (Settings text) same unseen holds =
-    settings_next s.desk events text (settings_of text) refl (one_rule _ holds) same
-    ∙ sym (look_given (did (Settings text) ∷ events) (all_orders s (Settings text)) (settings_mild s.desk (settings_of text)))
-act_next s events (Base commit) same unseen holds = base_next s.desk events commit same
-act_next s events (Opened n author head) same unseen holds =
-    opening_next s.desk events n author head same (λ c is. opened_next events c n author head (unseen c) (shut events n unseen holds c is))
-act_next s events (Pushed n head) same unseen holds =
-    altered_next s.desk events n (pushed head) (Pushed n head) same refl (λ c. refl) (λ c is. pushed_next events c n head)
-    ∙ sym (look_given (did (Pushed n head) ∷ events) (all_orders s (Pushed n head)) (notice_mild _ n why.Pushed refl))
-act_next s events (Closed n) same unseen holds =
-    altered_next s.desk events n closed (Closed n) same refl (λ c. refl) (λ c is. closed_next events c n)
-    ∙ sym (look_given (did (Closed n) ∷ events) (all_orders s (Closed n)) (notice_mild _ n why.Closed refl))
-act_next s events (Labeled n label) same unseen holds =
-    ap (λ (l : Look). look (altered s.desk n (labeled l.settings label))) same
-    ∙ altered_next s.desk events n (labeled (settings_back events) label) (Labeled n label) same refl (λ c. refl) (λ c is. labeled_next events c n label)
-    ∙ sym (look_given (did (Labeled n label) ∷ events) (all_orders s (Labeled n label)) (notice_mild _ n why.Labeled refl))
-act_next s events (Unlabeled n label) same unseen holds = altered_next s.desk events n (without_label label) (Unlabeled n label) same refl (λ c. refl) (λ c is. unlabeled_next events c n label)
-act_next s events (Review n person head approves) same unseen holds =
-    ap (λ (l : Look). look (altered s.desk n (reviewed l.settings person approves))) same
-    ∙ altered_next s.desk events n (reviewed (settings_back events) person approves) (Review n person head approves) same refl (λ c. refl) (λ c is. reviewed_next events c n person head approves)
-    ∙ sym (look_given (did (Review n person head approves) ∷ events) (all_orders s (Review n person head approves)) (notice_mild _ n why.Reviews refl))
-act_next s events (Staged batch commit) same unseen holds = same ∙ staged_next events batch commit
-act_next s events (Conflict batch) same unseen holds = conflict_next s.desk events batch (lone s.queue.staging.running) same
-act_next s events (Tick now) same unseen holds =
-    tick_next s.desk events now same
-    ∙ sym (look_given (did (Tick now) ∷ events) (all_orders s (Tick now)) (stage_mild s.desk s.queue.staging.running s.queue.staging.waiting))
+-- A BATCH FAILS: the notice ends the approval of its one change.
+pub failing_look : (s : State) (events : List Event) (why : Why) → ends_why why ≡ true → look s.desk ≡ look_back events
+    → look (failing why s).state.desk ≡ look_back (given events (failing why s).orders)
+failing_look s events why ends same = by (lone s.queue.staging.running) where
+  by : (one : Option ℕ) → look (without_lone s.desk one) ≡ look_back (given events (lone_notices why one))
+  by None = same
+  by (Some n) =
+      altered_look s.desk n without_approval
+      ∙ ap (λ (l : Look). record l { change = λ c. cond (eqb c n) (option_map without_approval (l.change c)) (l.change c) }) same
+      ∙ (λ i. record (look_back events) { change = λ c. ended_at c (eqb c n) refl i }) where
+        ended_at : (c : ℕ) (b : Bool) → eqb c n ≡ b → cond b (option_map without_approval (change_back events c)) (change_back events c) ≡ change_back (gave (Notice n why) ∷ events) c
+        ended_at c true is = sym (order_ended events c (Notice n why) ((λ i. ends i && eqb c n) ∙ is) refl)
+        ended_at c false is = sym (order_elsewhere events c (Notice n why) ((λ i. ends i && eqb c n) ∙ is) refl)
+
+-- A BATCH IS TO LAND
+pub land_look : (s : State) (events : List Event) (batch : Batch) (base commit : List ℕ) → look s.desk ≡ look_back events → Lands events None → Members events (Some batch)
+    → look (to_land batch s).state.desk ≡ look_back (gave (Land batch.number base commit) ∷ events)
+land_look s events batch base commit same none members =
+    all_look (with_landing true) (λ change. refl) batch.changes s.desk
+    ∙ ap (λ (l : Look). record l { change = λ c. cond (list_any (eqb c) batch.changes) (option_map (with_landing true) (l.change c)) (l.change c) }) same
+    ∙ (λ i. record (look_back events) { change = λ c. (marked c (list_any (eqb c) batch.changes) ∙ (λ j. change_after events c ((sym (land_rest events batch base commit c none members)) j) None)) i }) where
+      rest : ℕ → Bool → Rest
+      rest c landing = record { settings = settings_back events; landed = landed_back events c; landing = landing }
+
+      marked : (c : ℕ) (b : Bool) → cond b (option_map (with_landing true) (change_back events c)) (change_back events c) ≡ change_after events c (record (rest_back events c) { landing = b }) None
+      marked c true = altered_as (with_landing true) (change_of events c) (change_of_after events c (record (rest_back events c) { landing = true }) None) (author_back events c)
+          (λ author is. λ i. record (change_of events c author) { landing = true; approved = (sym (untouched events c)) i })
+      marked c false = sym (unaltered events c) ∙ (λ i. change_after events c (record (rest_back events c) { landing = not_landing_back events c none i }) None)
+
+-- THE RUNNING BATCH GOES BACK
+landed_unfit : (settings : Option SettingsView) (labels reviews : Texts) → is_fit settings phase.Landed labels reviews ≡ false
+landed_unfit None labels reviews = refl
+landed_unfit (Some settings) labels reviews = refl
+
+module _ (desk : DeskView) (events : List Event) (same : look desk ≡ look_back events) where
+  -- as the changes of a batch that was landing, and the other ones
+  released_look : (on : Option (List ℕ)) (batch : Batch) (commit : List ℕ) → (after : List Event) (later : Look)
+      → ((c : ℕ) (b : Bool) → list_any (eqb c) batch.changes ≡ b → cond b (option_map (released on commit) (change_back events c)) (change_back events c) ≡ change_back after c)
+      → later ≡ look (all_altered (released on commit) desk batch.changes)
+      → later ≡ record (look_back events) { change = change_back after }
+  released_look on batch commit after later each is =
+      is ∙ all_look (released on commit) (released_twice on commit) batch.changes desk
+      ∙ ap (λ (l : Look). record l { change = λ c. cond (list_any (eqb c) batch.changes) (option_map (released on commit) (l.change c)) (l.change c) }) same
+      ∙ (λ i. record (look_back events) { change = λ c. each c (list_any (eqb c) batch.changes) refl i })
+
+  -- one that is still to land, and doesn't; one that has landed; and one that had nothing to do with it
+  module _ (c : ℕ) where
+    spared : option_map (with_landing false) (change_back events c) ≡ change_after events c (record (rest_back events c) { landing = false }) None
+    spared = altered_as (with_landing false) (change_of events c) (change_of_after events c (record (rest_back events c) { landing = false }) None) (author_back events c)
+        (λ author is. λ i. record (change_of events c author) { landing = false; approved = (sym (untouched events c)) i })
+
+    come_in : option_map landed (change_back events c) ≡ change_after events c (record (rest_back events c) { landed = true; landing = false }) None
+    come_in = altered_as landed (change_of events c) (change_of_after events c (record (rest_back events c) { landed = true; landing = false }) None) (author_back events c)
+        (λ author is. λ i. record (landed (change_of events c author)) {
+          approved = (sym (unless_unfit events c (record (rest_back events c) { landed = true; landing = false })
+              ∙ ap (λ (b : Bool). cond b (approvers_back events c) None) (landed_unfit (settings_back events) (labels_back events c) (reviews_back events c)))) i;
+        })
+
+    outside : landing_back events c ≡ false → change_back events c ≡ change_after events c (record (rest_back events c) { landing = false }) None
+    outside none = sym (unaltered events c) ∙ (λ i. change_after events c (record (rest_back events c) { landing = none i }) None)
+
+  pub base_look : (base : List ℕ) (running : Option Batch) → Lands events running → Members events running → look (with_base (released_on (Some base) desk running) base) ≡ look_back (did (Base base) ∷ events)
+  base_look base None all members = nothing all where
+    nothing : Lands events None → look (with_base desk base) ≡ look_back (did (Base base) ∷ events)
+    nothing none =
+        ap (λ (l : Look). record l { base = Some base }) same
+        ∙ (λ i. record (look_back events) { change = λ c. (sym (elsewhere events c (Base base) refl (base_rest events base c none))) i; base = Some base })
+  base_look base (Some batch) all members = by batch.stage refl where
+    nothing : lands (Some batch) ≡ false → look (with_base desk base) ≡ look_back (did (Base base) ∷ events)
+    nothing not_so =
+        let none : Lands events None = λ n. all n ∙ none_lands n (Some batch) not_so in
+        ap (λ (l : Look). record l { base = Some base }) same
+        ∙ (λ i. record (look_back events) { change = λ c. (sym (elsewhere events c (Base base) refl (base_rest events base c none))) i; base = Some base })
+
+    by : (at : StageOf) → batch.stage ≡ at → look (with_base (released_at (Some base) desk batch.changes at) base) ≡ look_back (did (Base base) ∷ events)
+    by stage.Waiting at = nothing (ap is_landing at)
+    by (stage.Ordered since) at = nothing (ap is_landing at)
+    by (stage.Staged since commit reports) at = nothing (ap is_landing at)
+    by (stage.Landing commit) at =
+        ap (λ (l : Look). record l { base = Some base })
+        (released_look (Some base) batch commit (did (Base base) ∷ events) (look (all_altered (released (Some base) commit) desk batch.changes)) (λ c b there. each c (bytes_eq base commit) refl b there) refl) where
+          none_later : (c : ℕ) → landing_back (did (Base base) ∷ events) c ≡ false
+          none_later c = not_landing_back (did (Base base) ∷ events) c (base_ends events base)
+
+          rest : (c : ℕ) (equal b : Bool) → bytes_eq base commit ≡ equal → list_any (eqb c) batch.changes ≡ b
+              → change_back (did (Base base) ∷ events) c ≡ change_after events c (record (rest_back events c) { landed = (equal && b) || landed_back events c; landing = false }) None
+          rest c equal b is there =
+              λ i. change_after events c (record (rest_back events c) { landed = (base_landed events base batch commit c at all members ∙ (λ j. (is j && there j) || landed_back events c)) i; landing = none_later c i }) None
+
+          each : (c : ℕ) (equal : Bool) → bytes_eq base commit ≡ equal → (b : Bool) → list_any (eqb c) batch.changes ≡ b
+              → cond b (option_map (released (Some base) commit) (change_back events c)) (change_back events c) ≡ change_back (did (Base base) ∷ events) c
+          each c true is true there = (λ i. option_map (λ change. cond (is i) (landed change) (with_landing false change)) (change_back events c)) ∙ come_in c ∙ sym (rest c true true is there)
+          each c false is true there = (λ i. option_map (λ change. cond (is i) (landed change) (with_landing false change)) (change_back events c)) ∙ spared c ∙ sym (rest c false true is there)
+          each c true is false there = outside c (landing_members events batch commit c at all members ∙ there) ∙ sym (rest c true false is there)
+          each c false is false there = outside c (landing_members events batch commit c at all members ∙ there) ∙ sym (rest c false false is there)
+
+  -- a refusal of the batch that is landing
+  refused_look : (batch : Batch) (commit : List ℕ) → batch.stage ≡ stage.Landing commit → Lands events (Some batch) → Members events (Some batch)
+      → look (all_altered (released None commit) desk batch.changes) ≡ look_back (did (Refused batch.number) ∷ events)
+  refused_look batch commit at all members =
+      released_look None batch commit (did (Refused batch.number) ∷ events) (look (all_altered (released None commit) desk batch.changes)) each refl where
+        rest : (c : ℕ) → change_back (did (Refused batch.number) ∷ events) c ≡ change_after events c (record (rest_back events c) { landing = false }) None
+        rest c = λ i. change_after events c (record (rest_back events c) { landing = not_landing_back (did (Refused batch.number) ∷ events) c (refused_ends events batch all) i }) None
+
+        each : (c : ℕ) (b : Bool) → list_any (eqb c) batch.changes ≡ b
+            → cond b (option_map (released None commit) (change_back events c)) (change_back events c) ≡ change_back (did (Refused batch.number) ∷ events) c
+        each c true there = spared c ∙ sym (rest c)
+        each c false there = outside c (landing_members events batch commit c at all members ∙ there) ∙ sym (rest c)
+
+  pub refusal_look : (number : ℕ) (running : Option Batch) → option_map_or (λ (batch : Batch). eqb number batch.number && is_landing batch.stage) running false ≡ true → Lands events running → Members events running
+      → look (released_on None desk running) ≡ look_back (did (Refused number) ∷ events)
+  refusal_look number None there all members = cc there
+  refusal_look number (Some batch) there all members = by (eqb number batch.number) refl batch.stage refl there where
+    by : (b : Bool) → eqb number batch.number ≡ b → (at : StageOf) → batch.stage ≡ at → (b && is_landing at) ≡ true
+        → look (released_at None desk batch.changes at) ≡ look_back (did (Refused number) ∷ events)
+    by true is stage.Waiting at so = cc so
+    by true is (stage.Ordered since) at so = cc so
+    by true is (stage.Staged since commit reports) at so = cc so
+    by true is (stage.Landing commit) at so =
+        refused_look batch commit at all members ∙ ap (λ n. look_back (did (Refused n) ∷ events)) (sym ((Decides-eqb number batch.number).0 is))
+    by false is at is' so = cc so
+
+-- ANY ACT ABOUT A CHANGE
+pub about_look : (desk : DeskView) (events : List Event) (act : Act) (n : ℕ) → subject act ≡ Some n → look desk ≡ look_back events → ((c : ℕ) → Unseen events c) → broken (look_back events) act ≡ None
+    → look (effect desk act) ≡ look_back (did act ∷ events)
+about_look desk events (Spoken n p (Known Approve)) m at same unseen holds =
+    altered_next desk events n (approved_by (p ∷ []) repeat.Approve) (Spoken n p (Known Approve)) same refl (λ c. (refl, refl)) (λ c is. approve_next events c n p (fits events p n Approve holds c is))
+about_look desk events (Spoken n p (Known (ApproveFor names))) m at same unseen holds =
+    altered_next desk events n (approved_by names (repeat.ApproveFor names)) (Spoken n p (Known (ApproveFor names))) same refl (λ c. (refl, refl)) (λ c is. approve_for_next events c n p names (fits events p n (ApproveFor names) holds c is))
+about_look desk events (Spoken n p (Known Withdraw)) m at same unseen holds = altered_next desk events n without_approval (Spoken n p (Known Withdraw)) same refl (λ c. (refl, refl)) (λ c is. withdraw_next events c n p)
+about_look desk events (Spoken n p (Known (Priority priority))) m at same unseen holds = altered_next desk events n (with_priority priority) (Spoken n p (Known (Priority priority))) same refl (λ c. (refl, refl)) (λ c is. priority_next events c n p priority)
+about_look desk events (Spoken n p (Known DelegateAuthor)) m at same unseen holds = altered_next desk events n with_author_as_delegate (Spoken n p (Known DelegateAuthor)) same refl (λ c. (refl, refl)) (λ c is. author_next events c n p)
+about_look desk events (Spoken n p (Known (DelegateTo names))) m at same unseen holds = altered_next desk events n (with_delegates names) (Spoken n p (Known (DelegateTo names))) same refl (λ c. (refl, refl)) (λ c is. names_next events c n p names)
+about_look desk events (Spoken n p (Known DelegateNone)) m at same unseen holds = altered_next desk events n without_delegates (Spoken n p (Known DelegateNone)) same refl (λ c. (refl, refl)) (λ c is. none_next events c n p)
+about_look desk events (Spoken n p (Known Ping)) m at same unseen holds = quiet_next desk events n (Spoken n p (Known Ping)) same refl (λ c. (refl, refl)) (λ c is. quiet_line events c (Spoken n p (Known Ping)) refl (λ author. refl) (stays events c (Spoken n p (Known Ping)) refl refl (λ fit. fit)))
+about_look desk events (Spoken n p (Known Try)) m at same unseen holds = quiet_next desk events n (Spoken n p (Known Try)) same refl (λ c. (refl, refl)) (λ c is. quiet_line events c (Spoken n p (Known Try)) refl (λ author. refl) (stays events c (Spoken n p (Known Try)) refl refl (λ fit. fit)))
+about_look desk events (Spoken n p (Known TryCancel)) m at same unseen holds = quiet_next desk events n (Spoken n p (Known TryCancel)) same refl (λ c. (refl, refl)) (λ c is. quiet_line events c (Spoken n p (Known TryCancel)) refl (λ author. refl) (stays events c (Spoken n p (Known TryCancel)) refl refl (λ fit. fit)))
+about_look desk events (Spoken n p (Known Retry)) m at same unseen holds = quiet_next desk events n (Spoken n p (Known Retry)) same refl (λ c. (refl, refl)) (λ c is. quiet_line events c (Spoken n p (Known Retry)) refl (λ author. refl) (stays events c (Spoken n p (Known Retry)) refl refl (λ fit. fit)))
+about_look desk events (Spoken n p Unknown) m at same unseen holds = quiet_next desk events n (Spoken n p Unknown) same refl (λ c. (refl, refl)) (λ c is. quiet_line events c (Spoken n p Unknown) refl (λ author. refl) (stays events c (Spoken n p Unknown) refl refl (λ fit. fit)))
+about_look desk events (Opened n author head) m at same unseen holds =
+    opening_next desk events n author head same (λ c is. opened_next events c n author head (unseen c) (shut events n author head unseen holds c is) (fresh events n author head unseen holds c is))
+about_look desk events (Pushed n head) m at same unseen holds =
+    altered_next desk events n (pushed head) (Pushed n head) same refl (λ c. (refl, refl)) (λ c is. pushed_next events c n head)
+about_look desk events (Closed n) m at same unseen holds =
+    altered_next desk events n closed (Closed n) same refl (λ c. (refl, refl)) (λ c is. closed_next events c n (still_here events n holds c is))
+about_look desk events (Labeled n label) m at same unseen holds =
+    ap (λ (l : Look). look (altered desk n (labeled l.settings label))) same
+    ∙ altered_next desk events n (labeled (settings_back events) label) (Labeled n label) same refl (λ c. (refl, refl)) (λ c is. labeled_next events c n label)
+about_look desk events (Unlabeled n label) m at same unseen holds = altered_next desk events n (without_label label) (Unlabeled n label) same refl (λ c. (refl, refl)) (λ c is. unlabeled_next events c n label)
+about_look desk events (Review n person head approves) m at same unseen holds =
+    ap (λ (l : Look). look (altered desk n (reviewed l.settings person approves))) same
+    ∙ altered_next desk events n (reviewed (settings_back events) person approves) (Review n person head approves) same refl (λ c. (refl, refl)) (λ c is. reviewed_next events c n person head approves)
+about_look desk events (Role person role) m at same unseen holds = cc at
+about_look desk events (Settings text) m at same unseen holds = cc at
+about_look desk events (Base commit) m at same unseen holds = cc at
+about_look desk events (Staged batch commit) m at same unseen holds = cc at
+about_look desk events (Conflict batch) m at same unseen holds = cc at
+about_look desk events (Status commit name state) m at same unseen holds = cc at
+about_look desk events (Refused batch) m at same unseen holds = cc at
+about_look desk events (Tick now) m at same unseen holds = cc at
+
+-- and its notices
+pub about_mild : (desk : DeskView) (events : List Event) (act : Act) → AreMild events (notices desk act)
+about_mild desk events (Pushed n head) = notice_mild events _ n why.Pushed refl
+about_mild desk events (Closed n) = notice_mild events _ n why.Closed refl
+about_mild desk events (Labeled n label) = notice_mild events _ n why.Labeled refl
+about_mild desk events (Review n person head approves) = notice_mild events _ n why.Reviews refl
+about_mild desk events (Spoken n person spoken) = tt
+about_mild desk events (Role person role) = tt
+about_mild desk events (Settings text) = tt
+about_mild desk events (Base commit) = tt
+about_mild desk events (Opened n author head) = tt
+about_mild desk events (Unlabeled n label) = tt
+about_mild desk events (Staged batch commit) = tt
+about_mild desk events (Conflict batch) = tt
+about_mild desk events (Status commit name state) = tt
+about_mild desk events (Refused batch) = tt
+about_mild desk events (Tick now) = tt

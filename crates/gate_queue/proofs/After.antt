@@ -7,11 +7,10 @@ use Rattle.gate_text.specs.Settings.{SettingsView}
 use Rattle.gate_rules.specs.Rules.{Texts, is_fit}
 use Rattle.gate_rules.specs.declared.change.Change.{Change}
 use Rattle.gate_rules.specs.declared.change.Phase.{Phase}
-use Rattle.gate_rules.specs.declared.change.Phase.TheVariants as phase
 use Rattle.gate_rules.specs.declared.change.Repeat.{Repeat}
 use Rattle.gate_rules.specs.View.{without_approval}
 use Rattle.gate_queue.specs.Acts.{on}
-use Rattle.gate_queue.specs.History.{Event, did, gave, last_of, said_on, author_said, author_back, head_said, moves_head, phase_said, priority_said, repeat_said, marked, label_said, labels_back, review_said, reviews_back, delegation_said, delegated, delegates_back, settings_back, fit_back, approval_said, ends_it, order_ends, ends, standing_back, approvers_back, change_of, change_back}
+use Rattle.gate_queue.specs.History.{Event, did, gave, last_of, said_on, author_said, author_back, head_said, moves_head, phase_said, phase_by, landing_back, landed_back, priority_said, repeat_said, marked, label_said, labels_back, review_said, reviews_back, delegation_said, delegated, delegates_back, settings_back, fit_back, approval_said, ends_it, order_ends, ends, standing_back, approvers_back, change_of, change_back}
 use Rattle.gate_queue.specs.declared.act.Act.{Act}
 use Rattle.gate_queue.specs.declared.reply.Order.{Order}
 
@@ -41,13 +40,21 @@ kept false true last so = cc (so refl)
 kept false false last so = refl
 
 -- a change that was opened, altered as the history has it
-altered_as : (alter : Change → Change) (was is : List ℕ → Change) (author : Option (List ℕ)) → ((a : List ℕ) → author ≡ Some a → alter (was a) ≡ is a)
+pub altered_as : (alter : Change → Change) (was is : List ℕ → Change) (author : Option (List ℕ)) → ((a : List ℕ) → author ≡ Some a → alter (was a) ≡ is a)
     → option_map alter (option_map was author) ≡ option_map is author
 altered_as alter was is None so = refl
 altered_as alter was is (Some a) so = ap Some (so a refl)
 
--- AFTER ONE MORE EVENT, under the settings of then
-module _ (events : List Event) (c : ℕ) (settings : Option SettingsView) (done : Option Act) where
+-- AFTER ONE MORE EVENT: what the history says then of other things than the change, as far as that touches it
+pub record Rest : Type 0 where
+  pub settings : Option SettingsView
+  pub landed : Bool
+  pub landing : Bool
+
+abbrev pub rest_back : List Event → ℕ → Rest
+rest_back events c = record { settings = settings_back events; landed = landed_back events c; landing = landing_back events c }
+
+module _ (events : List Event) (c : ℕ) (rest : Rest) (done : Option Act) where
   abbrev moves_after : Bool
   moves_after = option_map_or (moves_head c events) done false
 
@@ -55,7 +62,7 @@ module _ (events : List Event) (c : ℕ) (settings : Option SettingsView) (done 
   author_after = option_or (option_and_then author_said done) (author_back events c)
 
   abbrev pub phase_after : Phase
-  phase_after = unwrap_or (option_or (option_and_then phase_said done) (last_of (said_on c phase_said) events)) phase.Closed
+  phase_after = phase_by rest.landed (option_or (option_and_then phase_said done) (last_of (said_on c phase_said) events))
 
   abbrev pub priority_after : ℤ
   priority_after = unwrap_or (option_or (option_and_then priority_said done) (last_of (said_on c priority_said) events)) (pos 0)
@@ -73,12 +80,12 @@ module _ (events : List Event) (c : ℕ) (settings : Option SettingsView) (done 
   repeat_after = option_or (option_and_then repeat_said done) (last_of (said_on c repeat_said) events)
 
   abbrev pub fit_after : Bool
-  fit_after = is_fit settings phase_after labels_after reviews_after
+  fit_after = is_fit rest.settings phase_after labels_after reviews_after
 
 -- if it ends the approval, or doesn't
-module _ (events : List Event) (c : ℕ) (settings : Option SettingsView) (done : Option Act) (ending : Bool) where
+module _ (events : List Event) (c : ℕ) (rest : Rest) (done : Option Act) (ending : Bool) where
   abbrev fit_now : Bool
-  fit_now = fit_after events c settings done
+  fit_now = fit_after events c rest done
 
   abbrev standing_by : Bool
   standing_by = (is_some (option_and_then approval_said done) && fit_now) || ((not ending && fit_now) && standing_back events c)
@@ -90,98 +97,100 @@ module _ (events : List Event) (c : ℕ) (settings : Option SettingsView) (done 
   change_of_by author = record {
     author = author;
     head = unwrap_or (option_or (option_and_then head_said done) (last_of (said_on c head_said) events)) [];
-    phase = phase_after events c settings done;
-    priority = priority_after events c settings done;
-    labels = labels_after events c settings done;
-    reviews = reviews_after events c settings done;
-    delegates = delegates_after events c settings done;
+    phase = phase_after events c rest done;
+    priority = priority_after events c rest done;
+    labels = labels_after events c rest done;
+    reviews = reviews_after events c rest done;
+    delegates = delegates_after events c rest done;
     approved = approvers_by;
-    last = repeat_after events c settings done;
+    landing = rest.landing;
+    last = repeat_after events c rest done;
   }
 
   abbrev change_by : Option Change
-  change_by = option_map change_of_by (author_after events c settings done)
+  change_by = option_map change_of_by (author_after events c rest done)
 
 -- an act ends it by what it is
-module _ (events : List Event) (c : ℕ) (settings : Option SettingsView) (done : Option Act) where
+module _ (events : List Event) (c : ℕ) (rest : Rest) (done : Option Act) where
   abbrev ending_by : Bool
   ending_by = option_map_or (ends_it c events) done false
 
   abbrev pub approvers_after : Option (List (List ℕ))
-  approvers_after = approvers_by events c settings done ending_by
+  approvers_after = approvers_by events c rest done ending_by
 
   abbrev pub change_of_after : List ℕ → Change
-  change_of_after = change_of_by events c settings done ending_by
+  change_of_after = change_of_by events c rest done ending_by
 
   abbrev pub change_after : Option Change
-  change_after = change_by events c settings done ending_by
+  change_after = change_by events c rest done ending_by
 
 module _ (events : List Event) (c : ℕ) where
   -- AN EVENT THAT DID NOTHING TO THE CHANGE: an act elsewhere, and an order that ends no approval of it
-  untouched : approvers_after events c (settings_back events) None ≡ approvers_back events c
+  pub untouched : approvers_after events c (rest_back events c) None ≡ approvers_back events c
   untouched =
       goes_on true (fit_back events c) (standing_back events c) (last_of (said_on c approval_said) events)
       ∙ kept (fit_back events c) (standing_back events c) (last_of (said_on c approval_said) events) (standing_fit events c)
 
-  unaltered : change_after events c (settings_back events) None ≡ change_back events c
+  pub unaltered : change_after events c (rest_back events c) None ≡ change_back events c
   unaltered = λ i. option_map (λ author. record (change_of events c author) { approved = untouched i }) (author_back events c)
 
-  pub elsewhere : (act : Act) → on c act ≡ None → settings_back (did act ∷ events) ≡ settings_back events → change_back (did act ∷ events) c ≡ change_back events c
+  pub elsewhere : (act : Act) → on c act ≡ None → rest_back (did act ∷ events) c ≡ rest_back events c → change_back (did act ∷ events) c ≡ change_back events c
   elsewhere act none same = (λ i. change_after events c (same i) (none i)) ∙ unaltered
 
-  pub order_elsewhere : (order : Order) → order_ends c order ≡ false → change_back (gave order ∷ events) c ≡ change_back events c
-  order_elsewhere order goes = (λ i. change_by events c (settings_back events) None (goes i)) ∙ unaltered
+  pub order_elsewhere : (order : Order) → order_ends c order ≡ false → rest_back (gave order ∷ events) c ≡ rest_back events c → change_back (gave order ∷ events) c ≡ change_back events c
+  order_elsewhere order goes same = (λ i. change_by events c (same i) None (goes i)) ∙ unaltered
 
   -- and one that ends it
-  pub order_ended : (order : Order) → order_ends c order ≡ true → change_back (gave order ∷ events) c ≡ option_map without_approval (change_back events c)
-  order_ended order ending = (λ i. change_by events c (settings_back events) None (ending i)) ∙ by (author_back events c) where
-    by : (author : Option (List ℕ)) → option_map (change_of_by events c (settings_back events) None true) author ≡ option_map without_approval (option_map (change_of events c) author)
+  pub order_ended : (order : Order) → order_ends c order ≡ true → rest_back (gave order ∷ events) c ≡ rest_back events c
+      → change_back (gave order ∷ events) c ≡ option_map without_approval (change_back events c)
+  order_ended order ending same = (λ i. change_by events c (same i) None (ending i)) ∙ by (author_back events c) where
+    by : (author : Option (List ℕ)) → option_map (change_of_by events c (rest_back events c) None true) author ≡ option_map without_approval (option_map (change_of events c) author)
     by None = refl
     by (Some author) = refl
 
-  -- new settings: the approval goes on if the change is fit under them
-  pub unless_unfit : (settings : Option SettingsView) → approvers_after events c settings None ≡ cond (fit_after events c settings None) (approvers_back events c) None
-  unless_unfit settings = goes_on true (fit_after events c settings None) (standing_back events c) (last_of (said_on c approval_said) events)
+  -- new settings, or one that has landed: the approval goes on if the change is fit then
+  pub unless_unfit : (rest : Rest) → approvers_after events c rest None ≡ cond (fit_after events c rest None) (approvers_back events c) None
+  unless_unfit rest = goes_on true (fit_after events c rest None) (standing_back events c) (last_of (said_on c approval_said) events)
 
   -- AN ACT ON THE CHANGE
-  pub altered_here : (alter : Change → Change) (act : Act) → author_after events c (settings_back events) (Some act) ≡ author_back events c
-      → ((author : List ℕ) → author_back events c ≡ Some author → alter (change_of events c author) ≡ change_of_after events c (settings_back events) (Some act) author)
-      → option_map alter (change_back events c) ≡ change_after events c (settings_back events) (Some act)
+  pub altered_here : (alter : Change → Change) (act : Act) → author_after events c (rest_back events c) (Some act) ≡ author_back events c
+      → ((author : List ℕ) → author_back events c ≡ Some author → alter (change_of events c author) ≡ change_of_after events c (rest_back events c) (Some act) author)
+      → option_map alter (change_back events c) ≡ change_after events c (rest_back events c) (Some act)
   altered_here alter act author so =
-      altered_as alter (change_of events c) (change_of_after events c (settings_back events) (Some act)) (author_back events c) so
-      ∙ ap (option_map (change_of_after events c (settings_back events) (Some act))) (sym author)
+      altered_as alter (change_of events c) (change_of_after events c (rest_back events c) (Some act)) (author_back events c) so
+      ∙ ap (option_map (change_of_after events c (rest_back events c) (Some act))) (sym author)
 
   -- one that approves nothing
   pub silent : (act : Act) → approval_said act ≡ None
-      → approvers_after events c (settings_back events) (Some act) ≡ cond (not (ends_it c events act) && fit_after events c (settings_back events) (Some act)) (approvers_back events c) None
-  silent act none = rw none (goes_on (not (ends_it c events act)) (fit_after events c (settings_back events) (Some act)) (standing_back events c) _)
+      → approvers_after events c (rest_back events c) (Some act) ≡ cond (not (ends_it c events act) && fit_after events c (rest_back events c) (Some act)) (approvers_back events c) None
+  silent act none = rw none (goes_on (not (ends_it c events act)) (fit_after events c (rest_back events c) (Some act)) (standing_back events c) _)
 
   -- and ends the approval
-  pub ended : (act : Act) → approval_said act ≡ None → ends_it c events act ≡ true → approvers_after events c (settings_back events) (Some act) ≡ None
+  pub ended : (act : Act) → approval_said act ≡ None → ends_it c events act ≡ true → approvers_after events c (rest_back events c) (Some act) ≡ None
   ended act none ending =
-      silent act none ∙ ap (λ (b : Bool). cond (not b && fit_after events c (settings_back events) (Some act)) (approvers_back events c) None) ending
+      silent act none ∙ ap (λ (b : Bool). cond (not b && fit_after events c (rest_back events c) (Some act)) (approvers_back events c) None) ending
 
   -- or ends nothing, and leaves the change fit if it was
   pub stays : (act : Act) → approval_said act ≡ None → ends_it c events act ≡ false
-      → (fit_back events c ≡ true → fit_after events c (settings_back events) (Some act) ≡ true)
-      → approvers_after events c (settings_back events) (Some act) ≡ approvers_back events c
+      → (fit_back events c ≡ true → fit_after events c (rest_back events c) (Some act) ≡ true)
+      → approvers_after events c (rest_back events c) (Some act) ≡ approvers_back events c
   stays act none goes fit =
       silent act none
-      ∙ ap (λ (b : Bool). cond (not b && fit_after events c (settings_back events) (Some act)) (approvers_back events c) None) goes
-      ∙ kept (fit_after events c (settings_back events) (Some act)) (standing_back events c) _ (λ standing. fit (standing_fit events c standing))
+      ∙ ap (λ (b : Bool). cond (not b && fit_after events c (rest_back events c) (Some act)) (approvers_back events c) None) goes
+      ∙ kept (fit_after events c (rest_back events c) (Some act)) (standing_back events c) _ (λ standing. fit (standing_fit events c standing))
 
   -- a line that says nothing which is kept
-  pub quiet_line : (act : Act) → author_after events c (settings_back events) (Some act) ≡ author_back events c
-      → ((author : List ℕ) → change_of_after events c (settings_back events) (Some act) author ≡ record (change_of events c author) { approved = approvers_after events c (settings_back events) (Some act) })
-      → approvers_after events c (settings_back events) (Some act) ≡ approvers_back events c
-      → option_map (λ change. change) (change_back events c) ≡ change_after events c (settings_back events) (Some act)
+  pub quiet_line : (act : Act) → author_after events c (rest_back events c) (Some act) ≡ author_back events c
+      → ((author : List ℕ) → change_of_after events c (rest_back events c) (Some act) author ≡ record (change_of events c author) { approved = approvers_after events c (rest_back events c) (Some act) })
+      → approvers_after events c (rest_back events c) (Some act) ≡ approvers_back events c
+      → option_map (λ change. change) (change_back events c) ≡ change_after events c (rest_back events c) (Some act)
   quiet_line act author so approvers =
       altered_here (λ change. change) act author (λ a is. (λ i. record (change_of events c a) { approved = (sym approvers) i }) ∙ sym (so a))
 
   -- BY THE NUMBER: an act on one change, seen from this one
   pub by_number : (n : ℕ) (act : Act) (after : Option Change → Option Change)
-      → on c act ≡ cond (eqb c n) (Some act) None → settings_back (did act ∷ events) ≡ settings_back events
-      → (eqb c n ≡ true → after (change_back events c) ≡ change_after events c (settings_back events) (Some act))
+      → on c act ≡ cond (eqb c n) (Some act) None → rest_back (did act ∷ events) c ≡ rest_back events c
+      → (eqb c n ≡ true → after (change_back events c) ≡ change_after events c (rest_back events c) (Some act))
       → (b : Bool) → eqb c n ≡ b → cond b (after (change_back events c)) (change_back events c) ≡ change_back (did act ∷ events) c
   by_number n act after about same here true is =
       here is ∙ (λ i. change_after events c ((sym same) i) ((sym (about ∙ ap (λ (b : Bool). cond b (Some act) None) is)) i))

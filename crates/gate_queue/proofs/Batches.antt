@@ -4,15 +4,21 @@ use Rattle.std.proofs.lemmas.Bool.Decides.{nat_tests}
 use Rattle.std.proofs.lemmas.List.{length-take, length-drop}
 use Rattle.std.proofs.lemmas.List.Elements.{All-nil, All-cons, All-head, All-tail, All-append, All-take, All-drop, All-set, All-get_or}
 use Rattle.std.proofs.lemmas.Option.{slice_get_within, get_or_from_slice_get}
-use Rattle.std.specs.Cmp.Lexicographic.{slice_cmp}
-use Rattle.std.specs.FinMap.{get-empty}
+use Rattle.std.proofs.lemmas.Map.Text.{is_eq-slice_cmp}
+use Rattle.std.proofs.lemmas.Slice.Eq.{bytes_eq-Decides}
+use Rattle.std.specs.Cmp.Lexicographic.{slice_cmp, nat_list_cmp_total}
+use Rattle.std.specs.FinMap as finite
+use Rattle.std.specs.FinMap.{get-empty, get-insert}
 use Rattle.std.specs.List.{All}
 use Rattle.std.specs.Ordering.{nat_cmp}
+use Rattle.std.specs.Str.{bytes_eq}
 use Rattle.gate_text.specs.Settings.{SettingsView}
-use Rattle.gate_queue.specs.Lanes.{placed, fresh, retried, has_changes, back, only, left, with_change, with_joined, entered, joins, first_half, second_half, has_several, split_into, is_landing, loses, stops_running, enqueued, taken_out, running_taken, restarted, running_restarted, failed, running_failed, started, started_beside, staged}
+use Rattle.gate_queue.specs.Lanes.{placed, fresh, retried, has_changes, back, only, left, with_change, with_joined, entered, joins, first_half, second_half, has_several, split_into, is_landing, loses, stops_running, enqueued, taken_out, running_taken, restarted, running_restarted, failed, running_failed, started, started_beside, staged, requeued, running_requeued, with_report, reported, to_landing, landing}
+use Rattle.gate_queue.specs.Machine.{is_required}
 use Rattle.gate_queue.specs.State.{IsWaiting, IsUnderway, IsRunning}
 use Rattle.gate_queue.specs.declared.batch.Batch.{Batch}
 use Rattle.gate_queue.specs.declared.batch.Branch.TheVariants.{Staging}
+use Rattle.gate_queue.specs.declared.batch.Report.{Report}
 use Rattle.gate_queue.specs.declared.batch.Stage.{Stage}
 use Rattle.gate_queue.specs.declared.batch.Stage.TheVariants.{Waiting, Ordered, Staged, Landing}
 use Rattle.gate_queue.specs.declared.lane.Lane.{Lane}
@@ -92,22 +98,25 @@ taken_out_lane now settings lane stays number is = by lane.running is.running wh
     goes true = record { waiting = back_wait number (only stays batch) (left stays lane.waiting) runs.branch rest; running = tt }
     goes false = record { waiting = rest; running = runs }
 
--- No batch lands, so that none runs after a restart.
-pub not_landing : (now : ℕ) (settings : Option SettingsView) (at : Stage) → IsUnderway now settings at → is_landing at ≡ false
-not_landing now settings Waiting is = absurd is
-not_landing now settings (Ordered since) is = refl
-not_landing now settings (Staged since commit reports) is = refl
-not_landing now settings (Landing commit) is = absurd is
+-- After a restart none runs but one that is landing, to which neither the clock nor the settings matter.
+still_landing : (now later : ℕ) (settings others : Option SettingsView) (at : Stage) → is_landing at ≡ true → IsUnderway now settings at → IsUnderway later others at
+still_landing now later settings others Waiting lands is = absurd is
+still_landing now later settings others (Ordered since) lands is = cc lands
+still_landing now later settings others (Staged since commit reports) lands is = cc lands
+still_landing now later settings others (Landing commit) lands is = tt
 
 pub restarted_lane : (now later : ℕ) (settings others : Option SettingsView) (lane : Lane) (number : ℕ) → IsLane now settings lane → IsLane later others (restarted number lane)
 restarted_lane now later settings others lane number is = by lane.running is.running where
   by : (running : Option Batch) → IfSome running (IsRunning now settings) → IsLane later others (running_restarted number running lane.waiting)
   by None runs = record { waiting = is.waiting; running = tt }
-  by (Some batch) runs = goes (is_landing batch.stage) (not_landing now settings batch.stage runs.stage) where
-    goes : (lands : Bool) → lands ≡ false
+  by (Some batch) runs = goes (is_landing batch.stage) refl where
+    goes : (lands : Bool) → is_landing batch.stage ≡ lands
         → IsLane later others (cond (not lands) (record { running = None; waiting = back number batch lane.waiting }) (record { running = Some batch; waiting = lane.waiting }))
-    goes true is = cc is
-    goes false is' = record { waiting = back_wait number batch lane.waiting runs.branch is.waiting; running = tt }
+    goes true lands = record {
+      waiting = is.waiting;
+      running = record { branch = runs.branch; stage = still_landing now later settings others batch.stage lands runs.stage; changes = runs.changes };
+    }
+    goes false lands = record { waiting = back_wait number batch lane.waiting runs.branch is.waiting; running = tt }
 
 pub failed_lane : (now : ℕ) (settings : Option SettingsView) (lane : Lane) (number : ℕ) → IsLane now settings lane → IsLane now settings (failed number lane)
 failed_lane now settings lane number is = by lane.running is.running where
@@ -124,6 +133,12 @@ later_stage now later settings Waiting on is = is
 later_stage now later settings (Ordered since) on is = omega (arith, on, is)
 later_stage now later settings (Staged since commit reports) on is = (omega (arith, on, is.0), is.1)
 later_stage now later settings (Landing commit) on is = is
+
+pub later_lane : (now later : ℕ) (settings : Option SettingsView) (lane : Lane) → now ≤ later → IsLane now settings lane → IsLane later settings lane
+later_lane now later settings lane on is = record { waiting = is.waiting; running = by lane.running is.running } where
+  by : (running : Option Batch) → IfSome running (IsRunning now settings) → IfSome running (IsRunning later settings)
+  by None runs = tt
+  by (Some batch) runs = record { branch = runs.branch; stage = later_stage now later settings batch.stage on runs.stage; changes = runs.changes }
 
 pub started_lane : (now later : ℕ) (settings : Option SettingsView) (lane : Lane) → now ≤ later → IsLane now settings lane → IsLane later settings (started later lane)
 started_lane now later settings lane on is = by lane.running lane.waiting is.running is.waiting where
@@ -149,3 +164,45 @@ staged_lane now settings lane commit is = by lane.running is.running where
       changes = runs.changes;
     };
   }
+
+-- The running batch waits again with what is chosen of it.
+pub requeued_lane : (now later : ℕ) (settings others : Option SettingsView) (lane : Lane) (stays : ℕ → Bool) (number : ℕ) → IsLane now settings lane
+    → IsLane later others (requeued stays number lane)
+requeued_lane now later settings others lane stays number is = by lane.running is.running where
+  by : (running : Option Batch) → IfSome running (IsRunning now settings) → IsLane later others (running_requeued stays number running lane.waiting)
+  by None runs = record { waiting = is.waiting; running = tt }
+  by (Some batch) runs = record { waiting = back_wait number (only stays batch) lane.waiting runs.branch is.waiting; running = tt }
+
+-- A report of a required status is kept, and a batch that is tested is to land.
+reported_stage : (now : ℕ) (settings : Option SettingsView) (name : List ℕ) (report : Report) (at : Stage) → is_required settings name ≡ true → IsUnderway now settings at
+    → IsUnderway now settings (with_report name report at)
+reported_stage now settings name report Waiting required is = is
+reported_stage now settings name report (Ordered since) required is = is
+reported_stage now settings name report (Staged since commit reports) required is = (is.0, λ other some. here other (bytes_eq other name) refl some) where
+  here : (other : List ℕ) (b : Bool) → bytes_eq other name ≡ b → is_some (finite.get (finite.insert reports name report) other) ≡ true → is_required settings other ≡ true
+  here other true at some = ap (is_required settings) ((bytes_eq-Decides other name).0 at) ∙ required
+  here other false at some =
+      is.1 other (sym (ap is_some (get-insert nat_list_cmp_total reports name report other ∙ ap (λ (b : Bool). cond b (Some report) (finite.get reports other)) (is_eq-slice_cmp other name ∙ at))) ∙ some)
+reported_stage now settings name report (Landing commit) required is = is
+
+pub reported_lane : (now : ℕ) (settings : Option SettingsView) (lane : Lane) (name : List ℕ) (report : Report) → is_required settings name ≡ true → IsLane now settings lane
+    → IsLane now settings (reported name report lane)
+reported_lane now settings lane name report required is = by lane.running is.running where
+  by : (running : Option Batch) → IfSome running (IsRunning now settings) → IsLane now settings (reported name report (record { running = running; waiting = lane.waiting }))
+  by None runs = record { waiting = is.waiting; running = tt }
+  by (Some batch) runs = record {
+    waiting = is.waiting;
+    running = record { branch = runs.branch; stage = reported_stage now settings name report batch.stage required runs.stage; changes = runs.changes };
+  }
+
+landing_stage : (now : ℕ) (settings : Option SettingsView) (at : Stage) → IsUnderway now settings at → IsUnderway now settings (to_landing at)
+landing_stage now settings Waiting is = is
+landing_stage now settings (Ordered since) is = is
+landing_stage now settings (Staged since commit reports) is = tt
+landing_stage now settings (Landing commit) is = tt
+
+pub landing_lane : (now : ℕ) (settings : Option SettingsView) (lane : Lane) → IsLane now settings lane → IsLane now settings (landing lane)
+landing_lane now settings lane is = by lane.running is.running where
+  by : (running : Option Batch) → IfSome running (IsRunning now settings) → IsLane now settings (landing (record { running = running; waiting = lane.waiting }))
+  by None runs = record { waiting = is.waiting; running = tt }
+  by (Some batch) runs = record { waiting = is.waiting; running = record { branch = runs.branch; stage = landing_stage now settings batch.stage runs.stage; changes = runs.changes } }

@@ -1,13 +1,15 @@
--- The changes of a desk after one of them was altered.
-use Rattle.std.proofs.Common.{◌≡◌, ℕ, Bool, true, false, cond, List, Option, Some, None, eqb, refl, sym, ◌∙◌, ap}
+-- The changes of a desk after one of them was altered, or many.
+use Rattle.std.proofs.Common.{◌≡◌, ℕ, Bool, true, false, cond, ◌||◌, List, [], ◌∷◌, Option, Some, None, eqb, refl, sym, ◌∙◌, ap}
 use Rattle.std.proofs.lemmas.Bool.Decides.{Decides-eqb}
 use Rattle.std.specs.Cmp.{nat_cmp_total, unsigned_ties}
 use Rattle.std.specs.FinMap as finite
 use Rattle.std.specs.FinMap.{get-insert}
+use Rattle.std.specs.List.{list_any}
 use Rattle.std.specs.Option.{option_map}
+use Rattle.gate_rules.specs.Rules.{Look}
 use Rattle.gate_rules.specs.View.{DeskView, with_change, look}
 use Rattle.gate_rules.specs.declared.change.Change.{Change}
-use Rattle.gate_queue.specs.Machine.{with_altered, altered, opened}
+use Rattle.gate_queue.specs.Machine.{with_altered, altered, all_altered, opened}
 
 pub same_number : (c number : ℕ) → eqb c number ≡ true → c ≡ number
 same_number c number is = (Decides-eqb c number).0 is
@@ -56,3 +58,22 @@ pub opened_at : (desk : DeskView) (number : ℕ) (author head : List ℕ) (c : �
 opened_at desk number author head c =
     get-with_change desk number (opened author head (finite.get desk.changes number)) c
     ∙ opened_where author head (eqb c number) (finite.get desk.changes number) (finite.get desk.changes c) (λ same. ap (finite.get desk.changes) (sym (same_number c number same)))
+
+-- MANY CHANGES altered, by an alteration that does nothing more the second time
+twice : (alter : Change → Change) → ((change : Change) → alter (alter change) ≡ alter change) → (had : Option Change) → option_map alter (option_map alter had) ≡ option_map alter had
+twice alter same None = refl
+twice alter same (Some change) = ap Some (same change)
+
+pub all_look : (alter : Change → Change) → ((change : Change) → alter (alter change) ≡ alter change) → (changes : List ℕ) (desk : DeskView)
+    → look (all_altered alter desk changes)
+    ≡ record (look desk) { change = λ c. cond (list_any (eqb c) changes) (option_map alter (finite.get desk.changes c)) (finite.get desk.changes c) }
+all_look alter same [] desk = refl
+all_look alter same (n ∷ changes) desk =
+    all_look alter same changes (altered desk n alter)
+    ∙ ap (λ (s : Look). record s { change = λ c. cond (list_any (eqb c) changes) (option_map alter (s.change c)) (s.change c) }) (altered_look desk n alter)
+    ∙ (λ i. record (look desk) { change = λ c. step (eqb c n) (list_any (eqb c) changes) (finite.get desk.changes c) i }) where
+      step : (here rest : Bool) (had : Option Change)
+          → cond rest (option_map alter (cond here (option_map alter had) had)) (cond here (option_map alter had) had) ≡ cond (here || rest) (option_map alter had) had
+      step true true had = twice alter same had
+      step true false had = refl
+      step false rest had = refl

@@ -7,7 +7,7 @@ use Rattle.std.proofs.lemmas.Option.{slice_get_within, get_or_from_slice_get, sa
 use Rattle.std.specs.List.{sum_by, filter, list_all}
 use Rattle.std.specs.Bool.{then_some}
 use Rattle.std.specs.Option.{option_map, option_map_or, option_or}
-use Rattle.gate_queue.specs.Counts.{occurs, held_by, inside, held, in_running, in_landing, in_lone, LawOfEnqueue, LawOfTakeOut, LawOfRestart, LawOfStart, LawOfStage, LawOfRequeue, LawOfFail, LawOfDrop}
+use Rattle.gate_queue.specs.Counts.{occurs, held_by, inside, held, in_running, in_landing, in_lone, LawOfEnqueue, LawOfTakeOut, LawOfRestart, LawOfStart, LawOfStage, LawOfReport, LawOfLand, LawOfRequeue, LawOfFail, LawOfDrop}
 use Rattle.gate_queue.specs.Lanes as lanes
 use Rattle.gate_queue.specs.Lanes.{placed, retried, with_change, has_changes, back, only, left, half, first_half, second_half, split_into}
 use Rattle.gate_queue.specs.declared.batch.Batch.{Batch}
@@ -107,7 +107,7 @@ module _ (test : ℤ → Bool) (change : ℕ) where
       ∙ sum_by-set of waiting at new old (slice_get_within waiting at old is)
 
   -- the running batch apart
-  held_is : (lane : Lane) → held test change lane ≡ in_running test change lane + inside test change lane.waiting
+  pub held_is : (lane : Lane) → held test change lane ≡ in_running test change lane + inside test change lane.waiting
   held_is lane = by lane.running where
     by : (at : Option Batch) → held test change (record lane { running = at }) ≡ in_running test change (record lane { running = at }) + inside test change lane.waiting
     by None = omega arith
@@ -123,6 +123,18 @@ start_law test now change lane = by lane.running lane.waiting where
 pub stage_law : LawOfStage
 stage_law test now commit change lane = by lane.running where
   by : (at : Option Batch) → held test change (lanes.staged now commit (record lane { running = at })) ≡ held test change (record lane { running = at })
+  by None = refl
+  by (Some batch) = refl
+
+pub report_law : LawOfReport
+report_law test name report change lane = by lane.running where
+  by : (at : Option Batch) → held test change (lanes.reported name report (record lane { running = at })) ≡ held test change (record lane { running = at })
+  by None = refl
+  by (Some batch) = refl
+
+pub land_law : LawOfLand
+land_law test change lane = by lane.running where
+  by : (at : Option Batch) → held test change (lanes.landing (record lane { running = at })) ≡ held test change (record lane { running = at })
   by None = refl
   by (Some batch) = refl
 

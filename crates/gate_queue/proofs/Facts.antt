@@ -8,40 +8,41 @@ use Rattle.std.specs.Str.{bytes_eq}
 use Rattle.gate_text.specs.Settings.{SettingsView, settings_of}
 use Rattle.gate_rules.specs.Rules.{Texts, is_open_phase, is_fit}
 use Rattle.gate_rules.specs.declared.change.Phase.TheVariants as phase
-use Rattle.gate_queue.specs.History.{Event, did, last_of, said_on, author_back, head_back, phase_back, settings_back, labels_back, reviews_back, approval_said, standing_back, change_of, change_back}
+use Rattle.gate_queue.specs.History.{Event, did, last_of, said_on, author_back, head_back, phase_by, phase_back, landed_back, settings_back, labels_back, reviews_back, approval_said, standing_back, change_of, change_back}
 use Rattle.gate_queue.specs.Machine.{closed, pushed, moved_to, labeled, with_label, without_label, reviewed, with_review, opened, settled}
 use Rattle.gate_queue.specs.declared.act.Act.TheVariants.{Settings, Opened, Pushed, Closed, Labeled, Unlabeled, Review}
-use Rattle.gate_queue.proofs.After.{change_after, change_of_after, altered_here, silent, ended, stays, standing_fit, unless_unfit, elsewhere}
+use Rattle.gate_queue.proofs.After.{Rest, rest_back, change_after, change_of_after, altered_here, silent, ended, stays, standing_fit, unless_unfit, elsewhere}
 use Rattle.gate_queue.proofs.Fitness.{still_fit, opened_so, labeled_approval, reviewed_approval, settled_as_fit}
-use Rattle.gate_queue.proofs.Unseen.{Unseen}
+use Rattle.gate_queue.proofs.Unseen.{Unseen, blank_landing}
 
 module _ (events : List Event) (c n : ℕ) where
-  pub closed_next : option_map closed (change_back events c) ≡ change_after events c (settings_back events) (Some (Closed n))
-  closed_next =
+  -- a change that is closed was open, so it hasn't landed
+  pub closed_next : landed_back events c ≡ false → option_map closed (change_back events c) ≡ change_after events c (rest_back events c) (Some (Closed n))
+  closed_next here =
       altered_here events c closed (Closed n) refl
-      (λ author is. λ i. record (closed (change_of events c author)) { approved = (sym (ended events c (Closed n) refl refl)) i })
+      (λ author is. λ i. record (closed (change_of events c author)) { phase = phase_by ((sym here) i) (Some phase.Closed); approved = (sym (ended events c (Closed n) refl refl)) i })
 
-  pub labeled_next : (label : List ℕ) → option_map (labeled (settings_back events) label) (change_back events c) ≡ change_after events c (settings_back events) (Some (Labeled n label))
+  pub labeled_next : (label : List ℕ) → option_map (labeled (settings_back events) label) (change_back events c) ≡ change_after events c (rest_back events c) (Some (Labeled n label))
   labeled_next label =
       let act = Labeled n label in
       altered_here events c (labeled (settings_back events) label) act refl (λ author is.
       labeled_approval (standing_back events c) (last_of (said_on c approval_said) events) (with_label label (change_of events c author)) (settings_back events) (labels_back events c) (standing_fit events c)
-      ∙ (λ i. record (change_of_after events c (settings_back events) (Some act) author) { approved = (sym (silent events c act refl)) i }))
+      ∙ (λ i. record (change_of_after events c (rest_back events c) (Some act) author) { approved = (sym (silent events c act refl)) i }))
 
   pub reviewed_next : (person head : List ℕ) (approves : Bool)
-      → option_map (reviewed (settings_back events) person approves) (change_back events c) ≡ change_after events c (settings_back events) (Some (Review n person head approves))
+      → option_map (reviewed (settings_back events) person approves) (change_back events c) ≡ change_after events c (rest_back events c) (Some (Review n person head approves))
   reviewed_next person head true =
       let act = Review n person head true in
       altered_here events c (reviewed (settings_back events) person true) act refl (λ author is.
       reviewed_approval (standing_back events c) (last_of (said_on c approval_said) events) (with_review person true (change_of events c author)) (settings_back events) (reviews_back events c) (standing_fit events c)
-      ∙ (λ i. record (change_of_after events c (settings_back events) (Some act) author) { approved = (sym (silent events c act refl)) i }))
+      ∙ (λ i. record (change_of_after events c (rest_back events c) (Some act) author) { approved = (sym (silent events c act refl)) i }))
   reviewed_next person head false =
       let act = Review n person head false in
       altered_here events c (reviewed (settings_back events) person false) act refl (λ author is.
       reviewed_approval (standing_back events c) (last_of (said_on c approval_said) events) (with_review person false (change_of events c author)) (settings_back events) (reviews_back events c) (standing_fit events c)
-      ∙ (λ i. record (change_of_after events c (settings_back events) (Some act) author) { approved = (sym (silent events c act refl)) i }))
+      ∙ (λ i. record (change_of_after events c (rest_back events c) (Some act) author) { approved = (sym (silent events c act refl)) i }))
 
-  pub unlabeled_next : (label : List ℕ) → option_map (without_label label) (change_back events c) ≡ change_after events c (settings_back events) (Some (Unlabeled n label))
+  pub unlabeled_next : (label : List ℕ) → option_map (without_label label) (change_back events c) ≡ change_after events c (rest_back events c) (Some (Unlabeled n label))
   unlabeled_next label =
       let act = Unlabeled n label in
       let fit = still_fit (settings_back events) (phase_back events c) (labels_back events c) (reviews_back events c) label in
@@ -49,7 +50,7 @@ module _ (events : List Event) (c n : ℕ) where
       (λ author is. λ i. record (without_label label (change_of events c author)) { approved = (sym (stays events c act refl refl fit)) i })
 
   pushed_here : (head : List ℕ) (author : List ℕ) (b : Bool) → bytes_eq (head_back events c) head ≡ b
-      → cond b (change_of events c author) (moved_to head (change_of events c author)) ≡ change_of_after events c (settings_back events) (Some (Pushed n head)) author
+      → cond b (change_of events c author) (moved_to head (change_of events c author)) ≡ change_of_after events c (rest_back events c) (Some (Pushed n head)) author
   pushed_here head author true had =
       let act = Pushed n head in
       let moving = ap not had in
@@ -63,35 +64,36 @@ module _ (events : List Event) (c n : ℕ) where
       let reviews = ap (λ (b : Bool). cond b set.empty (reviews_back events c)) moving in
       λ i. record (moved_to head (change_of events c author)) { reviews = (sym reviews) i; approved = (sym (ended events c act refl moving)) i }
 
-  pub pushed_next : (head : List ℕ) → option_map (pushed head) (change_back events c) ≡ change_after events c (settings_back events) (Some (Pushed n head))
+  pub pushed_next : (head : List ℕ) → option_map (pushed head) (change_back events c) ≡ change_after events c (rest_back events c) (Some (Pushed n head))
   pushed_next head = altered_here events c (pushed head) (Pushed n head) refl (λ author is. pushed_here head author _ refl)
 
   -- A change that was never opened has nothing but what a new one has, and one that is opened again wasn't open.
-  module _ (author head : List ℕ) (unseen : Unseen events c) (shut : is_open_phase (phase_back events c) ≡ false) where
+  module _ (author head : List ℕ) (unseen : Unseen events c) (shut : is_open_phase (phase_back events c) ≡ false) (here : landed_back events c ≡ false) where
     none_standing : (standing : Bool) → standing_back events c ≡ standing → cond standing (last_of (said_on c approval_said) events) None ≡ None
     none_standing true is = cc (sym (opened_so (settings_back events) (phase_back events c) (labels_back events c) (reviews_back events c) (standing_fit events c is)) ∙ shut)
     none_standing false is = refl
 
     opened_from : (had : Option (List ℕ)) → author_back events c ≡ had
-        → opened author head (option_map (change_of events c) had) ≡ change_of_after events c (settings_back events) (Some (Opened n author head)) author
+        → opened author head (option_map (change_of events c) had) ≡ change_of_after events c (rest_back events c) (Some (Opened n author head)) author
     opened_from None is =
         let blank = unseen is in
         λ i. record {
           author = author;
           head = head;
-          phase = phase.Opened;
+          phase = phase_by ((sym here) i) (Some phase.Opened);
           priority = (sym blank.priority) i;
           labels = (sym blank.labels) i;
           reviews = set.empty;
           delegates = (sym blank.delegates) i;
           approved = (sym (ended events c (Opened n author head) refl refl)) i;
+          landing = (sym (blank_landing events c blank)) i;
           last = (sym blank.last) i;
         }
     opened_from (Some had) is =
         let approved = none_standing (standing_back events c) refl ∙ sym (ended events c (Opened n author head) refl refl) in
-        λ i. record (opened author head (Some (change_of events c had))) { approved = approved i }
+        λ i. record (opened author head (Some (change_of events c had))) { phase = phase_by ((sym here) i) (Some phase.Opened); approved = approved i }
 
-    pub opened_next : Some (opened author head (change_back events c)) ≡ change_after events c (settings_back events) (Some (Opened n author head))
+    pub opened_next : Some (opened author head (change_back events c)) ≡ change_after events c (rest_back events c) (Some (Opened n author head))
     opened_next = ap Some (opened_from (author_back events c) refl)
 
 -- new settings
@@ -99,14 +101,17 @@ module _ (events : List Event) (c : ℕ) (text : List ℕ) (settings : SettingsV
   pub taken_settings : settings_back (did (Settings text) ∷ events) ≡ Some settings
   taken_settings = ap (λ (r : Result SettingsView _). option_or (result_ok r) (settings_back events)) read
 
+  abbrev under : Option SettingsView → Rest
+  under other = record (rest_back events c) { settings = other }
+
   pub settled_next : option_map (settled settings) (change_back events c) ≡ change_back (did (Settings text) ∷ events) c
-  settled_next = settled_author (author_back events c) ∙ (λ i. change_after events c ((sym taken_settings) i) None) where
-    settled_author : (author : Option (List ℕ)) → option_map (settled settings) (option_map (change_of events c) author) ≡ option_map (change_of_after events c (Some settings) None) author
+  settled_next = settled_author (author_back events c) ∙ (λ i. change_after events c (under ((sym taken_settings) i)) None) where
+    settled_author : (author : Option (List ℕ)) → option_map (settled settings) (option_map (change_of events c) author) ≡ option_map (change_of_after events c (under (Some settings)) None) author
     settled_author None = refl
     settled_author (Some author) = ap Some
         (settled_as_fit (standing_back events c) (last_of (said_on c approval_said) events) (change_of events c author) settings
         (λ standing. opened_so (settings_back events) (phase_back events c) (labels_back events c) (reviews_back events c) (standing_fit events c standing))
-        ∙ (λ i. record (change_of events c author) { approved = (sym (unless_unfit events c (Some settings))) i }))
+        ∙ (λ i. record (change_of events c author) { approved = (sym (unless_unfit events c (under (Some settings)))) i }))
 
   pub unsettled_next : settings_back events ≡ Some settings → change_back events c ≡ change_back (did (Settings text) ∷ events) c
-  unsettled_next same = sym (elsewhere events c (Settings text) refl (taken_settings ∙ sym same))
+  unsettled_next same = sym (elsewhere events c (Settings text) refl (λ i. under ((taken_settings ∙ sym same) i)))

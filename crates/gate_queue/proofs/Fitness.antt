@@ -29,7 +29,7 @@ not_blocked : (label : Option (List ℕ)) → option_map Blocked label ≡ None 
 not_blocked None none = refl
 not_blocked (Some label) none = cc none
 
-unless_so : (b : Bool) (rule : Rule) → asks b rule ≡ None → b ≡ true
+pub unless_so : (b : Bool) (rule : Rule) → asks b rule ≡ None → b ≡ true
 unless_so true rule none = refl
 unless_so false rule none = cc none
 

@@ -1,5 +1,5 @@
 -- What the queue does by each act about a change, on every state.
-use Rattle.std.proofs.Common.{◌≡◌, ◌+◌, ℕ, ℤ, pos, eqb, Bool, true, false, not, ◌&&◌, cond, if◌then◌else◌, List, [], ◌∷◌, Option, Some, None, is_some, IfSome, refl, sym, ◌∙◌, ap, arith}
+use Rattle.std.proofs.Common.{◌≡◌, ◌+◌, ℕ, ℤ, pos, eqb, Bool, true, false, not, ◌&&◌, ◌||◌, cond, if◌then◌else◌, List, [], ◌∷◌, Option, Some, None, is_some, IfSome, refl, sym, ◌∙◌, ap, arith}
 use Rattle.std.proofs.lemmas.Bool.{not-true}
 use Rattle.std.proofs.lemmas.Bool.Decides.{nat_tests, Decides-eqb}
 use Rattle.std.proofs.lemmas.List.Elements.{All-head, All-tail}
@@ -14,21 +14,23 @@ use Rattle.gate_text.specs.Settings.{SettingsView}
 use Rattle.gate_text.specs.declared.command.Command.{Command}
 use Rattle.gate_text.specs.declared.command.Command.TheVariants.{Approve, ApproveFor}
 use Rattle.gate_text.specs.declared.command.Spoken.TheVariants.{Known}
-use Rattle.gate_rules.specs.Rules.{Look, first_failing, begins_with_rules, approval_rules, is_known, is_open, is_open_phase, is_approved, has_settings, has_base, permits, need}
+use Rattle.gate_rules.specs.Rules.{Look, first_failing, unless_landing, approval_rules, is_known, is_open, is_landing as is_landing_on, is_open_phase, is_approved, has_settings, has_base, permits, need}
 use Rattle.gate_rules.specs.View.{DeskView, without_approval, look}
 use Rattle.gate_rules.specs.declared.change.Change.{Change}
 use Rattle.gate_rules.specs.declared.change.Repeat.TheVariants as repeat
-use Rattle.gate_rules.specs.declared.rule.Rule.TheVariants.{UnknownChange, NotPermitted, NotOpen, NoSettings, NoBase, AlreadyApproved, AlreadyOpen}
-use Rattle.gate_queue.specs.Counts.{occurs, inside, held, held_by, of_any_priority}
+use Rattle.gate_rules.specs.declared.rule.Rule.TheVariants.{UnknownChange, NotPermitted, NotOpen, Landing, NoSettings, NoBase, AlreadyApproved, AlreadyOpen}
+use Rattle.gate_queue.specs.Counts.{occurs, inside, in_landing, held, held_by, of_any_priority}
 use Rattle.gate_queue.specs.Following.{with, without, has_head, ActByAct, LawOfTheQueue}
-use Rattle.gate_queue.specs.Lanes.{has_changes, only, left, taken_out, taken_out_uses}
-use Rattle.gate_queue.specs.Machine.{State, broken, denial, missing, effect, altered, approved_by, with_priority, opened, pushed, moved_to, closed, unless_against, labeled, with_label, without_label, reviewed, with_review, approved_on, priority_on, size_on, all_but, followed, followed_on, ends_approval}
+use Rattle.gate_queue.specs.Lanes.{has_changes, is_landing, loses, back, back_uses, only, left, taken_out, taken_out_uses}
+use Rattle.gate_queue.specs.Machine.{broken, denial, missing, effect, altered, approved_by, with_priority, opened, pushed, moved_to, closed, unless_against, labeled, with_label, without_label, reviewed, with_review, approved_on, priority_on, size_on, all_but, followed, followed_on, ends_approval, landing_on, with_delegates, with_author_as_delegate, without_delegates}
 use Rattle.gate_queue.specs.Queue as specs
 use Rattle.gate_queue.specs.State.{IsChange, IsWaiting, IsState}
 use Rattle.gate_queue.specs.declared.act.Act.{Act}
 use Rattle.gate_queue.specs.declared.act.Act.TheVariants.{Spoken, Opened}
 use Rattle.gate_queue.specs.declared.batch.Batch.{Batch}
+use Rattle.gate_queue.specs.declared.lane.Lane.{Lane}
 use Rattle.gate_queue.specs.declared.queue.Queue.{Queue}
+use Rattle.gate_queue.specs.declared.state.State.{State}
 use Rattle.gate_queue.proofs.Changes.{altered_look, opened_at}
 use Rattle.gate_queue.proofs.Fitness.{passed}
 use Rattle.gate_queue.proofs.Wording.{none_both}
@@ -55,18 +57,34 @@ none_left change (first ∷ waiting) all none =
     ap (λ (batch : Batch). cond (has_changes batch) (batch ∷ left (all_but change) waiting) (left (all_but change) waiting)) same
     ∙ rw was.changes (ap (λ (batches : List Batch). first ∷ batches) rest)
 
--- The running batch runs on, and no number is used.
-none_taken_lane : (change number : ℕ) (running : Option Batch) (waiting : List Batch) → All IsWaiting waiting → held of_any_priority change (record { running = running; waiting = waiting }) ≡ 0
+-- The running batch runs on, and no number is used. If the change is in it, it is landing.
+none_taken_lane : (change number : ℕ) (running : Option Batch) (waiting : List Batch) → All IsWaiting waiting
+    → held of_any_priority change (record { running = running; waiting = waiting }) ≡ in_landing of_any_priority change (record { running = running; waiting = waiting })
     → (taken_out (all_but change) number (record { running = running; waiting = waiting }) ≡ record { running = running; waiting = waiting })
     × (taken_out_uses (all_but change) (record { running = running; waiting = waiting }) ≡ 0)
 none_taken_lane change number None waiting all none = ((λ i. record { running = None; waiting = none_left change waiting all none i }), refl)
-none_taken_lane change number (Some batch) waiting all none =
-    let one = sum_by-cons (held_by of_any_priority change) batch waiting in
-    let stays = (all_others change batch.changes (omega (arith, one, none))).1 in
-    let rest = none_left change waiting all (omega (arith, one, none)) in
-    (rw stays (λ i. record { running = Some batch; waiting = rest i }), rw stays refl)
+none_taken_lane change number (Some batch) waiting all same = by (is_landing batch.stage) refl where
+  one : held of_any_priority change (record { running = Some batch; waiting = waiting }) ≡ occurs change batch.changes + inside of_any_priority change waiting
+  one = sum_by-cons (held_by of_any_priority change) batch waiting
 
-none_taken : (change : ℕ) (queue : Queue) → All IsWaiting queue.staging.waiting → held of_any_priority change queue.staging ≡ 0 → specs.taken_out (all_but change) queue ≡ queue
+  by : (lands : Bool) → is_landing batch.stage ≡ lands
+      → (taken_out (all_but change) number (record { running = Some batch; waiting = waiting }) ≡ record { running = Some batch; waiting = waiting })
+      × (taken_out_uses (all_but change) (record { running = Some batch; waiting = waiting }) ≡ 0)
+  by true lands =
+      let rest = none_left change waiting all (omega (arith, one, same ∙ ap {B = ℕ} (λ (b : Bool). if b then occurs change batch.changes else 0) lands)) in
+      rw lands (on (loses (all_but change) batch) rest) where
+        on : (b : Bool) → left (all_but change) waiting ≡ waiting
+            → (if◌then◌else◌ {A = Lane} (b && not true) (record { running = None; waiting = back number (only (all_but change) batch) (left (all_but change) waiting) }) (record { running = Some batch; waiting = left (all_but change) waiting }) ≡ record { running = Some batch; waiting = waiting })
+            × ((if b && not true then back_uses (only (all_but change) batch) else 0) ≡ 0)
+        on true rest = ((λ i. record { running = Some batch; waiting = rest i }), refl)
+        on false rest = ((λ i. record { running = Some batch; waiting = rest i }), refl)
+  by false lands =
+      let none = same ∙ ap {B = ℕ} (λ (b : Bool). if b then occurs change batch.changes else 0) lands in
+      let stays = (all_others change batch.changes (omega (arith, one, none))).1 in
+      let rest = none_left change waiting all (omega (arith, one, none)) in
+      (rw stays (λ i. record { running = Some batch; waiting = rest i }), rw stays refl)
+
+none_taken : (change : ℕ) (queue : Queue) → All IsWaiting queue.staging.waiting → held of_any_priority change queue.staging ≡ in_landing of_any_priority change queue.staging → specs.taken_out (all_but change) queue ≡ queue
 none_taken change queue all none =
     let same = none_taken_lane change queue.next queue.staging.running queue.staging.waiting all none in
     let used : queue.next + taken_out_uses (all_but change) queue.staging ≡ queue.next = omega (arith, same.1) in
@@ -74,9 +92,10 @@ none_taken change queue all none =
 
 -- BY THE MARKS of the change before and after
 module _ (s : State) (change : ℕ) (is : IsState s) where
-  -- a change that isn't approved is taken out of nothing
+  -- a change that isn't approved is taken out of nothing: if it is in a batch, that is landing
   unapproved : approved_on s.desk change ≡ false → specs.taken_out (all_but change) s.queue ≡ s.queue
-  unapproved wasnt = none_taken change s.queue is.queue.waiting (is.queue.places change ∙ ap {B = ℕ} (λ (b : Bool). if b then 1 else 0) wasnt)
+  unapproved wasnt = none_taken change s.queue is.queue.waiting
+      (omega (arith, is.queue.places change ∙ ap {B = ℕ} (λ (b : Bool). if b || landing_on s.desk change then 1 else 0) wasnt, is.queue.landing change))
 
   -- an act that alters the change, if it is there
   module _ (alter : Change → Change) where
@@ -155,20 +174,21 @@ module _ (s : State) (change : ℕ) (is : IsState s) where
   holds_by : (act : Act) → denial s act ≡ None → broken (look s.desk) act ≡ None
   holds_by act holds = (none_both (missing s.queue act) (broken (look s.desk) act) holds).1
 
-  new_by : (person : List ℕ) (command : Command) → first_failing (begins_with_rules (look s.desk) person change command (approval_rules (look s.desk) change)) ≡ None
+  new_by : (person : List ℕ) (command : Command) → first_failing (unless_landing (look s.desk) person change command (approval_rules (look s.desk) change)) ≡ None
       → (is_known (look s.desk) change ≡ true) × (approved_on s.desk change ≡ false)
   new_by person command holds =
       let l = look s.desk in
       let known = passed (is_known l change) UnknownChange _ holds in
       let permitted = passed (permits l person change command) (NotPermitted (need l change command)) _ known.1 in
       let opened = passed (is_open l change) NotOpen _ permitted.1 in
-      let settings = passed (has_settings l) NoSettings _ opened.1 in
+      let free = passed (not (is_landing_on l change)) Landing _ opened.1 in
+      let settings = passed (has_settings l) NoSettings _ free.1 in
       let base = passed (has_base l) NoBase _ settings.1 in
       let fresh = passed (not (is_approved l change)) AlreadyApproved _ base.1 in
       (known.0, not-true (is_approved l change) fresh.0)
 
   approves_by : (command : Command) (person : List ℕ) (alter : Change → Change) → ((c : Change) → (alter c).priority ≡ c.priority) → ((c : Change) → is_some (alter c).approved ≡ true)
-      → first_failing (begins_with_rules (look s.desk) person change command (approval_rules (look s.desk) change)) ≡ None
+      → first_failing (unless_landing (look s.desk) person change command (approval_rules (look s.desk) change)) ≡ None
       → followed_on s.desk (altered s.desk change alter) change s.queue ≡ with s change
   approves_by command person alter same some holds =
       let new = new_by person command holds in
@@ -232,6 +252,25 @@ module _ (s : State) (change : ℕ) (is : IsState s) where
     on true some = cc some
     on false some = some
 
+  -- one that leaves the approval and the priority leaves the queue
+  quiet_by : (alter : Change → Change) → ((c : Change) → (alter c).priority ≡ c.priority) → ((c : Change) → (alter c).approved ≡ c.approved)
+      → followed_on s.desk (altered s.desk change alter) change s.queue ≡ s.queue
+  quiet_by alter same approved = kept_followed alter same (λ c some. ap is_some (sym (approved c)) ∙ some) ∙ by (finite.get s.desk.changes change) where
+    on : (b : Bool) → (if b && not b then without s change else s.queue) ≡ s.queue
+    on true = refl
+    on false = refl
+
+    by : (had : Option Change) → (if option_map_or (ends_approval alter) had false then without s change else s.queue) ≡ s.queue
+    by None = refl
+    by (Some c) = ap (λ (o : Option (List (List ℕ))). if is_some c.approved && not (is_some o) then without s change else s.queue) (approved c) ∙ on (is_some c.approved)
+
+  -- and so does one that does nothing
+  kept_quiet : followed_on s.desk s.desk change s.queue ≡ s.queue
+  kept_quiet = (λ i. followed (approved_on s.desk change) (approved_on s.desk change) (not ((signed_Decides (priority_on s.desk change) (priority_on s.desk change)).1 refl i)) (size_on s.desk) (priority_on s.desk change) change s.queue) ∙ by (approved_on s.desk change) where
+    by : (b : Bool) → followed b b false (size_on s.desk) (priority_on s.desk change) change s.queue ≡ s.queue
+    by true = refl
+    by false = refl
+
   unlabeled_by : (label : List ℕ) → followed_on s.desk (altered s.desk change (without_label label)) change s.queue ≡ s.queue
   unlabeled_by label = kept_followed (without_label label) (λ c. refl) (λ c some. some) ∙ by (finite.get s.desk.changes change) where
     on : (b : Bool) → (if b && not b then without s change else s.queue) ≡ s.queue
@@ -272,8 +311,12 @@ module _ (s : State) (change : ℕ) (is : IsState s) where
     labeled = λ label holds. kept_followed (labeled s.desk.settings label) (λ c. against_same _ s.desk.settings (with_label label c)) (λ c some. against_fewer _ s.desk.settings (with_label label c) some);
     reviewed = λ person head approves holds.
         kept_followed (reviewed s.desk.settings person approves) (λ c. against_same _ s.desk.settings (with_review person approves c)) (λ c some. against_fewer _ s.desk.settings (with_review person approves c) some);
+    ping = λ person holds. kept_quiet;
+    delegate_author = λ person holds. quiet_by with_author_as_delegate (λ c. refl) (λ c. refl);
+    delegate_to = λ person names holds. quiet_by (with_delegates names) (λ c. refl) (λ c. refl);
+    delegate_none = λ person holds. quiet_by without_delegates (λ c. refl) (λ c. refl);
     opened = λ author head holds.
-        opened_by author head (not-true (is_open (look s.desk) change) (passed (not (is_open (look s.desk) change)) AlreadyOpen [] (holds_by (Opened change author head) holds)).0);
+        opened_by author head (not-true (is_open (look s.desk) change) (passed (not (is_open (look s.desk) change)) AlreadyOpen _ (holds_by (Opened change author head) holds)).0);
     unlabeled = λ label holds. unlabeled_by label;
   }
 

@@ -1,21 +1,27 @@
 -- What an act does to the numbers of waiting batches: only new ones are used.
-use Rattle.std.proofs.Common.{◌≤◌, ◌+◌, ◌&&◌, ℕ, ℤ, leb, ltb, Bool, true, false, cond, if◌then◌else◌, Option, Some, None, Result, Ok, Err, is_some, arith}
+use Rattle.std.proofs.Common.{◌≤◌, ◌+◌, ◌&&◌, ℕ, ℤ, leb, ltb, Bool, true, false, cond, if◌then◌else◌, List, Option, Some, None, Result, Ok, Err, is_some, arith}
 use Rattle.std.proofs.lemmas.Bool.Decides.{nat_tests}
 use Rattle.gate_text.specs.Settings.{SettingsView, settings_of}
 use Rattle.gate_text.specs.declared.settings.fault.SettingsFault.{SettingsFault}
-use Rattle.gate_rules.specs.View.{DeskView}
+use Rattle.gate_rules.specs.View.{with_clock}
 use Rattle.gate_queue.specs.Counts.{uses}
-use Rattle.gate_queue.specs.Lanes.{joins, has_changes, has_several, back_uses, stops_running, running_back_uses, loses, only, taken_out_uses, restarted_uses, failed_uses}
-use Rattle.gate_queue.specs.Machine.{State, effect, followed, followed_on, all_but, resettled, settled_queue, are_present, with_new_settings, queue_after}
+use Rattle.gate_queue.specs.Lanes.{joins, has_changes, has_several, back_uses, stops_running, running_back_uses, loses, only, taken_out_uses, restarted_uses, requeued_uses, failed_uses}
+use Rattle.gate_queue.specs.Machine.{followed, all_but, quiet, then_next, with_desk, with_queue, about, under, accepted, are_present, failing, is_required, has_passed, to_land, if_passed, goes_on, told_of, told, has_overdue, timed_out, starting, done}
 use Rattle.gate_queue.specs.Queue as specs
 use Rattle.gate_queue.specs.Service.{OnlyNew}
 use Rattle.gate_queue.specs.declared.act.Act.{Act}
-use Rattle.gate_queue.specs.declared.act.Act.TheVariants.{Spoken, Role, Settings, Base, Opened, Pushed, Closed, Labeled, Unlabeled, Review, Staged, Conflict, Tick}
+use Rattle.gate_queue.specs.declared.act.Act.TheVariants.{Spoken, Role, Settings, Base, Opened, Pushed, Closed, Labeled, Unlabeled, Review, Staged, Conflict, Status, Refused, Tick}
+use Rattle.gate_queue.specs.declared.act.StatusState.{StatusState}
+use Rattle.gate_queue.specs.declared.act.StatusState.TheVariants.{Success, Failure, Error, Pending}
 use Rattle.gate_queue.specs.declared.batch.Batch.{Batch}
 use Rattle.gate_queue.specs.declared.batch.Branch.TheVariants.{Staging}
+use Rattle.gate_queue.specs.declared.batch.Report.{Report}
+use Rattle.gate_queue.specs.declared.batch.Report.TheVariants as report
 use Rattle.gate_queue.specs.declared.lane.Lane.{Lane}
 use Rattle.gate_queue.specs.declared.queue.Queue.{Queue}
-use Rattle.gate_queue.proofs.Numbers.{enqueue_new, take_out_new, restart_new, fail_new, start_new, stage_new}
+use Rattle.gate_queue.specs.declared.reply.Why.TheVariants as why
+use Rattle.gate_queue.specs.declared.state.State.{State}
+use Rattle.gate_queue.proofs.Numbers.{enqueue_new, take_out_new, restart_new, requeue_new, fail_new, start_new, stage_new, report_new, land_new}
 
 -- Up to so many numbers from the next one on are used.
 pub record Grows (count : ℕ) (was is : Queue) : Type 0 where
@@ -23,10 +29,10 @@ pub record Grows (count : ℕ) (was is : Queue) : Type 0 where
   pub few : is.next ≤ was.next + count
   pub waiting : (number : ℕ) → uses number is.staging.waiting ≤ uses number was.staging.waiting + (if leb was.next number && ltb number is.next then 1 else 0)
 
-same_grows : (count : ℕ) (queue : Queue) → Grows count queue queue
+pub same_grows : (count : ℕ) (queue : Queue) → Grows count queue queue
 same_grows count queue = record { next = omega arith; few = omega arith; waiting = λ number. omega arith }
 
-both_grow : {a b c : Queue} → Grows 1 a b → Grows 1 b c → Grows 2 a c
+both_grow : {few more : ℕ} {a b c : Queue} → Grows few a b → Grows more b c → Grows (few + more) a c
 both_grow first second = record {
   next = omega (arith, first.next, second.next);
   few = omega (arith, first.few, second.few);
@@ -38,8 +44,8 @@ both_grow first second = record {
       grind (arith, nat_tests);
 }
 
-more_grows : {a b : Queue} → Grows 1 a b → Grows 2 a b
-more_grows one = record { next = one.next; few = omega (arith, one.few); waiting = one.waiting }
+pub more_grows : {few : ℕ} (more : ℕ) → few ≤ more → {a b : Queue} → Grows few a b → Grows more a b
+more_grows more less one = record { next = one.next; few = omega (arith, less, one.few); waiting = one.waiting }
 
 lane_grows : (count : ℕ) (queue : Queue) (lane : Lane) (used : ℕ) → OnlyNew queue.next used queue.staging lane → used ≤ count → Grows count queue (specs.with_lane Staging lane used queue)
 lane_grows count queue lane used new few = record { next = omega arith; few = omega (arith, few); waiting = new.waiting }
@@ -71,6 +77,12 @@ few_restarted lane = by lane.running where
   by None = omega arith
   by (Some batch) = few_back true batch batch
 
+few_requeued : (stays : ℕ → Bool) (lane : Lane) → requeued_uses stays lane ≤ 1
+few_requeued stays lane = by lane.running where
+  by : (running : Option Batch) → requeued_uses stays (record { running = running; waiting = lane.waiting }) ≤ 1
+  by None = omega arith
+  by (Some batch) = one_or_none (has_changes (only stays batch)) 1 (omega arith)
+
 few_failed : (lane : Lane) → failed_uses lane ≤ 2
 few_failed lane = by lane.running where
   two : (b : Bool) → (if b then 2 else 0) ≤ 2
@@ -91,35 +103,90 @@ module _ (queue : Queue) where
   restarted_grows : Grows 1 queue (specs.restarted Staging queue)
   restarted_grows = lane_grows 1 queue _ _ (restart_new queue.next queue.staging) (few_restarted queue.staging)
 
+  pub requeued_grows : (stays : ℕ → Bool) → Grows 1 queue (specs.requeued Staging stays queue)
+  requeued_grows stays = lane_grows 1 queue _ _ (requeue_new queue.next queue.staging stays) (few_requeued stays queue.staging)
+
+  pub failed_grows : Grows 2 queue (specs.failed Staging queue)
+  failed_grows = lane_grows 2 queue _ _ (fail_new queue.next queue.staging) (few_failed queue.staging)
+
+  started_grows : (now : ℕ) → Grows 0 queue (specs.started Staging now queue)
+  started_grows now = lane_grows 0 queue _ 0 (start_new queue.next queue.staging now) (omega arith)
+
+  pub staged_grows : (now : ℕ) (commit : List ℕ) → Grows 0 queue (specs.staged Staging now commit queue)
+  staged_grows now commit = lane_grows 0 queue _ 0 (stage_new queue.next queue.staging now commit) (omega arith)
+
+  pub reported_grows : (name : List ℕ) (report : Report) → Grows 0 queue (specs.reported Staging name report queue)
+  reported_grows name report = lane_grows 0 queue _ 0 (report_new queue.next queue.staging name report) (omega arith)
+
+  landing_grows : Grows 0 queue (specs.landing Staging queue)
+  landing_grows = lane_grows 0 queue _ 0 (land_new queue.next queue.staging) (omega arith)
+
 followed_grows : (was is moved : Bool) (size : Option ℕ) (priority : ℤ) (change : ℕ) (queue : Queue) → Grows 2 queue (followed was is moved size priority change queue)
 followed_grows false false moved size priority change queue = same_grows 2 queue
-followed_grows false true moved size priority change queue = more_grows (enqueued_grows queue size priority change)
-followed_grows true false moved size priority change queue = more_grows (taken_out_grows queue (all_but change))
+followed_grows false true moved size priority change queue = more_grows 2 (omega arith) (enqueued_grows queue size priority change)
+followed_grows true false moved size priority change queue = more_grows 2 (omega arith) (taken_out_grows queue (all_but change))
 followed_grows true true false size priority change queue = same_grows 2 queue
 followed_grows true true true size priority change queue =
     both_grow (taken_out_grows queue (all_but change)) (enqueued_grows (specs.taken_out (all_but change) queue) size priority change)
 
-on_change_grows : (old new : DeskView) (change : ℕ) (queue : Queue) → Grows 2 queue (followed_on old new change queue)
-on_change_grows old new change queue = followed_grows _ _ _ _ _ change queue
+pub about_grows : (s : State) (change : ℕ) (act : Act) → Grows 2 s.queue (about s change act).state.queue
+about_grows s change act = followed_grows _ _ _ _ _ change s.queue
 
-settled_grows : (desk : DeskView) (read : Result SettingsView SettingsFault) (queue : Queue) → Grows 2 queue (settled_queue desk read queue)
-settled_grows desk (Err fault) queue = same_grows 2 queue
-settled_grows desk (Ok settings) queue = by (are_present desk settings) where
-  by : (b : Bool) → Grows 2 queue (cond b queue (resettled (with_new_settings desk settings) queue))
-  by true = same_grows 2 queue
-  by false = both_grow (taken_out_grows queue _) (restarted_grows (specs.taken_out _ queue))
+pub accepted_grows : (s : State) (read : Result SettingsView SettingsFault) → Grows 2 s.queue (accepted s read).state.queue
+accepted_grows s (Err fault) = same_grows 2 s.queue
+accepted_grows s (Ok settings) = by (are_present s.desk settings) where
+  by : (b : Bool) → Grows 2 s.queue (cond b (quiet s) (under settings s)).state.queue
+  by true = same_grows 2 s.queue
+  by false = both_grow (taken_out_grows s.queue _) (restarted_grows (specs.taken_out _ s.queue))
 
-pub queue_grows : (s : State) (act : Act) → Grows 2 s.queue (queue_after s act)
-queue_grows s (Spoken change person spoken) = on_change_grows s.desk (effect s.desk (Spoken change person spoken)) change s.queue
+-- a status
+if_passed_grows : (s : State) (running : Option Batch) → Grows 0 s.queue (if_passed s running).state.queue
+if_passed_grows s None = same_grows 0 s.queue
+if_passed_grows s (Some batch) = by (has_passed s.desk.settings batch.stage) where
+  by : (b : Bool) → Grows 0 s.queue (cond b (to_land batch s) (quiet s)).state.queue
+  by true = landing_grows s.queue
+  by false = same_grows 0 s.queue
+
+goes_on_grows : (s : State) (name : List ℕ) (report : Report) → Grows 2 s.queue (goes_on name report s).state.queue
+goes_on_grows s name report =
+    let after = with_queue s (specs.reported Staging name report s.queue) in
+    more_grows 2 (omega arith) (both_grow (reported_grows s.queue name report) (if_passed_grows after after.queue.staging.running))
+
+told_of_grows : (s : State) (name : List ℕ) (state : StatusState) → Grows 2 s.queue (told_of name state s).state.queue
+told_of_grows s name Success = goes_on_grows s name report.Success
+told_of_grows s name Pending = goes_on_grows s name report.Pending
+told_of_grows s name Failure = failed_grows s.queue
+told_of_grows s name Error = failed_grows s.queue
+
+told_grows : (s : State) (name : List ℕ) (state : StatusState) → Grows 2 s.queue (told name state s).state.queue
+told_grows s name state = by (is_required s.desk.settings name) where
+  by : (b : Bool) → Grows 2 s.queue (cond b (told_of name state s) (quiet s)).state.queue
+  by true = told_of_grows s name state
+  by false = same_grows 2 s.queue
+
+-- a tick
+timed_out_grows : (s : State) (now : ℕ) → Grows 2 s.queue (timed_out now s).state.queue
+timed_out_grows s now = by (has_overdue now s) where
+  by : (b : Bool) → Grows 2 s.queue (cond b (failing why.TimedOut s) (quiet s)).state.queue
+  by true = failed_grows s.queue
+  by false = same_grows 2 s.queue
+
+tick_grows : (s : State) (now : ℕ) → Grows 2 s.queue (then_next (timed_out now s) (starting now)).state.queue
+tick_grows s now = both_grow (timed_out_grows s now) (started_grows (timed_out now s).state.queue now)
+
+pub queue_grows : (s : State) (act : Act) → Grows 2 s.queue (done s act).state.queue
+queue_grows s (Spoken change person spoken) = about_grows s change (Spoken change person spoken)
 queue_grows s (Role person role) = same_grows 2 s.queue
-queue_grows s (Settings text) = settled_grows s.desk (settings_of text) s.queue
-queue_grows s (Base commit) = more_grows (restarted_grows s.queue)
-queue_grows s (Opened change author head) = on_change_grows s.desk (effect s.desk (Opened change author head)) change s.queue
-queue_grows s (Pushed change head) = on_change_grows s.desk (effect s.desk (Pushed change head)) change s.queue
-queue_grows s (Closed change) = on_change_grows s.desk (effect s.desk (Closed change)) change s.queue
-queue_grows s (Labeled change label) = on_change_grows s.desk (effect s.desk (Labeled change label)) change s.queue
-queue_grows s (Unlabeled change label) = on_change_grows s.desk (effect s.desk (Unlabeled change label)) change s.queue
-queue_grows s (Review change person head approves) = on_change_grows s.desk (effect s.desk (Review change person head approves)) change s.queue
-queue_grows s (Staged batch commit) = lane_grows 2 s.queue _ 0 (stage_new s.queue.next s.queue.staging s.desk.clock commit) (omega arith)
-queue_grows s (Conflict batch) = lane_grows 2 s.queue _ _ (fail_new s.queue.next s.queue.staging) (few_failed s.queue.staging)
-queue_grows s (Tick now) = lane_grows 2 s.queue _ 0 (start_new s.queue.next s.queue.staging now) (omega arith)
+queue_grows s (Settings text) = accepted_grows s (settings_of text)
+queue_grows s (Base commit) = more_grows 2 (omega arith) (requeued_grows s.queue _)
+queue_grows s (Opened change author head) = about_grows s change (Opened change author head)
+queue_grows s (Pushed change head) = about_grows s change (Pushed change head)
+queue_grows s (Closed change) = about_grows s change (Closed change)
+queue_grows s (Labeled change label) = about_grows s change (Labeled change label)
+queue_grows s (Unlabeled change label) = about_grows s change (Unlabeled change label)
+queue_grows s (Review change person head approves) = about_grows s change (Review change person head approves)
+queue_grows s (Staged batch commit) = more_grows 2 (omega arith) (staged_grows s.queue s.desk.clock commit)
+queue_grows s (Conflict batch) = failed_grows s.queue
+queue_grows s (Status commit name state) = told_grows s name state
+queue_grows s (Refused batch) = more_grows 2 (omega arith) (requeued_grows s.queue _)
+queue_grows s (Tick now) = tick_grows (with_desk s (with_clock s.desk now)) now

@@ -2,7 +2,7 @@
 use Rattle.std.proofs.Common.{◌≡◌, ◌≤◌, ℕ, ℤ, ◌+◌, eqb, ltb, Bool, true, false, List, [], ◌∷◌, if◌then◌else◌, Option, Some, None, ◌∙◌, ap, subst, arith}
 use Rattle.std.proofs.lemmas.Bool.Decides.{nat_tests}
 use Rattle.gate_queue.proofs.Counts.{sum-placed}
-use Rattle.gate_queue.proofs.Numbers.{has_number, all_uses, left_uses, enqueue_new, take_out_new, restart_new, stage_new, requeue_new, fail_new, start_new, drop_new}
+use Rattle.gate_queue.proofs.Numbers.{has_number, all_uses, left_uses, enqueue_new, take_out_new, restart_new, stage_new, report_new, land_new, requeue_new, fail_new, start_new, drop_new}
 use Rattle.gate_queue.proofs.Service.{behind_first, placed_in_service, left_in_service, joined_in_service}
 use Rattle.gate_queue.specs.Counts.{uses}
 use Rattle.gate_queue.specs.Lanes as lanes
@@ -102,5 +102,7 @@ order_law next lane h =
       fail = in_order next lane h _ _ (fail_new next lane) (failed_in_service next lane h lane.running);
       start = λ now. in_order_still next lane h _ (start_new next lane now) (started_in_service now lane.running lane.waiting h.service);
       stage = λ now commit. in_order_still next lane h _ (stage_new next lane now commit) h.service;
+      report = λ name report. in_order_still next lane h _ (report_new next lane name report) h.service;
+      land = in_order_still next lane h _ (land_new next lane) h.service;
       drop = in_order_still next lane h _ (drop_new next lane) h.service;
     }

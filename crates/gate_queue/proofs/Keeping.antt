@@ -1,94 +1,194 @@
--- What a state keeps, every act keeps.
-use Rattle.std.proofs.Common.{◌≡◌, ◌≤◌, ◌+◌, ℕ, ℤ, pos, eqb, ltb, Bool, true, false, not, ◌&&◌, if◌then◌else◌, List, [], ◌∷◌, length, slice_get, Option, Some, None, is_some, IfSome, refl, sym, ◌∙◌, ap, subst, arith}
+-- What a state keeps of its queue, every operation keeps.
+use Rattle.std.proofs.Common.{◌≡◌, ◌≤◌, ◌+◌, ℕ, ℤ, pos, eqb, ltb, Bool, true, false, not, ◌&&◌, ◌||◌, if◌then◌else◌, List, [], ◌∷◌, length, slice_get, Option, Some, None, is_some, IfSome, refl, sym, ◌∙◌, ap, subst, arith}
 use Rattle.std.proofs.lemmas.Bool.{not-true, not-false}
 use Rattle.std.proofs.lemmas.Bool.Decides.{nat_tests, Decides-eqb}
 use Rattle.std.proofs.lemmas.List.Sums.{sum_by-cons, sum_by-le-sum_by}
 use Rattle.std.specs.Cmp.{signed_Decides}
 use Rattle.std.specs.FinMap as finite
+use Rattle.std.specs.List.{list_any}
 use Rattle.std.specs.Option.{option_map_or}
 use Rattle.std.specs.Ordering.{int_eq}
 use Rattle.gate_rules.specs.View.{DeskView}
 use Rattle.gate_rules.specs.declared.change.Change.{Change}
-use Rattle.gate_queue.specs.Counts.{occurs, held, held_by, in_landing, in_lone, of_any_priority}
-use Rattle.gate_queue.specs.Lanes.{batches_of, has_several}
-use Rattle.gate_queue.specs.Machine.{approved_on, priority_on, size_on, all_but, lone, followed, followed_on}
+use Rattle.gate_queue.specs.Counts.{occurs, held, held_by, in_running, in_landing, in_lone, of_any_priority}
+use Rattle.gate_queue.specs.Lanes.{batches_of, has_several, is_landing, back, only, left, loses, stops_running, with_report, taken_out, restarted, requeued, failed, started, staged, reported, landing}
+use Rattle.gate_queue.specs.Machine.{approved_on, landing_on, priority_on, size_on, all_but, lone, followed, followed_on, is_required}
 use Rattle.gate_queue.specs.Queue as specs
 use Rattle.gate_queue.specs.Service.{IsInOrder}
-use Rattle.gate_queue.specs.State.{IsRunning, IsQueue, is_not}
+use Rattle.gate_queue.specs.State.{Marks, marks_on, IsRunning, IsQueue, is_not}
 use Rattle.gate_text.specs.Settings.{SettingsView}
 use Rattle.gate_queue.specs.declared.batch.Batch.{Batch}
 use Rattle.gate_queue.specs.declared.batch.Branch.TheVariants.{Staging}
+use Rattle.gate_queue.specs.declared.batch.Report.{Report}
+use Rattle.gate_queue.specs.declared.batch.Stage.{Stage}
+use Rattle.gate_queue.specs.declared.batch.Stage.TheVariants.{Waiting, Ordered, Staged, Landing}
 use Rattle.gate_queue.specs.declared.lane.Lane.{Lane}
 use Rattle.gate_queue.specs.declared.queue.Queue.{Queue}
-use Rattle.gate_queue.proofs.Batches.{IsLane, enqueued_lane, taken_out_lane, restarted_lane, failed_lane, started_lane, staged_lane, not_landing}
-use Rattle.gate_queue.proofs.Counts.{enqueue_law, take_out_law, restart_law, start_law, stage_law, fail_law}
+use Rattle.gate_queue.proofs.Batches.{IsLane, enqueued_lane, taken_out_lane, restarted_lane, requeued_lane, failed_lane, started_lane, later_lane, staged_lane, reported_lane, landing_lane}
+use Rattle.gate_queue.proofs.Counts.{held_is, enqueue_law, take_out_law, restart_law, requeue_law, start_law, stage_law, report_law, land_law, fail_law}
 use Rattle.gate_queue.proofs.InOrder.{order_law}
+
+abbrev once : Bool → ℕ
+once b = if b then 1 else 0
 
 -- COUNTS in a lane
 -- under some priorities a change isn't more often there than at all
-held_less : (test : ℤ → Bool) (change : ℕ) (lane : Lane) → held test change lane ≤ held of_any_priority change lane
-held_less test change lane = sum_by-le-sum_by (held_by test change) (held_by of_any_priority change) (batches_of lane) (λ batch. less (test batch.priority) (occurs change batch.changes)) where
-  less : (b : Bool) (n : ℕ) → (if b then n else 0) ≤ n
-  less true n = omega arith
-  less false n = omega arith
+less_of : (b : Bool) (n : ℕ) → (if b then n else 0) ≤ n
+less_of true n = omega arith
+less_of false n = omega arith
 
--- no batch lands
-none_landing : (now : ℕ) (settings : Option SettingsView) (test : ℤ → Bool) (change : ℕ) (running : Option Batch) (waiting : List Batch) → IfSome running (IsRunning now settings)
-    → in_landing test change (record { running = running; waiting = waiting }) ≡ 0
-none_landing now settings test change None waiting runs = refl
-none_landing now settings test change (Some batch) waiting runs = ap (λ (b : Bool). if b then held_by test change batch else 0) (not_landing now settings batch.stage runs.stage)
+held_less : (test : ℤ → Bool) (change : ℕ) (lane : Lane) → held test change lane ≤ held of_any_priority change lane
+held_less test change lane = sum_by-le-sum_by (held_by test change) (held_by of_any_priority change) (batches_of lane) (λ batch. less_of (test batch.priority) (occurs change batch.changes))
+
+landing_less : (test : ℤ → Bool) (change : ℕ) (lane : Lane) → in_landing test change lane ≤ in_landing of_any_priority change lane
+landing_less test change lane = by lane.running where
+  if_landing : (b : Bool) (few many : ℕ) → few ≤ many → (if b then few else 0) ≤ (if b then many else 0)
+  if_landing true few many less = less
+  if_landing false few many less = omega arith
+
+  by : (running : Option Batch) → in_landing test change (record lane { running = running }) ≤ in_landing of_any_priority change (record lane { running = running })
+  by None = omega arith
+  by (Some batch) = if_landing (is_landing batch.stage) _ _ (less_of (test batch.priority) (occurs change batch.changes))
+
+-- a batch that is landing runs, and a batch that runs is in the lane
+landing_runs : (test : ℤ → Bool) (change : ℕ) (lane : Lane) → in_landing test change lane ≤ in_running test change lane
+landing_runs test change lane = by lane.running where
+  by : (running : Option Batch) → in_landing test change (record lane { running = running }) ≤ in_running test change (record lane { running = running })
+  by None = omega arith
+  by (Some batch) = less_of (is_landing batch.stage) (held_by test change batch)
+
+landing_held : (test : ℤ → Bool) (change : ℕ) (lane : Lane) → in_landing test change lane ≤ held test change lane
+landing_held test change lane = omega (arith, landing_runs test change lane, held_is test change lane)
+
+-- whether the running batch is landing
+abbrev pub lands : Option Batch → Bool
+lands running = option_map_or (λ (batch : Batch). is_landing batch.stage) running false
+
+pub none_landing : (test : ℤ → Bool) (change : ℕ) (running : Option Batch) (waiting : List Batch) → lands running ≡ false → in_landing test change (record { running = running; waiting = waiting }) ≡ 0
+none_landing test change None waiting not_so = refl
+none_landing test change (Some batch) waiting not_so = ap {B = ℕ} (λ (b : Bool). if b then held_by test change batch else 0) not_so
+
+-- WHAT IS LANDING, after each operation
+module _ (test : ℤ → Bool) (change number : ℕ) (lane : Lane) where
+  abbrev beside : Option Batch → Lane
+  beside running = record { running = running; waiting = lane.waiting }
+
+  -- it goes back only if it isn't landing
+  goes_back : (batch rest : Batch) (waiting : List Batch) (goes : Bool)
+      → in_landing test change (if stops_running goes batch then record { running = None; waiting = back number rest waiting } else record { running = Some batch; waiting = waiting })
+      ≡ in_landing test change (beside (Some batch))
+  goes_back batch rest waiting goes = by goes (is_landing batch.stage) refl where
+    by : (b at : Bool) → is_landing batch.stage ≡ at
+        → in_landing test change (if b && not at then record { running = None; waiting = back number rest waiting } else record { running = Some batch; waiting = waiting })
+        ≡ in_landing test change (beside (Some batch))
+    by true true is = refl
+    by true false is = ap {B = ℕ} (λ (b : Bool). if b then held_by test change batch else 0) (sym is)
+    by false at is = refl
+
+  taken_out_landing : (stays : ℕ → Bool) → in_landing test change (taken_out stays number lane) ≡ in_landing test change lane
+  taken_out_landing stays = by lane.running where
+    by : (running : Option Batch) → in_landing test change (taken_out stays number (beside running)) ≡ in_landing test change (beside running)
+    by None = refl
+    by (Some batch) = goes_back batch (only stays batch) (left stays lane.waiting) (loses stays batch)
+
+  restarted_landing : in_landing test change (restarted number lane) ≡ in_landing test change lane
+  restarted_landing = by lane.running where
+    by : (running : Option Batch) → in_landing test change (restarted number (beside running)) ≡ in_landing test change (beside running)
+    by None = refl
+    by (Some batch) = goes_back batch batch lane.waiting true
+
+  requeued_landing : (stays : ℕ → Bool) → in_landing test change (requeued stays number lane) ≡ 0
+  requeued_landing stays = by lane.running where
+    by : (running : Option Batch) → in_landing test change (requeued stays number (beside running)) ≡ 0
+    by None = refl
+    by (Some batch) = refl
+
+  failed_landing : in_landing test change (failed number lane) ≡ 0
+  failed_landing = by lane.running where
+    by : (running : Option Batch) → in_landing test change (failed number (beside running)) ≡ 0
+    by None = refl
+    by (Some batch) = refl
+
+  started_landing : (now : ℕ) → in_landing test change (started now lane) ≡ in_landing test change lane
+  started_landing now = by lane.running lane.waiting where
+    by : (running : Option Batch) (waiting : List Batch) → in_landing test change (started now (record { running = running; waiting = waiting })) ≡ in_landing test change (record { running = running; waiting = waiting })
+    by None [] = refl
+    by None (batch ∷ waiting) = refl
+    by (Some batch) waiting = refl
+
+  staged_landing : (now : ℕ) (commit : List ℕ) → in_landing test change (staged now commit lane) ≡ 0
+  staged_landing now commit = by lane.running where
+    by : (running : Option Batch) → in_landing test change (staged now commit (beside running)) ≡ 0
+    by None = refl
+    by (Some batch) = refl
+
+  reported_landing : (name : List ℕ) (report : Report) → in_landing test change (reported name report lane) ≡ in_landing test change lane
+  reported_landing name report = by lane.running where
+    at : (batch : Batch) (stage : Stage) → (if is_landing (with_report name report stage) then held_by test change batch else 0) ≡ (if is_landing stage then held_by test change batch else 0)
+    at batch Waiting = refl
+    at batch (Ordered since) = refl
+    at batch (Staged since commit reports) = refl
+    at batch (Landing commit) = refl
+
+    by : (running : Option Batch) → in_landing test change (reported name report (beside running)) ≡ in_landing test change (beside running)
+    by None = refl
+    by (Some batch) = at batch batch.stage
 
 same_priority : (priority : ℤ) → is_not priority priority ≡ false
 same_priority priority = ap not ((signed_Decides priority priority).1 refl)
 
--- ONE OPERATION
-module _ (now : ℕ) (settings : Option SettingsView) (approved later : ℕ → Bool) (priority new : ℕ → ℤ) (queue : Queue) (is : IsQueue now settings approved priority queue) where
+-- ONE OPERATION, under the marks before and after
+module _ (now : ℕ) (settings : Option SettingsView) (old new : Marks) (queue : Queue) (is : IsQueue now settings old queue) where
   lane_is : IsLane now settings queue.staging
   lane_is = record { waiting = is.waiting; running = is.running }
 
-  -- a change is queued that wasn't approved
-  pub enqueued_keeps : (size : Option ℕ) (change : ℕ) → approved change ≡ false → later change ≡ true
-      → ((other : ℕ) → eqb other change ≡ false → (later other ≡ approved other) × (new other ≡ priority other))
-      → IsQueue now settings later new (specs.enqueued size (new change) change queue)
-  enqueued_keeps size change wasnt is' others =
-      let lane = enqueued_lane now settings queue.staging size queue.next (new change) change lane_is in
+  -- a change is queued that was neither approved nor landing
+  pub enqueued_keeps : (size : Option ℕ) (change : ℕ) → (old.approved change || old.landing change) ≡ false → new.approved change ≡ true
+      → ((other : ℕ) → eqb other change ≡ false → (new.approved other ≡ old.approved other) × (new.priority other ≡ old.priority other))
+      → ((other : ℕ) → new.landing other ≡ old.landing other)
+      → IsQueue now settings new (specs.enqueued size (new.priority change) change queue)
+  enqueued_keeps size change wasnt is' others lands_as =
+      let lane = enqueued_lane now settings queue.staging size queue.next (new.priority change) change lane_is in
       record {
-        order = (order_law queue.next queue.staging is.order).enqueue size (new change) change;
+        order = (order_law queue.next queue.staging is.order).enqueue size (new.priority change) change;
         waiting = lane.waiting;
         running = lane.running;
         trying = is.trying;
-        places = λ other. enqueue_law of_any_priority size queue.next (new change) change other queue.staging ∙ placed_at other (eqb other change) refl;
-        priorities = λ other. enqueue_law (is_not (new other)) size queue.next (new change) change other queue.staging ∙ priced_at other (eqb other change) refl;
+        places = λ other. enqueue_law of_any_priority size queue.next (new.priority change) change other queue.staging ∙ placed_at other (eqb other change) refl;
+        priorities = λ other. enqueue_law (is_not (new.priority other)) size queue.next (new.priority change) change other queue.staging ∙ priced_at other (eqb other change) refl;
+        landing = λ other. is.landing other ∙ ap once (sym (lands_as other));
       } where
-        placed_at : (other : ℕ) (b : Bool) → eqb other change ≡ b → held of_any_priority other queue.staging + (if b && true then 1 else 0) ≡ (if later other then 1 else 0)
+        none : (other : ℕ) → eqb other change ≡ true → held of_any_priority other queue.staging ≡ 0
+        none other same =
+            let at = (Decides-eqb other change).0 same in
+            is.places other ∙ ap {B = ℕ} (λ c. once (old.approved c || old.landing c)) at ∙ ap once wasnt
+
+        placed_at : (other : ℕ) (b : Bool) → eqb other change ≡ b → held of_any_priority other queue.staging + (if b && true then 1 else 0) ≡ once (new.approved other || new.landing other)
         placed_at other true same =
             let at = (Decides-eqb other change).0 same in
-            let before = is.places other ∙ ap {B = ℕ} (λ c. if approved c then 1 else 0) at ∙ ap {B = ℕ} (λ (b : Bool). if b then 1 else 0) wasnt in
-            let after = ap {B = ℕ} (λ c. if later c then 1 else 0) at ∙ ap {B = ℕ} (λ (b : Bool). if b then 1 else 0) is' in
-            omega (arith, before, after)
+            let after : once (new.approved other || new.landing other) ≡ 1 = ap {B = ℕ} (λ (b : Bool). once (b || new.landing other)) (ap new.approved at ∙ is') in
+            omega (arith, none other same, after)
         placed_at other false differs =
-            let before = is.places other in
-            let after = ap {B = ℕ} (λ (b : Bool). if b then 1 else 0) (others other differs).0 in
-            omega (arith, before, after)
+            let after : once (new.approved other || new.landing other) ≡ once (old.approved other || old.landing other) =
+            (λ i. once ((others other differs).0 i || lands_as other i)) in
+            omega (arith, is.places other, after)
 
-        priced_at : (other : ℕ) (b : Bool) → eqb other change ≡ b → held (is_not (new other)) other queue.staging + (if b && is_not (new other) (new change) then 1 else 0) ≡ 0
+        priced_at : (other : ℕ) (b : Bool) → eqb other change ≡ b → held (is_not (new.priority other)) other queue.staging + (if b && is_not (new.priority other) (new.priority change) then 1 else 0) ≡ 0
         priced_at other true same =
-            let at = (Decides-eqb other change).0 same in
-            let none = is.places other ∙ ap {B = ℕ} (λ c. if approved c then 1 else 0) at ∙ ap {B = ℕ} (λ (b : Bool). if b then 1 else 0) wasnt in
-            let less = held_less (is_not (new other)) other queue.staging in
-            let its = ap {B = ℕ} (λ (b : Bool). if b then 1 else 0) (ap (λ c. is_not (new c) (new change)) at ∙ same_priority (new change)) in
-            omega (arith, none, less, its)
+            let less = held_less (is_not (new.priority other)) other queue.staging in
+            let its = ap once (ap (λ c. is_not (new.priority c) (new.priority change)) ((Decides-eqb other change).0 same) ∙ same_priority (new.priority change)) in
+            omega (arith, none other same, less, its)
         priced_at other false differs =
-            let before = is.priorities other in
             let after = ap (λ p. held (is_not p) other queue.staging) (others other differs).1 in
-            omega (arith, before, after)
+            omega (arith, is.priorities other, after)
 
-  -- changes are taken out that are no longer approved; the others stay as they are
+  -- changes are taken out that are no longer approved; the others stay as they are, and so does what is landing
   pub taken_out_keeps : (stays : ℕ → Bool)
-      → ((change : ℕ) → stays change ≡ true → (later change ≡ approved change) × (new change ≡ priority change))
-      → ((change : ℕ) → stays change ≡ false → later change ≡ false)
-      → IsQueue now settings later new (specs.taken_out stays queue)
-  taken_out_keeps stays kept gone =
+      → ((change : ℕ) → stays change ≡ true → (new.approved change ≡ old.approved change) × (new.priority change ≡ old.priority change))
+      → ((change : ℕ) → stays change ≡ false → new.approved change ≡ false)
+      → ((change : ℕ) → (new.landing change ≡ old.landing change) × (old.landing change ≡ true → new.priority change ≡ old.priority change))
+      → IsQueue now settings new (specs.taken_out stays queue)
+  taken_out_keeps stays kept gone lands_as =
       let lane = taken_out_lane now settings queue.staging stays queue.next lane_is in
       record {
         order = (order_law queue.next queue.staging is.order).take_out stays;
@@ -96,65 +196,247 @@ module _ (now : ℕ) (settings : Option SettingsView) (approved later : ℕ → 
         running = lane.running;
         trying = is.trying;
         places = λ change. take_out_law of_any_priority stays queue.next change queue.staging ∙ placed_at change (stays change) refl;
-        priorities = λ change. take_out_law (is_not (new change)) stays queue.next change queue.staging ∙ priced_at change (stays change) refl;
+        priorities = λ change. take_out_law (is_not (new.priority change)) stays queue.next change queue.staging ∙ priced_at change (stays change) refl;
+        landing = λ change. taken_out_landing of_any_priority change queue.next queue.staging stays ∙ is.landing change ∙ ap once (sym (lands_as change).0);
       } where
-        landing : (test : ℤ → Bool) (change : ℕ) → in_landing test change queue.staging ≡ 0
-        landing test change = none_landing now settings test change queue.staging.running queue.staging.waiting is.running
-
         placed_at : (change : ℕ) (b : Bool) → stays change ≡ b
-            → (if b then held of_any_priority change queue.staging else in_landing of_any_priority change queue.staging) ≡ (if later change then 1 else 0)
-        placed_at change true stay = is.places change ∙ ap {B = ℕ} (λ (b : Bool). if b then 1 else 0) (sym (kept change stay).0)
-        placed_at change false go = landing of_any_priority change ∙ ap {B = ℕ} (λ (b : Bool). if b then 1 else 0) (sym (gone change go))
+            → (if b then held of_any_priority change queue.staging else in_landing of_any_priority change queue.staging) ≡ once (new.approved change || new.landing change)
+        placed_at change true stay = is.places change ∙ (λ i. once ((sym (kept change stay).0) i || (sym (lands_as change).0) i))
+        placed_at change false go = is.landing change ∙ (λ i. once ((sym (gone change go)) i || (sym (lands_as change).0) i))
+
+        lands_under : (change : ℕ) (at : Bool) → old.landing change ≡ at → in_landing (is_not (new.priority change)) change queue.staging ≡ 0
+        lands_under change true at =
+            let same = ap (λ p. in_landing (is_not p) change queue.staging) ((lands_as change).1 at) in
+            omega (arith, same, landing_held (is_not (old.priority change)) change queue.staging, is.priorities change)
+        lands_under change false at =
+            let none = is.landing change ∙ ap once at in
+            omega (arith, none, landing_less (is_not (new.priority change)) change queue.staging)
 
         priced_at : (change : ℕ) (b : Bool) → stays change ≡ b
-            → (if b then held (is_not (new change)) change queue.staging else in_landing (is_not (new change)) change queue.staging) ≡ 0
+            → (if b then held (is_not (new.priority change)) change queue.staging else in_landing (is_not (new.priority change)) change queue.staging) ≡ 0
         priced_at change true stay = ap (λ p. held (is_not p) change queue.staging) (kept change stay).1 ∙ is.priorities change
-        priced_at change false go = landing (is_not (new change)) change
+        priced_at change false go = lands_under change (old.landing change) refl
 
-module _ (now : ℕ) (settings : Option SettingsView) (approved : ℕ → Bool) (priority : ℕ → ℤ) (queue : Queue) (is : IsQueue now settings approved priority queue) where
-  -- the running batch waits again, under whatever settings
-  pub restarted_keeps : (later : ℕ) (others : Option SettingsView) → IsQueue later others approved priority (specs.restarted Staging queue)
+  abbrev after : Lane
+  after = (specs.requeued Staging new.approved queue).staging
+
+  -- The running batch waits again with what is approved of it. What was landing no longer is, and only that may have lost its
+  -- approval.
+  pub requeued_keeps : (later : ℕ) (others : Option SettingsView)
+      → ((change : ℕ) → new.approved change ≡ true → (old.approved change ≡ true) × (new.priority change ≡ old.priority change))
+      → ((change : ℕ) → new.approved change ≡ false → old.approved change ≡ true → old.landing change ≡ true)
+      → ((change : ℕ) → new.landing change ≡ false)
+      → IsQueue later others new (specs.requeued Staging new.approved queue)
+  requeued_keeps later others kept gone none =
+      let lane = requeued_lane now later settings others queue.staging new.approved queue.next lane_is in
+      record {
+        order = (order_law queue.next queue.staging is.order).requeue new.approved;
+        waiting = lane.waiting;
+        running = lane.running;
+        trying = is.trying;
+        places = λ change. placed_at change (new.approved change) refl ∙ ap {B = ℕ} (λ (b : Bool). once (new.approved change || b)) (sym (none change));
+        priorities = λ change. priced_at change (new.approved change) refl;
+        landing = λ change. requeued_landing of_any_priority change queue.next queue.staging new.approved ∙ ap {B = ℕ} once (sym (none change));
+      } where
+        counted : (test : ℤ → Bool) (change : ℕ) → held test change after + (if new.approved change then 0 else in_running test change queue.staging) ≡ held test change queue.staging
+        counted test change = requeue_law test new.approved queue.next change queue.staging
+
+        was : (change : ℕ) → old.approved change ≡ true → held of_any_priority change queue.staging ≡ 1
+        was change approved = is.places change ∙ ap {B = ℕ} (λ (b : Bool). once (b || old.landing change)) approved
+
+        only_landing : (change : ℕ) → new.approved change ≡ false → (had landing_too : Bool) → old.approved change ≡ had → old.landing change ≡ landing_too
+            → held of_any_priority change queue.staging ≤ in_landing of_any_priority change queue.staging
+        only_landing change lost true true had too = omega (arith, was change had, is.landing change ∙ ap {B = ℕ} once too)
+        only_landing change lost true false had too = cc (sym (gone change lost had) ∙ too)
+        only_landing change lost false landing_too had too =
+            let place = is.places change ∙ ap {B = ℕ} (λ (b : Bool). once (b || old.landing change)) had in
+            omega (arith, place, is.landing change)
+
+        emptied : (change : ℕ) → new.approved change ≡ false → held of_any_priority change after ≡ 0
+        emptied change lost =
+            let left_over = only_landing change lost (old.approved change) (old.landing change) refl refl in
+            let count = counted of_any_priority change ∙ refl in
+            let gone_all = ap {B = ℕ} (λ (b : Bool). held of_any_priority change after + (if b then 0 else in_running of_any_priority change queue.staging)) (sym lost) in
+            omega (arith, left_over, count, gone_all, landing_runs of_any_priority change queue.staging)
+
+        stayed : (test : ℤ → Bool) (change : ℕ) → new.approved change ≡ true → held test change after ≡ held test change queue.staging
+        stayed test change approved =
+            let all = ap {B = ℕ} (λ (b : Bool). held test change after + (if b then 0 else in_running test change queue.staging)) (sym approved) in
+            omega (arith, all, counted test change)
+
+        placed_at : (change : ℕ) (b : Bool) → new.approved change ≡ b → held of_any_priority change after ≡ once (new.approved change || false)
+        placed_at change true approved = stayed of_any_priority change approved ∙ was change (kept change approved).0 ∙ ap {B = ℕ} (λ (b : Bool). once (b || false)) (sym approved)
+        placed_at change false lost = emptied change lost ∙ ap {B = ℕ} (λ (b : Bool). once (b || false)) (sym lost)
+
+        priced_at : (change : ℕ) (b : Bool) → new.approved change ≡ b → held (is_not (new.priority change)) change after ≡ 0
+        priced_at change true approved =
+            stayed (is_not (new.priority change)) change approved ∙ ap (λ p. held (is_not p) change queue.staging) (kept change approved).1 ∙ is.priorities change
+        priced_at change false lost = omega (arith, emptied change lost, held_less (is_not (new.priority change)) change after)
+
+-- the same under the same marks
+module _ (now : ℕ) (settings : Option SettingsView) (marks : Marks) (queue : Queue) (is : IsQueue now settings marks queue) where
+  its_lane : IsLane now settings queue.staging
+  its_lane = record { waiting = is.waiting; running = is.running }
+
+  -- the running batch waits again, unless it is landing, under whatever settings
+  pub restarted_keeps : (later : ℕ) (others : Option SettingsView) → IsQueue later others marks (specs.restarted Staging queue)
   restarted_keeps later others =
-      let lane = restarted_lane now later settings others queue.staging queue.next (record { waiting = is.waiting; running = is.running }) in
+      let lane = restarted_lane now later settings others queue.staging queue.next its_lane in
       record {
         order = (order_law queue.next queue.staging is.order).restart;
         waiting = lane.waiting;
         running = lane.running;
         trying = is.trying;
         places = λ change. restart_law of_any_priority queue.next change queue.staging ∙ is.places change;
-        priorities = λ change. restart_law (is_not (priority change)) queue.next change queue.staging ∙ is.priorities change;
+        priorities = λ change. restart_law (is_not (marks.priority change)) queue.next change queue.staging ∙ is.priorities change;
+        landing = λ change. restarted_landing of_any_priority change queue.next queue.staging ∙ is.landing change;
       }
 
-  unused : (next : ℕ) (lane : Lane) → IsInOrder next lane → IsInOrder (next + 0) lane
+  pub unused : (next : ℕ) (lane : Lane) → IsInOrder next lane → IsInOrder (next + 0) lane
   unused next lane order = subst (λ n. IsInOrder n lane) (same next) order where
     same : (n : ℕ) → n ≡ n + 0
     same n = omega arith
 
-  pub started_keeps : (later : ℕ) → now ≤ later → IsQueue later settings approved priority (specs.started Staging later queue)
+  pub started_keeps : (later : ℕ) → now ≤ later → IsQueue later settings marks (specs.started Staging later queue)
   started_keeps later on =
-      let lane = started_lane now later settings queue.staging on (record { waiting = is.waiting; running = is.running }) in
+      let lane = started_lane now later settings queue.staging on its_lane in
       record {
         order = unused queue.next _ ((order_law queue.next queue.staging is.order).start later);
         waiting = lane.waiting;
         running = lane.running;
         trying = is.trying;
         places = λ change. start_law of_any_priority later change queue.staging ∙ is.places change;
-        priorities = λ change. start_law (is_not (priority change)) later change queue.staging ∙ is.priorities change;
+        priorities = λ change. start_law (is_not (marks.priority change)) later change queue.staging ∙ is.priorities change;
+        landing = λ change. started_landing of_any_priority change queue.next queue.staging later ∙ is.landing change;
       }
 
-  pub staged_keeps : (commit : List ℕ) → IsQueue now settings approved priority (specs.staged Staging now commit queue)
-  staged_keeps commit =
-      let lane = staged_lane now settings queue.staging commit (record { waiting = is.waiting; running = is.running }) in
+  -- a batch that isn't landing is staged
+  pub staged_keeps : (commit : List ℕ) → lands queue.staging.running ≡ false → IsQueue now settings marks (specs.staged Staging now commit queue)
+  staged_keeps commit not_so =
+      let lane = staged_lane now settings queue.staging commit its_lane in
       record {
         order = unused queue.next _ ((order_law queue.next queue.staging is.order).stage now commit);
         waiting = lane.waiting;
         running = lane.running;
         trying = is.trying;
         places = λ change. stage_law of_any_priority now commit change queue.staging ∙ is.places change;
-        priorities = λ change. stage_law (is_not (priority change)) now commit change queue.staging ∙ is.priorities change;
+        priorities = λ change. stage_law (is_not (marks.priority change)) now commit change queue.staging ∙ is.priorities change;
+        landing = λ change.
+            staged_landing of_any_priority change queue.next queue.staging now commit
+            ∙ sym (none_landing of_any_priority change queue.staging.running queue.staging.waiting not_so) ∙ is.landing change;
       }
 
--- A BATCH THAT FAILS: if it has one change alone, that is no longer approved.
+  pub reported_keeps : (name : List ℕ) (report : Report) → is_required settings name ≡ true → IsQueue now settings marks (specs.reported Staging name report queue)
+  reported_keeps name report required =
+      let lane = reported_lane now settings queue.staging name report required its_lane in
+      record {
+        order = unused queue.next _ ((order_law queue.next queue.staging is.order).report name report);
+        waiting = lane.waiting;
+        running = lane.running;
+        trying = is.trying;
+        places = λ change. report_law of_any_priority name report change queue.staging ∙ is.places change;
+        priorities = λ change. report_law (is_not (marks.priority change)) name report change queue.staging ∙ is.priorities change;
+        landing = λ change. reported_landing of_any_priority change queue.next queue.staging name report ∙ is.landing change;
+      }
+
+  -- the clock goes on
+  pub later_keeps : (later : ℕ) → now ≤ later → IsQueue later settings marks queue
+  later_keeps later on =
+      let lane = later_lane now later settings queue.staging on its_lane in
+      record { order = is.order; waiting = lane.waiting; running = lane.running; trying = is.trying; places = is.places; priorities = is.priorities; landing = is.landing }
+
+-- A BATCH IS TO LAND: its changes are marked, which are approved.
+-- a change that is in a list, or isn't
+pub some_there : (change : ℕ) (changes : List ℕ) → list_any (eqb change) changes ≡ true → 1 ≤ occurs change changes
+some_there change [] there = cc there
+some_there change (first ∷ changes) there = by (eqb change first) there (some_there change changes) (sum_by-cons (λ other. if eqb change other then 1 else 0) first changes) where
+  by : (b : Bool) → (b || list_any (eqb change) changes) ≡ true → (list_any (eqb change) changes ≡ true → 1 ≤ occurs change changes)
+      → occurs change (first ∷ changes) ≡ (if b then 1 else 0) + occurs change changes → 1 ≤ occurs change (first ∷ changes)
+  by true there rest one = omega (arith, one)
+  by false there rest one = omega (arith, rest there, one)
+
+pub none_there : (change : ℕ) (changes : List ℕ) → list_any (eqb change) changes ≡ false → occurs change changes ≡ 0
+none_there change [] there = refl
+none_there change (first ∷ changes) there = by (eqb change first) there (none_there change changes) (sum_by-cons (λ other. if eqb change other then 1 else 0) first changes) where
+  by : (b : Bool) → (b || list_any (eqb change) changes) ≡ false → (list_any (eqb change) changes ≡ false → occurs change changes ≡ 0)
+      → occurs change (first ∷ changes) ≡ (if b then 1 else 0) + occurs change changes → occurs change (first ∷ changes) ≡ 0
+  by true there rest one = cc there
+  by false there rest one = omega (arith, rest there, one)
+
+-- one that is there no more than once
+in_list : (change : ℕ) (changes : List ℕ) → occurs change changes ≤ 1 → occurs change changes ≡ once (list_any (eqb change) changes)
+in_list change [] few = refl
+in_list change (first ∷ changes) few =
+    let one = sum_by-cons (λ other. if eqb change other then 1 else 0) first changes in
+    let rest = in_list change changes (omega (arith, few, one)) in
+    by (eqb change first) (list_any (eqb change) changes) one few rest where
+      by : (here there : Bool) → occurs change (first ∷ changes) ≡ once here + occurs change changes → occurs change (first ∷ changes) ≤ 1 → occurs change changes ≡ once there
+          → occurs change (first ∷ changes) ≡ once (here || there)
+      by true true one few rest = absurd (omega (arith, one, few, rest))
+      by true false one few rest = omega (arith, one, rest)
+      by false there one few rest = omega (arith, one, rest)
+
+module _ (now : ℕ) (settings : Option SettingsView) (old new : Marks) (queue : Queue) (is : IsQueue now settings old queue) (batch : Batch)
+    (runs : queue.staging.running ≡ Some batch) (since : ℕ) (commit : List ℕ) (reports : finite.FinMap _ Report) (stage : batch.stage ≡ Staged since commit reports) where
+  not_yet : (test : ℤ → Bool) (change : ℕ) → in_landing test change queue.staging ≡ 0
+  not_yet test change =
+      none_landing test change queue.staging.running queue.staging.waiting (ap lands runs ∙ ap is_landing stage)
+
+  running_is : (test : ℤ → Bool) (change : ℕ) → in_running test change queue.staging ≡ held_by test change batch
+  running_is test change = ap (λ (o : Option Batch). option_map_or (held_by test change) o 0) runs
+
+  lands_now : (change : ℕ) → in_landing of_any_priority change (specs.landing Staging queue).staging ≡ occurs change batch.changes
+  lands_now change =
+      ap (λ (o : Option Batch). in_landing of_any_priority change (landing (record { running = o; waiting = queue.staging.waiting }))) runs
+      ∙ ap (λ (at : Stage). in_landing of_any_priority change (landing (record { running = Some (record batch { stage = at }); waiting = queue.staging.waiting }))) stage
+
+  pub landing_keeps : ((change : ℕ) → (new.approved change ≡ old.approved change) × (new.priority change ≡ old.priority change))
+      → ((change : ℕ) → new.landing change ≡ (list_any (eqb change) batch.changes || old.landing change))
+      → IsQueue now settings new (specs.landing Staging queue)
+  landing_keeps same marked =
+      let lane = landing_lane now settings queue.staging (record { waiting = is.waiting; running = is.running }) in
+      record {
+        order = unused now settings old queue is queue.next _ (order_law queue.next queue.staging is.order).land;
+        waiting = lane.waiting;
+        running = lane.running;
+        trying = is.trying;
+        places = λ change. land_law of_any_priority change queue.staging ∙ placed_at change (list_any (eqb change) batch.changes) (old.approved change) (old.landing change) refl refl refl;
+        priorities = λ change.
+            land_law (is_not (new.priority change)) change queue.staging ∙ ap (λ p. held (is_not p) change queue.staging) (same change).1 ∙ is.priorities change;
+        landing = λ change.
+            lands_now change ∙ once_there change
+            ∙ ap {B = ℕ} once (sym (marked change ∙ or_not (list_any (eqb change) batch.changes) (old.landing change) (unmarked change (old.landing change) refl)));
+      } where
+        or_not : (b c : Bool) → c ≡ false → (b || c) ≡ b
+        or_not true c none = refl
+        or_not false c none = none
+
+        unmarked : (change : ℕ) (b : Bool) → old.landing change ≡ b → old.landing change ≡ false
+        unmarked change true at = absurd (omega (arith, not_yet of_any_priority change, is.landing change ∙ ap {B = ℕ} once at))
+        unmarked change false at = at
+
+        there : (change : ℕ) → occurs change batch.changes ≤ held of_any_priority change queue.staging
+        there change = omega (arith, running_is of_any_priority change, held_is of_any_priority change queue.staging)
+
+        few : (change : ℕ) (b : Bool) → held of_any_priority change queue.staging ≡ once b → occurs change batch.changes ≤ 1
+        few change true place = omega (arith, place, there change)
+        few change false place = omega (arith, place, there change)
+
+        once_there : (change : ℕ) → occurs change batch.changes ≡ once (list_any (eqb change) batch.changes)
+        once_there change = in_list change batch.changes (few change (old.approved change || old.landing change) (is.places change))
+
+        placed_at : (change : ℕ) (in_it approved landing_too : Bool) → list_any (eqb change) batch.changes ≡ in_it → old.approved change ≡ approved → old.landing change ≡ landing_too
+            → held of_any_priority change queue.staging ≡ once (new.approved change || new.landing change)
+        placed_at change in_it true landing_too here was too =
+            is.places change ∙ ap {B = ℕ} (λ (b : Bool). once (b || old.landing change)) was ∙ ap {B = ℕ} (λ (b : Bool). once (b || new.landing change)) (sym ((same change).0 ∙ was))
+        placed_at change in_it false true here was too = cc (sym too ∙ unmarked change (old.landing change) refl)
+        placed_at change true false false here was too =
+            let place = is.places change ∙ (λ i. once (was i || too i)) in
+            absurd (omega (arith, place, there change, once_there change ∙ ap {B = ℕ} once here))
+        placed_at change false false false here was too =
+            is.places change ∙ (λ i. once (was i || too i)) ∙ (λ i. once ((sym ((same change).0 ∙ was)) i || (sym (marked change ∙ (λ j. here j || too j))) i))
+
+-- A BATCH THAT FAILS, and isn't landing: if it has one change alone, that is no longer approved.
 -- how often a change is the one of a running batch that has no other
 lone_is : (now : ℕ) (settings : Option SettingsView) (test : ℤ → Bool) (change : ℕ) (running : Option Batch) (waiting : List Batch) → IfSome running (IsRunning now settings)
     → in_lone of_any_priority change (record { running = running; waiting = waiting }) ≡ (if option_map_or (λ one. eqb change one) (lone running) false then 1 else 0)
@@ -171,23 +453,29 @@ lone_is now settings test change (Some batch) waiting runs = by (has_several bat
   by true is = refl
   by false is = one_alone batch.changes is runs.changes
 
-module _ (now : ℕ) (settings : Option SettingsView) (approved later : ℕ → Bool) (priority new : ℕ → ℤ) (queue : Queue) (is : IsQueue now settings approved priority queue) where
-  pub failed_keeps : ((change : ℕ) → later change ≡ (not (option_map_or (λ one. eqb change one) (lone queue.staging.running) false) && approved change))
-      → ((change : ℕ) → new change ≡ priority change) → IsQueue now settings later new (specs.failed Staging queue)
-  failed_keeps ended same =
+module _ (now : ℕ) (settings : Option SettingsView) (old new : Marks) (queue : Queue) (is : IsQueue now settings old queue) where
+  abbrev alone : ℕ → Bool
+  alone change = option_map_or (λ one. eqb change one) (lone queue.staging.running) false
+
+  pub failed_keeps : lands queue.staging.running ≡ false
+      → ((change : ℕ) → new.approved change ≡ (not (alone change) && old.approved change))
+      → ((change : ℕ) → (new.priority change ≡ old.priority change) × (new.landing change ≡ old.landing change)) → IsQueue now settings new (specs.failed Staging queue)
+  failed_keeps not_so ended same =
       let lane = failed_lane now settings queue.staging queue.next (record { waiting = is.waiting; running = is.running }) in
       record {
         order = (order_law queue.next queue.staging is.order).fail;
         waiting = lane.waiting;
         running = lane.running;
         trying = is.trying;
-        places = λ change. placed_at change (option_map_or (λ one. eqb change one) (lone queue.staging.running) false) (ended change) (gone change);
+        places = λ change. placed_at change (alone change) (old.approved change) (old.landing change) (new.landing change) (ended change) (unmarked change (old.landing change) refl) ((same change).1) (gone change);
         priorities = λ change.
-            ap (λ p. held (is_not p) change (specs.failed Staging queue).staging) (same change)
-            ∙ omega (arith, fail_law (is_not (priority change)) queue.next change queue.staging, is.priorities change);
+            ap (λ p. held (is_not p) change (specs.failed Staging queue).staging) (same change).0
+            ∙ omega (arith, fail_law (is_not (old.priority change)) queue.next change queue.staging, is.priorities change);
+        landing = λ change.
+            failed_landing of_any_priority change queue.next queue.staging
+            ∙ sym (none_landing of_any_priority change queue.staging.running queue.staging.waiting not_so) ∙ is.landing change ∙ ap {B = ℕ} once (sym (same change).1);
       } where
-        gone : (change : ℕ) → held of_any_priority change (specs.failed Staging queue).staging + (if option_map_or (λ one. eqb change one) (lone queue.staging.running) false then 1 else 0)
-            ≡ (if approved change then 1 else 0)
+        gone : (change : ℕ) → held of_any_priority change (specs.failed Staging queue).staging + once (alone change) ≡ once (old.approved change || old.landing change)
         gone change =
             omega (
               arith,
@@ -196,49 +484,69 @@ module _ (now : ℕ) (settings : Option SettingsView) (approved later : ℕ → 
               is.places change,
             )
 
-        placed_at : (change : ℕ) (alone : Bool) → later change ≡ (not alone && approved change)
-            → held of_any_priority change (specs.failed Staging queue).staging + (if alone then 1 else 0) ≡ (if approved change then 1 else 0)
-            → held of_any_priority change (specs.failed Staging queue).staging ≡ (if later change then 1 else 0)
-        placed_at change true same held_before = grind (arith, nat_tests)
-        placed_at change false same held_before = grind (arith, nat_tests)
+        unmarked : (change : ℕ) (b : Bool) → old.landing change ≡ b → old.landing change ≡ false
+        unmarked change true at =
+            absurd (omega (arith, none_landing of_any_priority change queue.staging.running queue.staging.waiting not_so, is.landing change ∙ ap {B = ℕ} once at))
+        unmarked change false at = at
+
+        placed_at : (change : ℕ) (one was landed lands_still : Bool) → new.approved change ≡ (not one && was) → landed ≡ false → lands_still ≡ landed
+            → held of_any_priority change (specs.failed Staging queue).staging + once one ≡ once (was || landed)
+            → held of_any_priority change (specs.failed Staging queue).staging ≡ once (new.approved change || lands_still)
+        placed_at change one was true lands_still so none still held_before = cc none
+        placed_at change one was false true so none still held_before = cc still
+        placed_at change true true false false so none still held_before = grind (arith, nat_tests)
+        placed_at change true false false false so none still held_before = absurd (omega (arith, held_before))
+        placed_at change false true false false so none still held_before = grind (arith, nat_tests)
+        placed_at change false false false false so none still held_before = grind (arith, nat_tests)
 
 -- THE QUEUE FOLLOWS what an act does to one change.
 abbrev OthersStay : ℕ → DeskView → DeskView → Type 0
 OthersStay change old new = (other : ℕ) → eqb other change ≡ false → finite.get new.changes other ≡ finite.get old.changes other
 
-stay_approved : (change : ℕ) (old new : DeskView) → OthersStay change old new → (other : ℕ) → eqb other change ≡ false
+stay_marked : (change : ℕ) (old new : DeskView) → OthersStay change old new → (other : ℕ) → eqb other change ≡ false
     → (approved_on new other ≡ approved_on old other) × (priority_on new other ≡ priority_on old other)
-stay_approved change old new others other differs = (
+stay_marked change old new others other differs = (
   ap (λ (c : Option Change). option_map_or (λ (x : Change). is_some x.approved) c false) (others other differs),
   ap (λ (c : Option Change). option_map_or (λ (x : Change). x.priority) c (pos 0)) (others other differs),
 )
 
--- what an act about one change leaves as it was
+-- what an act about one change leaves as it was; one that is landing isn't approved anew, and keeps its priority
 pub record OnlyAt (change : ℕ) (old new : DeskView) : Type 0 where
   pub settings : new.settings ≡ old.settings
   pub clock : new.clock ≡ old.clock
   pub others : OthersStay change old new
+  pub landing : landing_on new change ≡ landing_on old change
+  pub final : landing_on old change ≡ true → (approved_on new change ≡ true → approved_on old change ≡ true) × (priority_on new change ≡ priority_on old change)
 
 pub follow_keeps : (old new : DeskView) (change : ℕ) (queue : Queue) → OnlyAt change old new
-    → IsQueue old.clock old.settings (approved_on old) (priority_on old) queue
-    → IsQueue new.clock new.settings (approved_on new) (priority_on new) (followed_on old new change queue)
+    → IsQueue old.clock old.settings (marks_on old) queue
+    → IsQueue new.clock new.settings (marks_on new) (followed_on old new change queue)
 follow_keeps old new change queue only is =
-    subst (λ now. IsQueue now new.settings (approved_on new) (priority_on new) (followed_on old new change queue)) (sym only.clock)
-    (subst (λ settings. IsQueue old.clock settings (approved_on new) (priority_on new) (followed_on old new change queue)) (sym only.settings)
-    (by (approved_on old change) (approved_on new change) (int_eq (priority_on old change) (priority_on new change)) refl refl refl)) where
+    subst (λ now. IsQueue now new.settings (marks_on new) (followed_on old new change queue)) (sym only.clock)
+    (subst (λ settings. IsQueue old.clock settings (marks_on new) (followed_on old new change queue)) (sym only.settings)
+    (by (approved_on old change) (approved_on new change) (int_eq (priority_on old change) (priority_on new change)) (landing_on old change) refl refl refl refl)) where
       others : (other : ℕ) → eqb other change ≡ false → (approved_on new other ≡ approved_on old other) × (priority_on new other ≡ priority_on old other)
-      others = stay_approved change old new only.others
+      others = stay_marked change old new only.others
 
-      -- as it was, if neither the approval nor the priority of an approved change has moved
-      unmoved : (b : Bool) → approved_on old change ≡ b → approved_on new change ≡ b → (b ≡ true → priority_on new change ≡ priority_on old change)
-          → IsQueue old.clock old.settings (approved_on new) (priority_on new) queue
+      lands_as : (other : ℕ) → landing_on new other ≡ landing_on old other
+      lands_as other = at (eqb other change) refl where
+        at : (b : Bool) → eqb other change ≡ b → landing_on new other ≡ landing_on old other
+        at true same =
+            let it = (Decides-eqb other change).0 same in
+            ap (landing_on new) it ∙ only.landing ∙ sym (ap (landing_on old) it)
+        at false differs = ap (λ (c : Option Change). option_map_or (λ (x : Change). x.landing) c false) (only.others other differs)
+
+      -- as it was, if neither the approval nor the priority of a queued change has moved
+      unmoved : (b : Bool) → approved_on old change ≡ b → approved_on new change ≡ b → ((b || landing_on old change) ≡ true → priority_on new change ≡ priority_on old change)
+          → IsQueue old.clock old.settings (marks_on new) queue
       unmoved b was now same = record {
         order = is.order;
         waiting = is.waiting;
         running = is.running;
         trying = is.trying;
-        places = λ other. is.places other ∙ ap {B = ℕ} (λ (b : Bool). if b then 1 else 0) (sym (approved_at other (eqb other change) refl));
+        places = λ other. is.places other ∙ (λ i. once ((sym (approved_at other (eqb other change) refl)) i || (sym (lands_as other)) i));
         priorities = λ other. priced_at other (eqb other change) refl;
+        landing = λ other. is.landing other ∙ ap {B = ℕ} once (sym (lands_as other));
       } where
         approved_at : (other : ℕ) (here : Bool) → eqb other change ≡ here → approved_on new other ≡ approved_on old other
         approved_at other true at =
@@ -246,37 +554,53 @@ follow_keeps old new change queue only is =
             ap (approved_on new) it ∙ now ∙ sym was ∙ sym (ap (approved_on old) it)
         approved_at other false at = (others other at).0
 
-        priced_here : (b : Bool) → approved_on old change ≡ b → (b ≡ true → priority_on new change ≡ priority_on old change) → held (is_not (priority_on new change)) change queue.staging ≡ 0
-        priced_here true was same = ap (λ p. held (is_not p) change queue.staging) (same refl) ∙ is.priorities change
-        priced_here false was same =
-            let none = is.places change ∙ ap {B = ℕ} (λ (b : Bool). if b then 1 else 0) was in
+        priced_here : (queued : Bool) → (b || landing_on old change) ≡ queued → held (is_not (priority_on new change)) change queue.staging ≡ 0
+        priced_here true so = ap (λ p. held (is_not p) change queue.staging) (same so) ∙ is.priorities change
+        priced_here false so =
+            let none = is.places change ∙ ap {B = ℕ} (λ (c : Bool). once (c || landing_on old change)) was ∙ ap {B = ℕ} once so in
             omega (arith, none, held_less (is_not (priority_on new change)) change queue.staging)
 
         priced_at : (other : ℕ) (here : Bool) → eqb other change ≡ here → held (is_not (priority_on new other)) other queue.staging ≡ 0
         priced_at other true at =
             let it = (Decides-eqb other change).0 at in
-            ap (λ c. held (is_not (priority_on new c)) c queue.staging) it ∙ priced_here b was same
+            ap (λ c. held (is_not (priority_on new c)) c queue.staging) it ∙ priced_here (b || landing_on old change) refl
         priced_at other false at = ap (λ p. held (is_not p) other queue.staging) (others other at).1 ∙ is.priorities other
 
-      -- with the change taken out, whatever its priority is then
+      -- with the change taken out
       stays_but : (other : ℕ) → all_but change other ≡ true → eqb other change ≡ false
       stays_but other stay = not-true (eqb other change) stay
 
       goes_but : (other : ℕ) → all_but change other ≡ false → other ≡ change
       goes_but other go = (Decides-eqb other change).0 (not-false (eqb other change) go)
 
-      by : (was now same : Bool) → approved_on old change ≡ was → approved_on new change ≡ now → int_eq (priority_on old change) (priority_on new change) ≡ same
-          → IsQueue old.clock old.settings (approved_on new) (priority_on new) (followed was now (not same) (size_on new) (priority_on new change) change queue)
-      by false false same was now at = unmoved false was now (λ is. cc is)
-      by false true same was now at = enqueued_keeps old.clock old.settings (approved_on old) (approved_on new) (priority_on old) (priority_on new) queue is (size_on new) change was now others
-      by true false same was now at =
-          taken_out_keeps old.clock old.settings (approved_on old) (approved_on new) (priority_on old) (priority_on new) queue is (all_but change)
-          (λ other stay. others other (stays_but other stay)) (λ other go. ap (approved_on new) (goes_but other go) ∙ now)
-      by true true true was now at = unmoved true was now (λ is'. sym ((signed_Decides (priority_on old change) (priority_on new change)).0 at))
-      by true true false was now at =
-          let without = λ (other : ℕ). not (eqb other change) && approved_on old other in
-          enqueued_keeps old.clock old.settings without (approved_on new) (priority_on old) (priority_on new) (specs.taken_out (all_but change) queue)
-          (taken_out_keeps old.clock old.settings (approved_on old) without (priority_on old) (priority_on old) queue is (all_but change)
-          (λ other stay. (ap (λ (b : Bool). b && approved_on old other) stay, refl)) (λ other go. ap (λ (b : Bool). b && approved_on old other) go))
-          (size_on new) change (ap (λ (b : Bool). not b && approved_on old change) ((Decides-eqb change change).1 refl)) now
-          (λ other differs. ((others other differs).0 ∙ sym (ap (λ (b : Bool). not b && approved_on old other) differs), (others other differs).1))
+      priced_as : (other : ℕ) → landing_on old other ≡ true → priority_on new other ≡ priority_on old other
+      priced_as other landing_too = at (eqb other change) refl where
+        at : (b : Bool) → eqb other change ≡ b → priority_on new other ≡ priority_on old other
+        at true same =
+            let it = (Decides-eqb other change).0 same in
+            ap (priority_on new) it ∙ (only.final (sym (ap (landing_on old) it) ∙ landing_too)).1 ∙ sym (ap (priority_on old) it)
+        at false differs = (others other differs).1
+
+      moved : (landing_too : Bool) → landing_on old change ≡ landing_too → int_eq (priority_on old change) (priority_on new change) ≡ false → landing_on old change ≡ false
+      moved true too at = cc (sym at ∙ (signed_Decides (priority_on old change) (priority_on new change)).1 (sym (only.final too).1))
+      moved false too at = too
+
+      by : (was now same lands_too : Bool) → approved_on old change ≡ was → approved_on new change ≡ now → int_eq (priority_on old change) (priority_on new change) ≡ same → landing_on old change ≡ lands_too
+          → IsQueue old.clock old.settings (marks_on new) (followed was now (not same) (size_on new) (priority_on new change) change queue)
+      by false false same lands_too was now at too = unmoved false was now (λ so. (only.final so).1)
+      by false true same true was now at too = cc (sym was ∙ (only.final too).0 now)
+      by false true same false was now at too =
+          enqueued_keeps old.clock old.settings (marks_on old) (marks_on new) queue is (size_on new) change (λ i. was i || too i) now others lands_as
+      by true false same lands_too was now at too =
+          taken_out_keeps old.clock old.settings (marks_on old) (marks_on new) queue is (all_but change)
+          (λ other stay. others other (stays_but other stay)) (λ other go. ap (approved_on new) (goes_but other go) ∙ now) (λ other. (lands_as other, priced_as other))
+      by true true true lands_too was now at too = unmoved true was now (λ so. sym ((signed_Decides (priority_on old change) (priority_on new change)).0 at))
+      by true true false lands_too was now at too =
+          let free = moved lands_too too at in
+          let without : Marks = record { approved = λ other. not (eqb other change) && approved_on old other; landing = landing_on old; priority = priority_on old } in
+          enqueued_keeps old.clock old.settings without (marks_on new) (specs.taken_out (all_but change) queue)
+          (taken_out_keeps old.clock old.settings (marks_on old) without queue is (all_but change)
+          (λ other stay. (ap (λ (b : Bool). b && approved_on old other) stay, refl)) (λ other go. ap (λ (b : Bool). b && approved_on old other) go) (λ other. (refl, λ so. refl)))
+          (size_on new) change
+          (λ i. (ap (λ (b : Bool). not b && approved_on old change) ((Decides-eqb change change).1 refl)) i || free i) now
+          (λ other differs. ((others other differs).0 ∙ sym (ap (λ (b : Bool). not b && approved_on old other) differs), (others other differs).1)) lands_as

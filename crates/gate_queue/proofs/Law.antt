@@ -1,219 +1,82 @@
--- THE LAW OF THE HISTORY: after every legal history the rules read the desk and the history alike, and no number was staged
--- twice.
-use Rattle.std.proofs.Common.{◌≡◌, ◌≤◌, ◌+◌, ◌⊎◌, ℕ, ℤ, pos, eqb, ltb, ◌&&◌, ◌||◌, Bool, true, false, not, cond, if◌then◌else◌, List, [], ◌∷◌, Option, Some, None, Result, Ok, Err, is_some, refl, sym, ◌∙◌, ap, subst, inl, inr, arith}
-use Rattle.std.proofs.lemmas.Bool.Decides.{nat_tests}
-use Rattle.std.proofs.lemmas.List.Elements.{All-nil, All-cons}
+-- THE LAW OF THE HISTORY: after every legal history the rules read the desk and the history alike, what is landing and tested is
+-- what the history says, and each order is right.
+use Rattle.std.proofs.Common.{◌≡◌, ◌≤◌, ◌+◌, ℕ, ℤ, pos, eqb, leb, ltb, ◌&&◌, ◌||◌, Bool, true, false, not, cond, if◌then◌else◌, List, [], ◌∷◌, ◌++◌, Option, Some, None, Result, Ok, Err, is_some, refl, sym, ◌∙◌, ap, subst, inl, arith}
+use Rattle.std.proofs.lemmas.Bool.{leb-true}
+use Rattle.std.proofs.lemmas.Bool.Decides.{nat_tests, Decides-eqb}
+use Rattle.std.proofs.lemmas.List.Elements.{All-nil, All-cons, All-head, All-append}
 use Rattle.std.proofs.lemmas.List.Sums.{sum_by-cons}
-use Rattle.std.specs.Bool.{⊤}
 use Rattle.std.specs.Cmp.{signed_Decides}
 use Rattle.std.specs.Cmp.Lexicographic.{slice_cmp}
 use Rattle.std.specs.FinMap as finite
 use Rattle.std.specs.FinMap.{get-empty}
-use Rattle.std.specs.List.{All, filter_map, cons_option, sum_by}
+use Rattle.std.specs.List.{All, filter_map, cons_option, list_any}
 use Rattle.std.specs.Option.{option_and_then, option_map, option_map_or, option_or, unwrap_or}
 use Rattle.std.specs.Ordering.{nat_cmp, int_eq}
-use Rattle.gate_text.specs.Settings.{SettingsView, settings_of}
+use Rattle.std.specs.Result.{result_ok}
+use Rattle.gate_text.specs.Same.{same_settings-is}
+use Rattle.gate_text.specs.Settings.{SettingsView, settings_of, same_settings}
 use Rattle.gate_text.specs.declared.settings.fault.SettingsFault.{SettingsFault}
 use Rattle.gate_rules.specs.Rules.{Look, is_open_phase}
 use Rattle.gate_rules.specs.View.{DeskView, empty_desk, with_clock, look}
 use Rattle.gate_rules.specs.declared.change.Change.{Change}
 use Rattle.gate_rules.specs.declared.role.Role.TheVariants.{Nobody}
 use Rattle.gate_rules.specs.declared.rule.Rule.{Rule}
-use Rattle.gate_queue.specs.Counts.{occurs, held, held_by, of_any_priority, uses}
-use Rattle.gate_queue.specs.History.{Entry, Event, did, gave, given, happened, events_of, last_of, said_on, author_back, settings_back, phase_back, labels_back, reviews_back, fit_back, approval_said, ends, standing_back, approvers_back, approvers_on, change_of, change_back, look_back, is_stage_of, stages, IsStandingAt, IsFitOrder, Legal, EntryTells, entry_of, orders_in, denied_by}
-use Rattle.gate_queue.specs.Machine.{State, broken, denial, missing, answered, all_orders, notice_if, settings_notices, accepted_notices, are_present, losing_on, lone, lone_notices, head_on, stage_order, stage_orders, approved_on, priority_on, desk_after, done, reply_to, unless_denied, after}
-use Rattle.gate_queue.specs.Lanes.{ordered_at}
-use Rattle.gate_queue.specs.Queue.{started}
-use Rattle.gate_queue.specs.State.{IsState}
-use Rattle.gate_queue.specs.declared.batch.Branch.TheVariants.{Staging}
+use Rattle.gate_rules.specs.declared.rule.Rule.TheVariants.{ClockBack, NoSuchBatch}
+use Rattle.gate_queue.specs.Acts.{IsMoment}
+use Rattle.gate_queue.specs.Counts.{occurs, in_landing, held, held_by, of_any_priority, uses}
+use Rattle.gate_queue.specs.History.{Entry, Event, did, gave, given, happened, events_of, last_of, said_on, author_back, head_back, settings_back, phase_back, labels_back, reviews_back, approval_said, standing_back, approvers_back, landing_back, approvers_on, change_of, change_back, look_back, stages, IsStandingAt, IsRightOrder, Legal, EntryTells, entry_of, orders_in, denied_by}
+use Rattle.gate_queue.specs.Lanes as lanes
+use Rattle.gate_queue.specs.Lanes.{is_landing, ordered_at}
+use Rattle.gate_queue.specs.Machine.{broken, denial, missing, has_ordered, is_ordered, has_staged, is_staged_with, empty_state, answered, approved_on, landing_on, priority_on, quiet, about, with_desk, notices, are_present, under, accepted, lone, lone_notices, failing, is_required, goes_on, told_of, told, has_overdue, timed_out, head_on, stage_orders, starting, done, reply_to, unless_denied, after}
+use Rattle.gate_queue.specs.State.{IsWaiting, IsState}
 use Rattle.gate_queue.specs.declared.act.Act.{Act}
-use Rattle.gate_queue.specs.declared.act.Act.TheVariants.{Spoken, Role, Settings, Base, Opened, Pushed, Closed, Labeled, Unlabeled, Review, Staged, Conflict, Tick}
+use Rattle.gate_queue.specs.declared.act.Act.TheVariants.{Spoken, Role, Settings, Base, Opened, Pushed, Closed, Labeled, Unlabeled, Review, Staged, Conflict, Status, Refused, Tick}
+use Rattle.gate_queue.specs.declared.act.StatusState.{StatusState}
+use Rattle.gate_queue.specs.declared.act.StatusState.TheVariants.{Success, Failure, Error, Pending}
 use Rattle.gate_queue.specs.declared.batch.Batch.{Batch}
+use Rattle.gate_queue.specs.declared.batch.Report.{Report}
+use Rattle.gate_queue.specs.declared.batch.Report.TheVariants as report
+use Rattle.gate_queue.specs.declared.batch.Stage.{Stage as StageOf}
+use Rattle.gate_queue.specs.declared.batch.Stage.TheVariants as stage
 use Rattle.gate_queue.specs.declared.lane.Lane.{Lane}
-use Rattle.gate_queue.specs.declared.queue.Queue.{Queue}
 use Rattle.gate_queue.specs.declared.reply.Order.{Order}
-use Rattle.gate_queue.specs.declared.reply.Order.TheVariants.{Stage, Notice}
+use Rattle.gate_queue.specs.declared.reply.Order.TheVariants.{Stage, Land, Notice}
 use Rattle.gate_queue.specs.declared.reply.Reply.{Reply}
 use Rattle.gate_queue.specs.declared.reply.Reply.TheVariants.{Denied}
 use Rattle.gate_queue.specs.declared.reply.Why.{Why}
-use Rattle.gate_queue.proofs.Acting.{act_next}
+use Rattle.gate_queue.specs.declared.reply.Why.TheVariants as why
+use Rattle.gate_queue.specs.declared.state.State.{State}
 use Rattle.gate_queue.proofs.After.{standing_fit}
-use Rattle.gate_queue.proofs.Fitness.{opened_so}
-use Rattle.gate_queue.proofs.Growing.{Grows, queue_grows}
-use Rattle.gate_queue.proofs.Unseen.{Unseen, nothing_unseen, order_unseen, still_unseen}
+use Rattle.gate_queue.proofs.Doing.{about_are, accepted_are, fact_kept, clock_kept, done_kept}
+use Rattle.gate_queue.proofs.Fitness.{opened_so, passed, unless_so}
+use Rattle.gate_queue.proofs.States.{Holds, clock_holds, timed_out_holds, still_clock, queued_held}
+use Rattle.gate_queue.proofs.Steps.{Kept, AreNotices, given-append, first_based, starting_kept, timed_out_kept}
+use Rattle.gate_queue.proofs.Tested.{Tests, TestsAt, IsAt, Elsewhere, stage_tests, staged_tests, unasked}
+use Rattle.gate_queue.proofs.Testing.{standing_approved, stands_all, report_of, followed_runs, act_tests, restarted_tests, failed_tests, requeued_tests, goes_on_tests, goes_on_right}
+use Rattle.gate_queue.proofs.Unseen.{Unseen, nothing_unseen, blank_phase, blank_landing}
 use Rattle.gate_queue.proofs.Wording.{none_both}
 
--- ORDERS: only a tick gives one to stage; all others give notices.
-abbrev AreNotices : List Order → Type 0
-AreNotices [] = ⊤
-AreNotices (Notice change why ∷ orders) = AreNotices orders
-AreNotices (Stage batch branch base heads ∷ orders) = ⊥
+-- WHAT A LEGAL HISTORY KEEPS with its state
+record Whole (events : List Event) (s : State) : Type 0 where
+  kept : Kept events s
+  tests : Tests events s.queue.staging.running
 
-one_notice : (b : Bool) (number : ℕ) (why : Why) → AreNotices (notice_if b number why)
-one_notice true number why = tt
-one_notice false number why = tt
+-- RIGHT ORDERS
+notices_right : (events : List Event) (act : Act) (orders : List Order) → AreNotices orders → All (IsRightOrder events act) orders
+notices_right events act [] are = All-nil (IsRightOrder events act)
+notices_right events act (Notice change why ∷ orders) are = All-cons (IsRightOrder events act) (Notice change why) orders tt (notices_right events act orders are)
+notices_right events act (Stage batch branch base heads ∷ orders) are = absurd are
+notices_right events act (Land batch base commit ∷ orders) are = absurd are
 
-all_notices : (numbers : List ℕ) → AreNotices (settings_notices numbers)
-all_notices [] = tt
-all_notices (number ∷ numbers) = all_notices numbers
+lone_are : (why : Why) (one : Option ℕ) → AreNotices (lone_notices why one)
+lone_are why None = tt
+lone_are why (Some n) = tt
 
-accepted_are : (desk : DeskView) (read : Result SettingsView SettingsFault) → AreNotices (accepted_notices desk read)
-accepted_are desk (Err fault) = tt
-accepted_are desk (Ok settings) = by (are_present desk settings) where
-  by : (b : Bool) → AreNotices (cond b [] (settings_notices (losing_on desk settings)))
-  by true = tt
-  by false = all_notices (losing_on desk settings)
-
-lone_are : (change : Option ℕ) → AreNotices (lone_notices change)
-lone_are None = tt
-lone_are (Some change) = tt
-
-notices_or_tick : (s : State) (act : Act) → AreNotices (all_orders s act) ⊎ ((now : ℕ) × (act ≡ Tick now))
-notices_or_tick s (Spoken change person spoken) = inl tt
-notices_or_tick s (Role person role) = inl tt
-notices_or_tick s (Settings text) = inl (accepted_are s.desk (settings_of text))
-notices_or_tick s (Base commit) = inl tt
-notices_or_tick s (Opened change author head) = inl tt
-notices_or_tick s (Pushed change head) = inl (one_notice _ change _)
-notices_or_tick s (Closed change) = inl (one_notice _ change _)
-notices_or_tick s (Labeled change label) = inl (one_notice _ change _)
-notices_or_tick s (Unlabeled change label) = inl tt
-notices_or_tick s (Review change person head approves) = inl (one_notice _ change _)
-notices_or_tick s (Staged batch commit) = inl tt
-notices_or_tick s (Conflict batch) = inl (lone_are (lone s.queue.staging.running))
-notices_or_tick s (Tick now) = inr (now, refl)
-
--- NUMBERS: one that was staged doesn't wait, and none from the next one on was staged.
-abbrev Numbered : List Event → Queue → Type 0
-Numbered events queue = (number : ℕ) → stages number events + uses number queue.staging.waiting ≤ (if ltb number queue.next then 1 else 0)
-
-one_more : (number : ℕ) (event : Event) (events : List Event) → stages number (event ∷ events) ≡ (if is_stage_of number event then 1 else 0) + stages number events
-one_more number event events = sum_by-cons (λ e. if is_stage_of number e then 1 else 0) event events
-
-none_staged : (number : ℕ) (orders : List Order) (events : List Event) → AreNotices orders → stages number (given events orders) ≡ stages number events
-none_staged number [] events are = refl
-none_staged number (Notice change why ∷ orders) events are =
-    omega (arith, none_staged number orders (gave (Notice change why) ∷ events) are, one_more number (gave (Notice change why)) events)
-none_staged number (Stage batch branch base heads ∷ orders) events are = absurd are
-
-still_numbered : (events : List Event) (act : Act) (orders : List Order) (old new : Queue) → AreNotices orders → Grows 2 old new → Numbered events old
-    → Numbered (given (did act ∷ events) orders) new
-still_numbered events act orders old new are grows is number =
-    let same = none_staged number orders (did act ∷ events) are in
-    let before = one_more number (did act) events in
-    let was = is number in
-    let grown = grows.waiting number in
-    let next = grows.next in
-    grind (arith, nat_tests)
-
-nothing_staged : (events : List Event) (now number : ℕ) (waiting : List Batch) (next : ℕ) → stages number events + uses number waiting ≤ (if ltb number next then 1 else 0)
-    → stages number (did (Tick now) ∷ events) + uses number waiting ≤ (if ltb number (next + 0) then 1 else 0)
-nothing_staged events now number waiting next is =
-    let tick = one_more number (did (Tick now)) events in
-    grind (arith, nat_tests)
-
-tick_numbered : (events : List Event) (now : ℕ) (desk : DeskView) (running : Option Batch) (waiting : List Batch) (trying : Lane) (next : ℕ)
-    → Numbered events (record { staging = record { running = running; waiting = waiting }; trying = trying; next = next })
-    → Numbered (given (did (Tick now) ∷ events) (stage_orders desk running waiting)) (started Staging now (record { staging = record { running = running; waiting = waiting }; trying = trying; next = next }))
-tick_numbered events now desk (Some batch) waiting trying next is number = nothing_staged events now number waiting next (is number)
-tick_numbered events now desk None [] trying next is number = nothing_staged events now number [] next (is number)
-tick_numbered events now desk None (batch ∷ waiting) trying next is number = by desk.base where
-  one : uses number (batch ∷ waiting) ≡ (if eqb number batch.number then 1 else 0) + uses number waiting
-  one = sum_by-cons (λ (b : Batch). if eqb number b.number then 1 else 0) batch waiting
-
-  by : (base : Option (List ℕ))
-      → stages number (given (did (Tick now) ∷ events) (option_map_or (λ b. Stage batch.number batch.branch b (filter_map (head_on desk) batch.changes) ∷ []) base [])) + uses number waiting
-      ≤ (if ltb number (next + 0) then 1 else 0)
-  by None =
-      let was = is number in
-      let tick = one_more number (did (Tick now)) events in
-      grind (arith, nat_tests, one)
-  by (Some b) =
-      let was = is number in
-      let tick = one_more number (did (Tick now)) events in
-      let staged = one_more number (gave (Stage batch.number batch.branch b (filter_map (head_on desk) batch.changes))) (did (Tick now) ∷ events) in
-      grind (arith, nat_tests, one)
-
-numbered_next : (s : State) (events : List Event) (act : Act) → Numbered events s.queue → Numbered (given (did act ∷ events) (all_orders s act)) (done s act).queue
-numbered_next s events act is = elim (notices_or_tick s act) [
-  | inl are ↦ still_numbered events act (all_orders s act) s.queue (done s act).queue are (queue_grows s act) is
-  | inr (now, same) ↦
-      subst (λ a. Numbered (given (did a ∷ events) (all_orders s a)) (done s a).queue) (sym same)
-      (tick_numbered events now s.desk s.queue.staging.running s.queue.staging.waiting s.queue.trying s.queue.next is)
-]
-
--- ENTRIES
-unseen_given : (events : List Event) (orders : List Order) (c : ℕ) → Unseen events c → Unseen (given events orders) c
-unseen_given events [] c unseen = unseen
-unseen_given events (order ∷ orders) c unseen = unseen_given (gave order ∷ events) orders c (order_unseen events order c unseen)
-
-empty_look : look empty_desk ≡ look_back []
-empty_look = λ i. record {
-  role = λ person. unwrap_or (get-empty (slice_cmp nat_cmp) person i) Nobody;
-  change = λ change. get-empty nat_cmp change i;
-  settings = None;
-  base = None;
-  clock = 0;
-}
-
--- what a legal history and its state keep
-record Kept (events : List Event) (s : State) : Type 0 where
-  same : look s.desk ≡ look_back events
-  unseen : (c : ℕ) → Unseen events c
-  numbered : Numbered events s.queue
-
-kept_by : (events : List Event) (old : State) (act : Act) → Kept events old → (rule : Option Rule) → denial old act ≡ rule
-    → Kept (happened events act (answered rule (all_orders old act))) (unless_denied rule old (done old act))
-kept_by events old act kept None holds =
-    let rules : broken (look old.desk) act ≡ broken (look_back events) act = ap (λ (s : Look). broken s act) kept.same in
-    let done_by : broken (look_back events) act ≡ None = sym rules ∙ (none_both (missing old.queue act) (broken (look old.desk) act) holds).1 in
-    record {
-      same = act_next old events act kept.same kept.unseen done_by;
-      unseen = λ c. unseen_given (did act ∷ events) (all_orders old act) c (still_unseen events act done_by c (kept.unseen c));
-      numbered = numbered_next old events act kept.numbered;
-    }
-kept_by events old act kept (Some rule) denied = kept
-
-kept_next : (events : List Event) (old : State) (act : Act) → Kept events old → Kept (happened events act (reply_to old act)) (after old act)
-kept_next events old act kept = kept_by events old act kept (denial old act) refl
-
-keeps : (history : List Entry) (s : State) → Legal history s → Kept (events_of history) s
-keeps [] s legal = record {
-  same = ap (λ (t : State). look t.desk) legal ∙ empty_look;
-  unseen = nothing_unseen;
-  numbered = subst (λ (t : State). Numbered [] t.queue) (sym legal) (λ number. omega arith);
-}
-keeps (entry ∷ history) s legal =
-    let next = kept_next (events_of history) legal.0 entry.act (keeps history legal.0 legal.1) in
-    subst (λ (reply : Reply). Kept (happened (events_of history) entry.act reply) s) (sym legal.2.0)
-    (subst (λ (t : State). Kept (happened (events_of history) entry.act (reply_to legal.0 entry.act)) t) (sym legal.2.1) next)
-
-unchanged : (old done : State) (given_orders : List Order) (broke : Option Rule) (rule : Rule) → answered broke given_orders ≡ Denied rule → unless_denied broke old done ≡ old
-unchanged old done given_orders None rule denied = cc denied
-unchanged old done given_orders (Some broke) rule denied = refl
-
-rule_answered : (rule : Option Rule) (given_orders : List Order) → denied_by (answered rule given_orders) ≡ rule
-rule_answered None given_orders = refl
-rule_answered (Some rule) given_orders = refl
-
--- a change that stands was approved, so it has approvers
-either_some : {X : Type 0} (this rest : Option X) (fit goes had : Bool) → (had ≡ true → is_some rest ≡ true)
-    → ((is_some this && fit) || (goes && had)) ≡ true → is_some (option_or this rest) ≡ true
-either_some (Some x) rest fit goes had so is = refl
-either_some None rest fit true had so is = so is
-either_some None rest fit false had so is = cc is
-
-standing_said : (events : List Event) (change : ℕ) → standing_back events change ≡ true → is_some (last_of (said_on change approval_said) events) ≡ true
-standing_said [] change is = cc is
-standing_said (event ∷ events) change is =
-    either_some (said_on change approval_said event events) (last_of (said_on change approval_said) events) (fit_back (event ∷ events) change)
-    (not (ends change event events) && fit_back (event ∷ events) change) (standing_back events change) (standing_said events change) is
-
-standing_approved : (events : List Event) (change : ℕ) → is_some (approvers_back events change) ≡ standing_back events change
-standing_approved events change = by (standing_back events change) refl where
-  by : (standing : Bool) → standing_back events change ≡ standing → is_some (cond standing (last_of (said_on change approval_said) events) None) ≡ standing
-  by true is = standing_said events change is
-  by false is = refl
+timed_out_are : (s : State) (now : ℕ) → AreNotices (timed_out now s).orders
+timed_out_are s now = by (has_overdue now s) where
+  by : (b : Bool) → AreNotices (if b then failing why.TimedOut s else quiet s).orders
+  by true = lone_are why.TimedOut (lone s.queue.staging.running)
+  by false = tt
 
 -- a change of the desk is that of the history
 known_as : (events : List Event) (change : ℕ) (priority : ℤ) (c : Change) → is_some c.approved ≡ true → c.priority ≡ priority
@@ -222,7 +85,7 @@ known_as events change priority c approved of None is = cc is
 known_as events change priority c approved of (Some author) is = record {
   standing = sym (standing_approved events change) ∙ ap (λ (o : Option Change). option_map_or (λ (x : Change). is_some x.approved) o false) is ∙ approved;
   head = ap (λ (o : Option Change). option_map_or (λ (x : Change). x.head) o []) is;
-  ranks = ap (λ (o : Option Change). option_map_or (λ (x : Change). x.priority) o priority) is ∙ of;
+  of_priority = ap (λ (o : Option Change). option_map_or (λ (x : Change). x.priority) o priority) is ∙ of;
 }
 
 module _ (events : List Event) (desk : DeskView) (priority : ℤ) (same : look desk ≡ look_back events) where
@@ -250,62 +113,326 @@ module _ (events : List Event) (desk : DeskView) (priority : ℤ) (same : look d
         All-cons (IsStandingAt events priority) (record { change = first; head = c.head }) (filter_map (head_on desk) changes)
         (known_as events first priority c so.0 so.1 (author_back events first) here) others
 
--- An order to stage is fit: its batch runs now, and a state keeps that the changes of its batches are approved.
-notices_fit : (events : List Event) (orders : List Order) → AreNotices orders → All (IsFitOrder events) orders
-notices_fit events [] are = All-nil (IsFitOrder events)
-notices_fit events (Notice change why ∷ orders) are = All-cons (IsFitOrder events) (Notice change why) orders tt (notices_fit events orders are)
-notices_fit events (Stage batch branch base heads ∷ orders) are = absurd are
+-- THE FIRST WAITING BATCH is ordered rightly, and is tested from then on.
+module _ (s : State) (is : Holds s) (batch : Batch) (waiting : List Batch) (idle : s.queue.staging ≡ record { running = None; waiting = batch ∷ waiting }) where
+  -- a change of it is approved, and has its priority
+  its_changes : (c : ℕ) → 1 ≤ occurs c batch.changes → (approved_on s.desk c ≡ true) × (priority_on s.desk c ≡ batch.priority)
+  its_changes c some =
+      let held_first = λ (test : ℤ → Bool). ap (λ (l : Lane). held test c l) idle ∙ sum_by-cons (held_by test c) batch waiting in
+      let other = λ (p : ℤ). not (int_eq p (priority_on s.desk c)) in (
+        approved (landing_on s.desk c) refl (queued_held s is c (omega (arith, held_first of_any_priority, some))),
+        same_priority (int_eq batch.priority (priority_on s.desk c)) refl (omega (arith, held_first other, is.queue.priorities c)),
+      ) where
+        none_lands : in_landing of_any_priority c s.queue.staging ≡ 0
+        none_lands = ap (λ (l : Lane). in_landing of_any_priority c l) idle
 
--- the changes of a running batch
-running_fits : (s : State) (batch : Batch) → IsState s → s.queue.staging.running ≡ Some batch → (change : ℕ) → 1 ≤ occurs change batch.changes
-    → (approved_on s.desk change ≡ true) × (priority_on s.desk change ≡ batch.priority)
-running_fits s batch is runs change some =
-    let held_first = λ (test : ℤ → Bool). sum_by-cons (held_by test change) batch s.queue.staging.waiting in
-    let all : held of_any_priority change s.queue.staging ≡ occurs change batch.changes + sum_by (held_by of_any_priority change) s.queue.staging.waiting =
-    ap (λ (o : Option Batch). held of_any_priority change (record { running = o; waiting = s.queue.staging.waiting })) runs ∙ held_first of_any_priority in
-    let other = λ (p : ℤ). not (int_eq p (priority_on s.desk change)) in
-    let strange : held other change s.queue.staging ≡ held_by other change batch + sum_by (held_by other change) s.queue.staging.waiting =
-    ap (λ (o : Option Batch). held other change (record { running = o; waiting = s.queue.staging.waiting })) runs ∙ held_first other in
-    (approved_by_count (approved_on s.desk change) (omega (arith, all, is.queue.places change, some)), same_priority (int_eq batch.priority (priority_on s.desk change)) refl (omega (arith, strange, is.queue.priorities change))) where
-      approved_by_count : (b : Bool) → 1 ≤ (if b then 1 else 0) → b ≡ true
-      approved_by_count true some = refl
-      approved_by_count false some = absurd (omega (arith, some))
+        approved : (b : Bool) → landing_on s.desk c ≡ b → (approved_on s.desk c || landing_on s.desk c) ≡ true → approved_on s.desk c ≡ true
+        approved true at so = absurd (omega (arith, none_lands, is.queue.landing c ∙ ap {B = ℕ} (λ (b : Bool). if b then 1 else 0) at))
+        approved false at so = by (approved_on s.desk c) (ap (λ (b : Bool). approved_on s.desk c || b) (sym at) ∙ so) where
+          by : (b : Bool) → (b || false) ≡ true → b ≡ true
+          by true so = refl
+          by false so = cc so
 
-      same_priority : (b : Bool) → int_eq batch.priority (priority_on s.desk change) ≡ b → (if not b then occurs change batch.changes else 0) ≤ 0 → priority_on s.desk change ≡ batch.priority
-      same_priority true is none = sym ((signed_Decides batch.priority (priority_on s.desk change)).0 is)
-      same_priority false is none = absurd (omega (arith, none, some))
+        same_priority : (b : Bool) → int_eq batch.priority (priority_on s.desk c) ≡ b → (if not b then occurs c batch.changes else 0) ≤ 0 → priority_on s.desk c ≡ batch.priority
+        same_priority true so none = sym ((signed_Decides batch.priority (priority_on s.desk c)).0 so)
+        same_priority false so none = absurd (omega (arith, none, some))
 
-staged_fits : (s : State) (events : List Event) (batch : Batch) → IsState s → s.queue.staging.running ≡ Some batch → look s.desk ≡ look_back events
-    → All (IsFitOrder events) (stage_order s.desk batch)
-staged_fits s events batch is runs same = by s.desk.base refl where
-  by : (base : Option (List ℕ)) → s.desk.base ≡ base → All (IsFitOrder events) (option_map_or (λ b. Stage batch.number batch.branch b (filter_map (head_on s.desk) batch.changes) ∷ []) base [])
-  by None at = All-nil (IsFitOrder events)
-  by (Some base) at = All-cons (IsFitOrder events) (Stage batch.number batch.branch base (filter_map (head_on s.desk) batch.changes)) []
-      (ap (λ (l : Look). l.base) (sym same) ∙ at, (batch.priority, heads_stand events s.desk batch.priority same batch.changes (running_fits s batch is runs)))
-      (All-nil (IsFitOrder events))
+  heads_right : (events : List Event) → look s.desk ≡ look_back events → All (IsStandingAt events batch.priority) (filter_map (head_on s.desk) batch.changes)
+  heads_right events same = heads_stand events s.desk batch.priority same batch.changes its_changes
 
-tick_fits : (desk : DeskView) (events : List Event) (now : ℕ) (running : Option Batch) (waiting : List Batch) (trying : Lane) (next : ℕ)
-    → IsState (record { desk = with_clock desk now; queue = started Staging now (record { staging = record { running = running; waiting = waiting }; trying = trying; next = next }) })
-    → look (with_clock desk now) ≡ look_back events → All (IsFitOrder events) (stage_orders desk running waiting)
-tick_fits desk events now (Some batch) waiting trying next is same = All-nil (IsFitOrder events)
-tick_fits desk events now None [] trying next is same = All-nil (IsFitOrder events)
-tick_fits desk events now None (batch ∷ waiting) trying next is same =
-    staged_fits (record { desk = with_clock desk now; queue = started Staging now (record { staging = record { running = None; waiting = batch ∷ waiting }; trying = trying; next = next }) }) events (ordered_at now batch) is refl same
+  -- at its head
+  heads_at : (events : List Event) → look s.desk ≡ look_back events → (changes : List ℕ) → ((c : ℕ) → list_any (eqb c) changes ≡ true → list_any (eqb c) batch.changes ≡ true) → All (IsAt events batch) (filter_map (head_on s.desk) changes)
+  heads_at events same [] within = All-nil (IsAt events batch)
+  heads_at events same (first ∷ changes) within =
+      by (finite.get s.desk.changes first) refl (within first (ap (λ (b : Bool). b || list_any (eqb first) changes) ((Decides-eqb first first).1 refl))) (heads_at events same changes (λ c there. within c (more (eqb c first) (list_any (eqb c) changes) there))) where
+        more : (b d : Bool) → d ≡ true → (b || d) ≡ true
+        more true d there = refl
+        more false d there = there
 
-all_fit : (s : State) (act : Act) (events : List Event) → IsState (done s act) → look (desk_after s act) ≡ look_back events → All (IsFitOrder events) (all_orders s act)
-all_fit s act events is same = elim (notices_or_tick s act) [
-  | inl are ↦ notices_fit events (all_orders s act) are
-  | inr (now, at) ↦
-      subst (λ a. All (IsFitOrder events) (all_orders s a)) (sym at)
-      (tick_fits s.desk events now s.queue.staging.running s.queue.staging.waiting s.queue.trying s.queue.next
-      (subst (λ a. IsState (done s a)) at is) (subst (λ a. look (desk_after s a) ≡ look_back events) at same))
-]
+        at_head : (c : Change) (author : Option (List ℕ)) → option_map (change_of events first) author ≡ Some c → head_back events first ≡ c.head
+        at_head c None so = cc so
+        at_head c (Some author) so = ap (λ (o : Option Change). option_map_or (λ (x : Change). x.head) o []) so
 
-fit_by : (old : State) (events : List Event) (act : Act) (rule : Option Rule) → IsState (unless_denied rule old (done old act))
-    → Kept (happened events act (answered rule (all_orders old act))) (unless_denied rule old (done old act))
-    → All (IsFitOrder (happened events act (answered rule (all_orders old act)))) (orders_in (answered rule (all_orders old act)))
-fit_by old events act None is kept = all_fit old act (given (did act ∷ events) (all_orders old act)) is kept.same
-fit_by old events act (Some rule) is kept = All-nil (IsFitOrder events)
+        by : (had : Option Change) → finite.get s.desk.changes first ≡ had → list_any (eqb first) batch.changes ≡ true → All (IsAt events batch) (filter_map (head_on s.desk) changes)
+            → All (IsAt events batch) (cons_option (option_map (λ (x : Change). record { change = first; head = x.head }) had) (filter_map (head_on s.desk) changes))
+        by None here there others = others
+        by (Some c) here there others =
+            All-cons (IsAt events batch) (record { change = first; head = c.head }) (filter_map (head_on s.desk) changes)
+            (there, at_head c (author_back events first) (ap (λ (l : Look). l.change first) (sym same) ∙ here)) others
+
+starting_right : (events : List Event) (s : State) (now : ℕ) (act : Act) → Holds s → look s.desk ≡ look_back (given events (starting now s).orders)
+    → All (IsRightOrder (given events (starting now s).orders) act) (starting now s).orders
+starting_right events s now act is same = by s.queue.staging.running s.queue.staging.waiting refl same where
+  by : (running : Option Batch) (waiting : List Batch) → s.queue.staging ≡ record { running = running; waiting = waiting } → look s.desk ≡ look_back (given events (stage_orders s.desk running waiting))
+      → All (IsRightOrder (given events (stage_orders s.desk running waiting)) act) (stage_orders s.desk running waiting)
+  by (Some batch) waiting at same = All-nil (IsRightOrder events act)
+  by None [] at same = All-nil (IsRightOrder events act)
+  by None (batch ∷ waiting) at same = on s.desk.base refl same where
+    on : (base : Option (List ℕ)) → s.desk.base ≡ base
+        → look s.desk ≡ look_back (given events (option_map_or (λ b. Stage batch.number batch.branch b (filter_map (head_on s.desk) batch.changes) ∷ []) base []))
+        → All (IsRightOrder (given events (option_map_or (λ b. Stage batch.number batch.branch b (filter_map (head_on s.desk) batch.changes) ∷ []) base [])) act)
+        (option_map_or (λ b. Stage batch.number batch.branch b (filter_map (head_on s.desk) batch.changes) ∷ []) base [])
+    on None based same = All-nil (IsRightOrder events act)
+    on (Some base) based same =
+        let order = Stage batch.number batch.branch base (filter_map (head_on s.desk) batch.changes) in
+        All-cons (IsRightOrder (gave order ∷ events) act) order []
+        (ap (λ (l : Look). l.base) (sym same) ∙ based, (batch.priority, heads_right s is batch waiting at (gave order ∷ events) same))
+        (All-nil (IsRightOrder (gave order ∷ events) act))
+
+starting_tests : (events : List Event) (s : State) (now : ℕ) → Holds s → Kept events s → Tests events s.queue.staging.running → Tests (given events (starting now s).orders) (starting now s).state.queue.staging.running
+starting_tests events s now is kept tests = by s.queue.staging.running s.queue.staging.waiting refl tests where
+  by : (running : Option Batch) (waiting : List Batch) → s.queue.staging ≡ record { running = running; waiting = waiting } → Tests events running
+      → Tests (given events (stage_orders s.desk running waiting)) (lanes.started now (record { running = running; waiting = waiting })).running
+  by (Some batch) waiting at tests = tests
+  by None [] at tests = tt
+  by None (batch ∷ waiting) at tests = on s.desk.base refl (first_based events s now kept is batch waiting at) where
+    on : (base : Option (List ℕ)) → s.desk.base ≡ base → is_some base ≡ true
+        → Tests (given events (option_map_or (λ b. Stage batch.number batch.branch b (filter_map (head_on s.desk) batch.changes) ∷ []) base [])) (Some (ordered_at now batch))
+    on None based some = cc some
+    on (Some base) based some =
+        stage_tests events now batch base (filter_map (head_on s.desk) batch.changes)
+        (All-head IsWaiting batch waiting (subst (λ (l : Lane). All IsWaiting l.waiting) at is.queue.waiting)).branch
+        (ap (λ (l : Look). l.base) (sym kept.same) ∙ based) (heads_at s is batch waiting at events kept.same batch.changes (λ c there. there))
+
+-- A STATUS
+module _ (events : List Event) (s : State) (commit name : List ℕ) (is : Holds s) (whole : Whole events s) (there : has_staged commit s.queue ≡ true) where
+  abbrev told_back : StatusState → List Event
+  told_back state = did (Status commit name state) ∷ events
+
+  told_whole : (state : StatusState) → look s.desk ≡ look_back (told_back state)
+      → Tests (given (told_back state) (told name state s).orders) (told name state s).state.queue.staging.running
+      × All (IsRightOrder (given (told_back state) (told name state s).orders) (Status commit name state)) (told name state s).orders
+  told_whole state same = by (is_required s.desk.settings name) refl where
+    goes : (r : Report) → is_required s.desk.settings name ≡ true → look s.desk ≡ look_back (told_back (report_of r))
+        → Tests (given (told_back (report_of r)) (goes_on name r s).orders) (goes_on name r s).state.queue.staging.running
+        × All (IsRightOrder (given (told_back (report_of r)) (goes_on name r s).orders) (Status commit name (report_of r))) (goes_on name r s).orders
+    goes r required same = on s.queue.staging.running refl there whole.tests where
+      on : (running : Option Batch) → s.queue.staging.running ≡ running → option_map_or (λ (batch : Batch). is_staged_with commit batch.stage) running false ≡ true → Tests events running
+          → Tests (given (told_back (report_of r)) (goes_on name r s).orders) (goes_on name r s).state.queue.staging.running
+          × All (IsRightOrder (given (told_back (report_of r)) (goes_on name r s).orders) (Status commit name (report_of r))) (goes_on name r s).orders
+      on None runs so tests = cc so
+      on (Some batch) runs so tests = at batch.stage refl so tests where
+        at : (l : StageOf) → batch.stage ≡ l → is_staged_with commit l ≡ true → TestsAt events batch l
+            → Tests (given (told_back (report_of r)) (goes_on name r s).orders) (goes_on name r s).state.queue.staging.running
+            × All (IsRightOrder (given (told_back (report_of r)) (goes_on name r s).orders) (Status commit name (report_of r))) (goes_on name r s).orders
+        at stage.Waiting stands so tests = cc so
+        at (stage.Ordered since) stands so tests = cc so
+        at (stage.Landing other) stands so tests = cc so
+        at (stage.Staged since other reports) stands so tests = (
+          goes_on_tests events s commit name r is same batch runs since other reports stands so required tests,
+          goes_on_right events s commit name r is same batch runs since other reports stands so required tests,
+        )
+
+    of : (said : StatusState) → state ≡ said → is_required s.desk.settings name ≡ true
+        → Tests (given (told_back said) (told_of name said s).orders) (told_of name said s).state.queue.staging.running
+        × All (IsRightOrder (given (told_back said) (told_of name said s).orders) (Status commit name said)) (told_of name said s).orders
+    of Success at required = goes report.Success required (same ∙ ap (λ said. look_back (told_back said)) at)
+    of Pending at required = goes report.Pending required (same ∙ ap (λ said. look_back (told_back said)) at)
+    of Failure at required =
+        (failed_tests (given (told_back Failure) (failing (why.Failed name) s).orders) s.queue.next s.queue.staging, notices_right (given (told_back Failure) (failing (why.Failed name) s).orders) (Status commit name Failure) (failing (why.Failed name) s).orders (lone_are (why.Failed name) (lone s.queue.staging.running)))
+    of Error at required =
+        (failed_tests (given (told_back Error) (failing (why.Failed name) s).orders) s.queue.next s.queue.staging, notices_right (given (told_back Error) (failing (why.Failed name) s).orders) (Status commit name Error) (failing (why.Failed name) s).orders (lone_are (why.Failed name) (lone s.queue.staging.running)))
+
+    by : (b : Bool) → is_required s.desk.settings name ≡ b
+        → Tests (given (told_back state) (if b then told_of name state s else quiet s).orders) (if b then told_of name state s else quiet s).state.queue.staging.running
+        × All (IsRightOrder (given (told_back state) (if b then told_of name state s else quiet s).orders) (Status commit name state)) (if b then told_of name state s else quiet s).orders
+    by true required = of state refl required
+    by false required = (
+      act_tests events (Status commit name state) [] s.queue.staging.running s (unasked events commit name state (ap (λ (l : Look). is_required l.settings name) (sym whole.kept.same) ∙ required)) tt is same (inl refl) whole.tests,
+      All-nil (IsRightOrder (told_back state) (Status commit name state)),
+    )
+
+-- NEW SETTINGS
+settings_tests : (events : List Event) (s : State) (text : List ℕ) (read : Result SettingsView SettingsFault) → settings_of text ≡ read → Holds s → Whole events s
+    → look (accepted s read).state.desk ≡ look_back (given (did (Settings text) ∷ events) (accepted s read).orders)
+    → Tests (given (did (Settings text) ∷ events) (accepted s read).orders) (accepted s read).state.queue.staging.running
+settings_tests events s text read at is whole same = of read at same where
+  of : (r : Result SettingsView SettingsFault) → settings_of text ≡ r → look (accepted s r).state.desk ≡ look_back (given (did (Settings text) ∷ events) (accepted s r).orders)
+      → Tests (given (did (Settings text) ∷ events) (accepted s r).orders) (accepted s r).state.queue.staging.running
+  of (Err fault) at same =
+      act_tests events (Settings text) [] s.queue.staging.running s
+      (record {
+        ordered = ap (λ (r : Result SettingsView SettingsFault). option_map_or (λ (new : SettingsView). option_map_or (λ (old : SettingsView). same_settings old new) (settings_back events) false) (result_ok r) true) at;
+        base = refl;
+        settings = ap (λ (r : Result SettingsView SettingsFault). option_or (result_ok r) (settings_back events)) at;
+        staged = λ number. refl;
+        said = λ commit name required. refl;
+      }) tt is same (inl refl) whole.tests
+  of (Ok settings) at same = by (are_present s.desk settings) refl same where
+    equal : (present : Option SettingsView) → option_map_or (λ (p : SettingsView). same_settings p settings) present false ≡ true → Some settings ≡ present
+    equal None so = cc so
+    equal (Some present) so = ap Some (sym (same_settings-is present settings so))
+
+    by : (b : Bool) → are_present s.desk settings ≡ b
+        → look (if b then quiet s else under settings s).state.desk ≡ look_back (given (did (Settings text) ∷ events) (if b then quiet s else under settings s).orders)
+        → Tests (given (did (Settings text) ∷ events) (if b then quiet s else under settings s).orders) (if b then quiet s else under settings s).state.queue.staging.running
+    by true present same =
+        let there = ap (λ (l : Look). option_map_or (λ (p : SettingsView). same_settings p settings) l.settings false) (sym whole.kept.same) ∙ present in
+        act_tests events (Settings text) [] s.queue.staging.running s
+        (record {
+          ordered = ap (λ (r : Result SettingsView SettingsFault). option_map_or (λ (new : SettingsView). option_map_or (λ (old : SettingsView). same_settings old new) (settings_back events) false) (result_ok r) true) at ∙ there;
+          base = refl;
+          settings = ap (λ (r : Result SettingsView SettingsFault). option_or (result_ok r) (settings_back events)) at ∙ equal (settings_back events) there;
+          staged = λ number. refl;
+          said = λ commit name required. refl;
+        }) tt is same (inl refl) whole.tests
+    by false new same = restarted_tests (given (did (Settings text) ∷ events) (under settings s).orders) _ _
+
+-- ANY ACT
+module _ (events : List Event) (s : State) (is : Holds s) (whole : Whole events s) where
+  about_tests : (act : Act) (n : ℕ) → Elsewhere events act → Holds (about s n act).state → Kept (given (did act ∷ events) (about s n act).orders) (about s n act).state
+      → Tests (given (did act ∷ events) (about s n act).orders) (about s n act).state.queue.staging.running
+  about_tests act n leaves later kept = act_tests events act (notices s.desk act) s.queue.staging.running (about s n act).state leaves (about_are s.desk act) later kept.same (followed_runs _ _ _ _ _ n s.queue) whole.tests
+
+  -- a batch that was ordered is staged
+  staged_whole : (number : ℕ) (commit : List ℕ) → has_ordered number s.queue ≡ true → look s.desk ≡ look_back (did (Staged number commit) ∷ events)
+      → Tests (did (Staged number commit) ∷ events) (lanes.staged s.desk.clock commit s.queue.staging).running
+  staged_whole number commit there same = by s.queue.staging.running refl there whole.tests where
+    by : (running : Option Batch) → s.queue.staging.running ≡ running → option_map_or (λ (batch : Batch). eqb number batch.number && is_ordered batch.stage) running false ≡ true → Tests events running
+        → Tests (did (Staged number commit) ∷ events) (option_map (lanes.staged_at s.desk.clock commit) running)
+    by None runs so tests = cc so
+    by (Some batch) runs so tests = at batch.stage refl (eqb number batch.number) refl so tests where
+      at : (l : StageOf) → batch.stage ≡ l → (b : Bool) → eqb number batch.number ≡ b → (b && is_ordered l) ≡ true → TestsAt events batch l
+          → Tests (did (Staged number commit) ∷ events) (Some (lanes.staged_at s.desk.clock commit batch))
+      at (stage.Ordered since) stands true same_number so tests =
+          staged_tests events s.desk.clock number commit batch (stands_all (did (Staged number commit) ∷ events) s is same batch runs (ap is_landing stands)) ((Decides-eqb number batch.number).0 same_number) tests
+      at stage.Waiting stands true same_number so tests = cc so
+      at (stage.Staged since other reports) stands true same_number so tests = cc so
+      at (stage.Landing other) stands true same_number so tests = cc so
+      at l stands false same_number so tests = cc so
+
+  timed_out_tests : (es : List Event) (t : State) (now : ℕ) → Tests es t.queue.staging.running → Tests (given es (timed_out now t).orders) (timed_out now t).state.queue.staging.running
+  timed_out_tests es t now tests = by (has_overdue now t) where
+    by : (b : Bool) → Tests (given es (if b then failing why.TimedOut t else quiet t).orders) (if b then failing why.TimedOut t else quiet t).state.queue.staging.running
+    by true = failed_tests (given es (failing why.TimedOut t).orders) t.queue.next t.queue.staging
+    by false = tests
+
+  abbrev Then : Act → Type 0
+  Then act = Tests (given (did act ∷ events) (done s act).orders) (done s act).state.queue.staging.running × All (IsRightOrder (given (did act ∷ events) (done s act).orders) act) (done s act).orders
+
+  about_then : (act : Act) (n : ℕ) → Elsewhere events act → Holds (about s n act).state → Kept (given (did act ∷ events) (about s n act).orders) (about s n act).state
+      → Tests (given (did act ∷ events) (about s n act).orders) (about s n act).state.queue.staging.running × All (IsRightOrder (given (did act ∷ events) (about s n act).orders) act) (about s n act).orders
+  about_then act n leaves later kept = (about_tests act n leaves later kept, notices_right (given (did act ∷ events) (about s n act).orders) act (notices s.desk act) (about_are s.desk act))
+
+  tick_then : (now : ℕ) → IsMoment now → broken (look s.desk) (Tick now) ≡ None → Kept (given (did (Tick now) ∷ events) (done s (Tick now)).orders) (done s (Tick now)).state → Then (Tick now)
+  tick_then now limit holds last =
+      let t = with_desk s (with_clock s.desk now) in
+      let later = timed_out now t in
+      let set = clock_holds s now limit (leb-true s.desk.clock now (passed (leb s.desk.clock now) ClockBack [] holds).0) is in
+      let ended = timed_out_holds t now set in
+      let first = clock_kept events s is whole.kept now holds in
+      let middle = timed_out_kept (did (Tick now) ∷ events) t now first in
+      let ticked = act_tests events (Tick now) [] s.queue.staging.running t (record { ordered = refl; base = refl; settings = refl; staged = λ number. refl; said = λ commit name required. refl }) tt set first.same (inl refl) whole.tests in
+      let whole_events : List Event = given (given (did (Tick now) ∷ events) later.orders) (starting now later.state).orders in
+      let same = given-append (did (Tick now) ∷ events) later.orders (starting now later.state).orders in (
+        subst (λ (es : List Event). Tests es (done s (Tick now)).state.queue.staging.running) (sym same)
+            (starting_tests (given (did (Tick now) ∷ events) later.orders) later.state now ended middle (timed_out_tests (did (Tick now) ∷ events) t now ticked)),
+        subst (λ (es : List Event). All (IsRightOrder es (Tick now)) (later.orders ++ (starting now later.state).orders)) (sym same)
+            (All-append (IsRightOrder whole_events (Tick now)) later.orders (starting now later.state).orders (notices_right whole_events (Tick now) later.orders (timed_out_are t now))
+            (starting_right (given (did (Tick now) ∷ events) later.orders) later.state now (Tick now) ended
+            (starting_kept (given (did (Tick now) ∷ events) later.orders) later.state now ended middle).same)),
+      )
+
+  done_then : (act : Act) → ((now : ℕ) → act ≡ Tick now → IsMoment now) → missing s.queue act ≡ None → broken (look s.desk) act ≡ None → Holds (done s act).state
+      → Kept (given (did act ∷ events) (done s act).orders) (done s act).state → Then act
+  done_then (Spoken n person spoken) limit there holds later kept = about_then (Spoken n person spoken) n (record { ordered = refl; base = refl; settings = refl; staged = λ number. refl; said = λ commit name required. refl }) later kept
+  done_then (Opened n author head) limit there holds later kept = about_then (Opened n author head) n (record { ordered = refl; base = refl; settings = refl; staged = λ number. refl; said = λ commit name required. refl }) later kept
+  done_then (Pushed n head) limit there holds later kept = about_then (Pushed n head) n (record { ordered = refl; base = refl; settings = refl; staged = λ number. refl; said = λ commit name required. refl }) later kept
+  done_then (Closed n) limit there holds later kept = about_then (Closed n) n (record { ordered = refl; base = refl; settings = refl; staged = λ number. refl; said = λ commit name required. refl }) later kept
+  done_then (Labeled n label) limit there holds later kept = about_then (Labeled n label) n (record { ordered = refl; base = refl; settings = refl; staged = λ number. refl; said = λ commit name required. refl }) later kept
+  done_then (Unlabeled n label) limit there holds later kept = about_then (Unlabeled n label) n (record { ordered = refl; base = refl; settings = refl; staged = λ number. refl; said = λ commit name required. refl }) later kept
+  done_then (Review n person head approves) limit there holds later kept = about_then (Review n person head approves) n (record { ordered = refl; base = refl; settings = refl; staged = λ number. refl; said = λ commit name required. refl }) later kept
+  done_then (Role person role) limit there holds later kept = (
+    act_tests events (Role person role) [] s.queue.staging.running (done s (Role person role)).state (record { ordered = refl; base = refl; settings = refl; staged = λ number. refl; said = λ commit name required. refl }) tt later kept.same (inl refl) whole.tests,
+    All-nil (IsRightOrder (did (Role person role) ∷ events) (Role person role)),
+  )
+  done_then (Settings text) limit there holds later kept = (
+    settings_tests events s text (settings_of text) refl is whole kept.same,
+    notices_right (given (did (Settings text) ∷ events) (accepted s (settings_of text)).orders) (Settings text) (accepted s (settings_of text)).orders (accepted_are s (settings_of text)),
+  )
+  done_then (Base base) limit there holds later kept =
+      (requeued_tests (did (Base base) ∷ events) _ s.queue.next s.queue.staging, All-nil (IsRightOrder (did (Base base) ∷ events) (Base base)))
+  done_then (Staged batch commit) limit there holds later kept = (
+    staged_whole batch commit (unless_so (has_ordered batch s.queue) NoSuchBatch there) kept.same,
+    All-nil (IsRightOrder (did (Staged batch commit) ∷ events) (Staged batch commit)),
+  )
+  done_then (Conflict batch) limit there holds later kept = (
+    failed_tests (given (did (Conflict batch) ∷ events) (failing why.Conflict s).orders) s.queue.next s.queue.staging,
+    notices_right (given (did (Conflict batch) ∷ events) (failing why.Conflict s).orders) (Conflict batch) (failing why.Conflict s).orders (lone_are why.Conflict (lone s.queue.staging.running)),
+  )
+  done_then (Status commit name state) limit there holds later kept =
+      told_whole events s commit name is whole (unless_so (has_staged commit s.queue) NoSuchBatch there) state
+      (fact_kept events s is whole.kept (Status commit name state) refl (λ c. (refl, refl)) (λ number. refl) holds).same
+  done_then (Refused batch) limit there holds later kept =
+      (requeued_tests (did (Refused batch) ∷ events) _ s.queue.next s.queue.staging, All-nil (IsRightOrder (did (Refused batch) ∷ events) (Refused batch)))
+  done_then (Tick now) limit there holds later kept = tick_then now (limit now refl) holds kept
+
+-- ENTRIES
+empty_look : look empty_desk ≡ look_back []
+empty_look = λ i. record {
+  role = λ person. unwrap_or (get-empty (slice_cmp nat_cmp) person i) Nobody;
+  change = λ change. get-empty nat_cmp change i;
+  settings = None;
+  base = None;
+  clock = 0;
+}
+
+-- the reading of a tick that is done is within the limit, as the clock is then
+moment_of : (s : State) (act : Act) → Holds (done s act).state → (now : ℕ) → act ≡ Tick now → IsMoment now
+moment_of s act later now at =
+    let same : (done s act).state.desk.clock ≡ now = ap (λ (a : Act). (done s a).state.desk.clock) at ∙ still_clock (with_desk s (with_clock s.desk now)) now in
+    subst IsMoment same later.desk.clock
+
+whole_by : (events : List Event) (old : State) (act : Act) → IsState old → Whole events old → (rule : Option Rule) → denial old act ≡ rule → IsState (unless_denied rule old (done old act).state)
+    → Whole (happened events act (answered rule (done old act).orders)) (unless_denied rule old (done old act).state)
+    × All (IsRightOrder (happened events act (answered rule (done old act).orders)) act) (orders_in (answered rule (done old act).orders))
+whole_by events old act is whole None holds later =
+    let both = none_both (missing old.queue act) (broken (look old.desk) act) holds in
+    let was : Holds old = record { desk = is.desk; queue = is.queue } in
+    let will : Holds (done old act).state = record { desk = later.desk; queue = later.queue } in
+    let kept = done_kept events old was whole.kept act (moment_of old act will) both.0 both.1 in
+    let then_is = done_then events old was whole act (moment_of old act will) both.0 both.1 will kept in
+    (record { kept = kept; tests = then_is.0 }, then_is.1)
+whole_by events old act is whole (Some rule) denied later = (whole, All-nil (IsRightOrder events act))
+
+whole_next : (events : List Event) (old : State) (act : Act) → IsState old → IsState (after old act) → Whole events old
+    → Whole (happened events act (reply_to old act)) (after old act) × All (IsRightOrder (happened events act (reply_to old act)) act) (orders_in (reply_to old act))
+whole_next events old act is later whole = whole_by events old act is whole (denial old act) refl later
+
+-- each state of a legal history is one
+legal_state : (history : List Entry) (s : State) → Legal history s → IsState s
+legal_state [] s legal = legal.1
+legal_state (entry ∷ history) s legal = legal.3
+
+empty_whole : (s : State) → s ≡ empty_state s.queue.next → Whole [] s
+empty_whole s empty = subst (Whole []) (sym empty) (record {
+  kept = record {
+    same = empty_look;
+    unseen = nothing_unseen;
+    numbered = record { once = λ number. omega arith; lands = λ number. omega arith };
+    landing = λ number. refl;
+    members = tt;
+  };
+  tests = tt;
+})
+
+keeps : (history : List Entry) (s : State) → Legal history s → Whole (events_of history) s
+keeps [] s legal = empty_whole s legal.0
+keeps (entry ∷ history) s legal =
+    let before = legal.0 in
+    let is = legal_state history before legal.1 in
+    let later = subst IsState legal.2.1 legal.3 in
+    let next = whole_next (events_of history) before entry.act is later (keeps history before legal.1) in
+    subst (λ (reply : Reply). Whole (happened (events_of history) entry.act reply) s) (sym legal.2.0)
+    (subst (λ (t : State). Whole (happened (events_of history) entry.act (reply_to before entry.act)) t) (sym legal.2.1) next.0)
+
+unchanged : (old done : State) (given_orders : List Order) (broke : Option Rule) (rule : Rule) → answered broke given_orders ≡ Denied rule → unless_denied broke old done ≡ old
+unchanged old done given_orders None rule denied = cc denied
+unchanged old done given_orders (Some broke) rule denied = refl
+
+rule_answered : (rule : Option Rule) (given_orders : List Order) → denied_by (answered rule given_orders) ≡ rule
+rule_answered None given_orders = refl
+rule_answered (Some rule) given_orders = refl
 
 -- the approvers of a change that was opened; one that wasn't is never standing
 approved_at : (events : List Event) (change : ℕ) → Unseen events change → (author : Option (List ℕ)) → author_back events change ≡ author
@@ -315,7 +442,7 @@ approved_at events change unseen None is = never (standing_back events change) r
   never : (standing : Bool) → standing_back events change ≡ standing → None ≡ cond standing (last_of (said_on change approval_said) events) None
   never true standing =
       let opened = opened_so (settings_back events) (phase_back events change) (labels_back events change) (reviews_back events change) (standing_fit events change standing) in
-      cc (sym (ap is_open_phase (unseen is).phase) ∙ opened)
+      cc (sym (ap is_open_phase (blank_phase events change (unseen is))) ∙ opened)
   never false standing = refl
 
 approved_there : (events : List Event) (change : ℕ) → Unseen events change → option_and_then (λ (c : Change). c.approved) (change_back events change) ≡ approvers_back events change
@@ -326,16 +453,26 @@ approved_as : (c : Option Change) → option_map_or (λ (x : Change). is_some x.
 approved_as None = refl
 approved_as (Some c) = refl
 
+landing_as : (events : List Event) (change : ℕ) → Unseen events change → (author : Option (List ℕ)) → author_back events change ≡ author
+    → option_map_or (λ (x : Change). x.landing) (option_map (change_of events change) author) false ≡ landing_back events change
+landing_as events change unseen (Some author) is = refl
+landing_as events change unseen None is = sym (blank_landing events change (unseen is))
+
 -- one more entry, after every legal history
 pub tells : (history : List Entry) (old : State) (act : Act) → IsState (after old act) → Legal history old → EntryTells history old (entry_of act (reply_to old act)) (after old act)
 tells history old act is legal =
     let new = after old act in
     let now = events_of (entry_of act (reply_to old act) ∷ history) in
-    let kept = keeps history old legal in
-    let next = kept_next (events_of history) old act kept in
-    let same = next.same in
+    let whole = keeps history old legal in
+    let next = whole_next (events_of history) old act (legal_state history old legal) is whole in
+    let kept = next.0.kept in
+    let same = kept.same in
     let approvers : (change : ℕ) → approvers_on new.desk change ≡ approvers_back now change =
-    λ change. ap (λ (s : Look). option_and_then (λ (c : Change). c.approved) (s.change change)) same ∙ approved_there now change (next.unseen change) in
+    λ change. ap (λ (s : Look). option_and_then (λ (c : Change). c.approved) (s.change change)) same ∙ approved_there now change (kept.unseen change) in
+    let stands : (change : ℕ) → approved_on new.desk change ≡ standing_back now change =
+    λ change. approved_as (finite.get new.desk.changes change) ∙ ap is_some (approvers change) ∙ standing_approved now change in
+    let landing : (change : ℕ) → landing_on new.desk change ≡ landing_back now change =
+    λ change. ap (λ (s : Look). option_map_or (λ (c : Change). c.landing) (s.change change) false) same ∙ landing_as now change (kept.unseen change) (author_back now change) refl in
     record {
       roles = λ person. ap (λ (s : Look). s.role person) same;
       settings = ap (λ (s : Look). s.settings) same;
@@ -343,16 +480,17 @@ tells history old act is legal =
       clock = ap (λ (s : Look). s.clock) same;
       changes = λ change. ap (λ (s : Look). s.change change) same;
       approvers = approvers;
-      queued = λ change.
-          is.queue.places change
-          ∙ ap (λ (b : Bool). if b then 1 else 0) (approved_as (finite.get new.desk.changes change) ∙ ap is_some (approvers change) ∙ standing_approved now change);
-      staged_once = λ number. once (ltb number new.queue.next) (stages number now) (uses number new.queue.staging.waiting) (next.numbered number);
-      fit = fit_by old (events_of history) act (denial old act) is next;
+      queued = λ change. is.queue.places change ∙ (λ i. if stands change i || landing change i then 1 else 0);
+      landing = λ change. is.queue.landing change ∙ ap {B = ℕ} (λ (b : Bool). if b then 1 else 0) (landing change);
+      staged_once = λ number. once (ltb number new.queue.next) (stages number now) (uses number new.queue.staging.waiting) (kept.numbered.once number);
+      landed_once = λ number.
+          omega (arith, kept.numbered.lands number, once (ltb number new.queue.next) (stages number now) (uses number new.queue.staging.waiting) (kept.numbered.once number));
+      ordered_rightly = next.1;
       by_rule =
-          rule_answered (denial old act) (all_orders old act)
-          ∙ ap (λ (s : Look). option_or (missing old.queue act) (broken s act)) kept.same;
-      denied = λ rule denied. unchanged old _ (all_orders old act) (denial old act) rule denied;
-      legal = (old, legal, (refl, refl));
+          rule_answered (denial old act) (done old act).orders
+          ∙ ap (λ (s : Look). option_or (missing old.queue act) (broken s act)) whole.kept.same;
+      denied = λ rule denied. unchanged old _ (done old act).orders (denial old act) rule denied;
+      legal = (old, legal, (refl, refl), is);
     } where
       once : (b : Bool) (staged waiting : ℕ) → staged + waiting ≤ (if b then 1 else 0) → staged ≤ 1
       once true staged waiting few = omega (arith, few)

@@ -3,12 +3,15 @@ pub mod After
 pub mod Batches
 pub mod Changes
 pub mod Counts
+pub mod Cuts
+pub mod Doing
 pub mod Facts
 pub mod Fitness
 pub mod Following
 pub mod Growing
 pub mod InOrder
 pub mod Keeping
+pub mod Landing
 pub mod Lanes
 pub mod Law
 pub mod Limits
@@ -17,7 +20,10 @@ pub mod Numbers
 pub mod Premises
 pub mod Service
 pub mod Sets
+pub mod Steps
 pub mod States
+pub mod Tested
+pub mod Testing
 pub mod Unseen
 pub mod Wording
 pub mod Worked

@@ -1,5 +1,5 @@
 -- What a desk keeps, every act keeps.
-use Rattle.std.proofs.Common.{◌≡◌, ℕ, Bool, true, false, cond, List, [], ◌∷◌, Option, Some, None, Result, Ok, Err, IfSome, is_some, eqb, refl, sym, ◌∙◌, ap, subst, arith}
+use Rattle.std.proofs.Common.{◌≡◌, ◌||◌, ℕ, Bool, true, false, not, cond, List, [], ◌∷◌, Option, Some, None, IfSome, is_some, eqb, refl, sym, ◌∙◌, ap, subst, arith}
 use Rattle.std.specs.Cmp.{nat_cmp_total}
 use Rattle.std.specs.FinMap as finite
 use Rattle.std.specs.FinMap.{get-empty}
@@ -8,21 +8,21 @@ use Rattle.std.specs.Option.{option_map, option_map_or}
 use Rattle.std.specs.Ordering.{nat_cmp}
 use Rattle.std.specs.Str.{bytes_eq}
 use Rattle.gate_text.specs.Finite.{get-mapped}
-use Rattle.gate_text.specs.Settings.{SettingsView, settings_of}
+use Rattle.gate_text.specs.Settings.{SettingsView}
 use Rattle.gate_text.specs.declared.command.Command.{Command}
 use Rattle.gate_text.specs.declared.command.Command.TheVariants.{Ping, Approve, ApproveFor, Withdraw, Priority, Try, TryCancel, DelegateAuthor, DelegateTo, DelegateNone, Retry}
 use Rattle.gate_text.specs.declared.command.Spoken.TheVariants.{Known, Unknown}
-use Rattle.gate_text.specs.declared.settings.fault.SettingsFault.{SettingsFault}
-use Rattle.gate_rules.specs.Rules.{first_failing, begins_with_rules, approval_rules, Texts, is_known, is_open, is_open_phase, is_blocked, has_too_few_reviews, has_settings, has_base, permits, need}
-use Rattle.gate_rules.specs.View.{DeskView, empty_desk, with_settings, without_approval, look}
+use Rattle.gate_rules.specs.Rules.{Look, first_failing, unless_landing, approval_rules, Texts, is_known, is_open, is_landing, is_open_phase, is_blocked, has_too_few_reviews, has_settings, has_base, permits, need}
+use Rattle.gate_rules.specs.View.{DeskView, empty_desk, with_role, with_base, with_clock, without_approval, look}
 use Rattle.gate_rules.specs.declared.change.Change.{Change}
 use Rattle.gate_rules.specs.declared.change.Repeat.TheVariants as repeat
-use Rattle.gate_rules.specs.declared.rule.Rule.TheVariants.{UnknownChange, NotPermitted, NotOpen, NoSettings, NoBase}
-use Rattle.gate_queue.specs.Acts.{ActKeepsLimits}
-use Rattle.gate_queue.specs.Machine.{broken, effect, altered, are_present, with_accepted, unless_against, approved_by, with_priority, with_delegates, with_author_as_delegate, without_delegates, opened, pushed, moved_to, closed, labeled, with_label, without_label, reviewed, with_review, with_settled, settled, loses_approval}
+use Rattle.gate_rules.specs.declared.rule.Rule.TheVariants.{UnknownChange, NotPermitted, NotOpen, Landing, NoSettings, NoBase}
+use Rattle.gate_rules.specs.declared.role.Role.{Role as RoleOf}
+use Rattle.gate_queue.specs.Acts.{ActKeepsLimits, IsMoment}
+use Rattle.gate_queue.specs.Machine.{broken, effect, altered, all_altered, with_landing, released, landed, with_new_settings, unless_against, approved_by, with_priority, with_delegates, with_author_as_delegate, without_delegates, opened, pushed, moved_to, closed, labeled, with_label, without_label, reviewed, with_review, settled, loses_approval}
 use Rattle.gate_queue.specs.State.{IsChange, IsDesk}
 use Rattle.gate_queue.specs.declared.act.Act.{Act}
-use Rattle.gate_queue.specs.declared.act.Act.TheVariants.{Spoken, Role, Settings, Base, Opened, Pushed, Closed, Labeled, Unlabeled, Review, Staged, Conflict, Tick}
+use Rattle.gate_queue.specs.declared.act.Act.TheVariants.{Spoken, Role, Settings, Base, Opened, Pushed, Closed, Labeled, Unlabeled, Review, Staged, Conflict, Status, Refused, Tick}
 use Rattle.gate_queue.proofs.Changes.{same_number, altered_look, opened_at}
 use Rattle.gate_queue.proofs.Fitness.{passed}
 
@@ -36,8 +36,18 @@ module _ (settings : Option SettingsView) (base : Option (List ℕ)) where
   abbrev Is : Change → Type 0
   Is = IsChange settings base
 
+  either_true : (b c : Bool) → c ≡ true → (b || c) ≡ true
+  either_true true c is = refl
+  either_true false c is = is
+
   pub ended_keeps : (change : Change) → Is change → Is (without_approval change)
-  ended_keeps change is = record { priority = is.priority; opened = λ some. cc some; ready = λ some. cc some; approvers = tt; last = is.last }
+  ended_keeps change is = record {
+    priority = is.priority;
+    opened = λ some. cc some;
+    ready = λ some. is.ready (either_true (is_some change.approved) change.landing some);
+    approvers = tt;
+    last = is.last;
+  }
 
   -- with other labels, reviews and delegates
   others_keep : (change : Change) (labels reviews delegates : Texts) → Is change → Is (record change { labels = labels; reviews = reviews; delegates = delegates })
@@ -53,10 +63,40 @@ module _ (settings : Option SettingsView) (base : Option (List ℕ)) where
 
   pushed_keeps : (head : List ℕ) (b : Bool) (change : Change) → Is change → Is (cond b change (moved_to head change))
   pushed_keeps head true change is = is
-  pushed_keeps head false change is = record { priority = is.priority; opened = λ some. cc some; ready = λ some. cc some; approvers = tt; last = is.last }
+  pushed_keeps head false change is =
+      let ended = ended_keeps change is in
+      record { priority = is.priority; opened = λ some. cc some; ready = ended.ready; approvers = tt; last = is.last }
 
   closed_keeps : (change : Change) → Is change → Is (closed change)
-  closed_keeps change is = record { priority = is.priority; opened = λ some. cc some; ready = λ some. cc some; approvers = tt; last = is.last }
+  closed_keeps change is =
+      let ended = ended_keeps change is in
+      record { priority = is.priority; opened = λ some. cc some; ready = ended.ready; approvers = tt; last = is.last }
+
+  -- a change that is to land, under settings and on a base; one that no longer is; and one that has landed
+  pub marked_keeps : (is_some settings ≡ true) × (is_some base ≡ true) → (change : Change) → Is change → Is (with_landing true change)
+  marked_keeps both change is = record { priority = is.priority; opened = is.opened; ready = λ some. both; approvers = is.approvers; last = is.last }
+
+  unmarked_keeps : (change : Change) → Is change → Is (with_landing false change)
+  unmarked_keeps change is = record {
+    priority = is.priority;
+    opened = is.opened;
+    ready = λ some. is.ready (first_true (is_some change.approved) change.landing some);
+    approvers = is.approvers;
+    last = is.last;
+  } where
+    first_true : (b c : Bool) → (b || false) ≡ true → (b || c) ≡ true
+    first_true true c so = refl
+    first_true false c so = cc so
+
+  landed_keeps : (change : Change) → Is change → Is (landed change)
+  landed_keeps change is = record { priority = is.priority; opened = λ some. cc some; ready = λ some. cc some; approvers = tt; last = is.last }
+
+  pub released_keeps : (on : Option (List ℕ)) (commit : List ℕ) (change : Change) → Is change → Is (released on commit change)
+  released_keeps None commit change is = unmarked_keeps change is
+  released_keeps (Some on) commit change is = by (bytes_eq on commit) where
+    by : (b : Bool) → Is (cond b (landed change) (with_landing false change))
+    by true = landed_keeps change is
+    by false = unmarked_keeps change is
 
   opened_keeps : (author head : List ℕ) (had : Option Change) → IfSome had Is → Is (opened author head had)
   opened_keeps author head None is = record { priority = (omega arith, omega arith); opened = λ some. cc some; ready = λ some. cc some; approvers = tt; last = tt }
@@ -87,6 +127,16 @@ altered_keeps desk n alter is so = subst IsDesk (sym (altered_look desk n alter)
       map_keeps desk.settings desk.base alter (finite.get desk.changes c) (λ change here. so change (ap (finite.get desk.changes) (sym (same_number c n same)) ∙ here)) (is.changes c)
   at c false other = is.changes c
 
+-- many of them
+pub all_keep : (alter : Change → Change) (changes : List ℕ) (desk : DeskView)
+    → ((change : Change) → IsChange desk.settings desk.base change → IsChange desk.settings desk.base (alter change))
+    → IsDesk (look desk) → IsDesk (look (all_altered alter desk changes))
+all_keep alter [] desk so is = is
+all_keep alter (n ∷ changes) desk so is =
+    all_keep alter changes (altered desk n alter)
+    (subst (λ (l : Look). (change : Change) → IsChange l.settings l.base change → IsChange l.settings l.base (alter change)) (sym (altered_look desk n alter)) so)
+    (altered_keeps desk n alter is (λ change here was. so change was))
+
 opening_keeps : (desk : DeskView) (n : ℕ) (author head : List ℕ) → IsDesk (look desk) → IsDesk (look (effect desk (Opened n author head)))
 opening_keeps desk n author head is = record {
   changes = λ c. subst (λ (o : Option Change). IfSome o (IsChange desk.settings desk.base)) (sym (opened_at desk n author head c)) (at c (eqb c n));
@@ -96,21 +146,29 @@ opening_keeps desk n author head is = record {
   at c true = opened_keeps desk.settings desk.base author head (finite.get desk.changes c) (is.changes c)
   at c false = is.changes c
 
-settings_keeps : (desk : DeskView) (read : Result SettingsView SettingsFault) → IsDesk (look desk) → IsDesk (look (with_accepted desk read))
-settings_keeps desk (Err fault) is = is
-settings_keeps desk (Ok settings) is = new (are_present desk settings) where
-  new : (b : Bool) → IsDesk (look (cond b desk (with_settings (with_settled desk settings) settings)))
-  new true = is
-  new false = record {
-    changes = λ c. subst (λ (o : Option Change). IfSome o (IsChange (Some settings) desk.base)) (sym (get-mapped nat_cmp (settled settings) nat_cmp_total desk.changes c))
-        (map_keeps (Some settings) desk.base (settled settings) (finite.get desk.changes c) (λ change here. if_ended (Some settings) desk.base (loses_approval settings change) change)
-        (ready_still desk.settings (Some settings) desk.base desk.base (λ some. refl) (λ some. some) (finite.get desk.changes c) (is.changes c)));
-    clock = is.clock;
-  }
+pub settings_keep : (desk : DeskView) (settings : SettingsView) → IsDesk (look desk) → IsDesk (look (with_new_settings desk settings))
+settings_keep desk settings is = record {
+  changes = λ c. subst (λ (o : Option Change). IfSome o (IsChange (Some settings) desk.base)) (sym (get-mapped nat_cmp (settled settings) nat_cmp_total desk.changes c))
+      (map_keeps (Some settings) desk.base (settled settings) (finite.get desk.changes c) (λ change here. if_ended (Some settings) desk.base (loses_approval settings change) change)
+      (ready_still desk.settings (Some settings) desk.base desk.base (λ some. refl) (λ some. some) (finite.get desk.changes c) (is.changes c)));
+  clock = is.clock;
+}
+
+pub base_keeps : (desk : DeskView) (base : List ℕ) → IsDesk (look desk) → IsDesk (look (with_base desk base))
+base_keeps desk base is = record {
+  changes = λ c. ready_still desk.settings desk.settings desk.base (Some base) (λ some. some) (λ some. refl) (finite.get desk.changes c) (is.changes c);
+  clock = is.clock;
+}
+
+pub clock_keeps : (desk : DeskView) (now : ℕ) → IsMoment now → IsDesk (look desk) → IsDesk (look (with_clock desk now))
+clock_keeps desk now limit is = record { changes = is.changes; clock = limit }
+
+pub role_keeps : (desk : DeskView) (person : List ℕ) (role : RoleOf) → IsDesk (look desk) → IsDesk (look (with_role desk person role))
+role_keeps desk person role is = record { changes = is.changes; clock = is.clock }
 
 -- an approval that no rule denies is of an open change, under settings and on a base
 approvable : (desk : DeskView) (person : List ℕ) (n : ℕ) (command : Command)
-    → first_failing (begins_with_rules (look desk) person n command (approval_rules (look desk) n)) ≡ None
+    → first_failing (unless_landing (look desk) person n command (approval_rules (look desk) n)) ≡ None
     → (change : Change) → finite.get desk.changes n ≡ Some change
     → (is_open_phase change.phase ≡ true) × ((is_some desk.settings ≡ true) × (is_some desk.base ≡ true))
 approvable desk person n command holds change here =
@@ -118,7 +176,8 @@ approvable desk person n command holds change here =
     let known = passed (is_known s n) UnknownChange _ holds in
     let permitted = passed (permits s person n command) (NotPermitted (need s n command)) _ known.1 in
     let opened = passed (is_open s n) NotOpen _ permitted.1 in
-    let settings = passed (has_settings s) NoSettings _ opened.1 in
+    let free = passed (not (is_landing s n)) Landing _ opened.1 in
+    let settings = passed (has_settings s) NoSettings _ free.1 in
     let base = passed (has_base s) NoBase _ settings.1 in
     (sym (ap (λ (c : Option Change). option_map_or (λ (x : Change). is_open_phase x.phase) c false) here) ∙ opened.0, (settings.0, base.0))
 
@@ -145,12 +204,6 @@ command_keeps desk person n Retry limits is holds = is
 pub effect_keeps : (desk : DeskView) (act : Act) → ActKeepsLimits act → IsDesk (look desk) → broken (look desk) act ≡ None → IsDesk (look (effect desk act))
 effect_keeps desk (Spoken n person (Known command)) limits is holds = command_keeps desk person n command limits is holds
 effect_keeps desk (Spoken n person Unknown) limits is holds = is
-effect_keeps desk (Role person role) limits is holds = record { changes = is.changes; clock = is.clock }
-effect_keeps desk (Settings text) limits is holds = settings_keeps desk (settings_of text) is
-effect_keeps desk (Base commit) limits is holds = record {
-  changes = λ c. ready_still desk.settings desk.settings desk.base (Some commit) (λ some. some) (λ some. refl) (finite.get desk.changes c) (is.changes c);
-  clock = is.clock;
-}
 effect_keeps desk (Opened n author head) limits is holds = opening_keeps desk n author head is
 effect_keeps desk (Pushed n head) limits is holds = altered_keeps desk n (pushed head) is (λ change here was. pushed_keeps desk.settings desk.base head (bytes_eq change.head head) change was)
 effect_keeps desk (Closed n) limits is holds = altered_keeps desk n closed is (λ change here was. closed_keeps desk.settings desk.base change was)
@@ -159,9 +212,14 @@ effect_keeps desk (Labeled n label) limits is holds = altered_keeps desk n (labe
 effect_keeps desk (Unlabeled n label) limits is holds = altered_keeps desk n (without_label label) is (λ change here was. others_keep desk.settings desk.base change _ _ _ was)
 effect_keeps desk (Review n person head approves) limits is holds = altered_keeps desk n (reviewed desk.settings person approves) is (λ change here was.
     against_keeps desk.settings desk.base (λ s c. has_too_few_reviews s c.reviews) desk.settings (with_review person approves change) (others_keep desk.settings desk.base change _ _ _ was))
+effect_keeps desk (Role person role) limits is holds = is
+effect_keeps desk (Settings text) limits is holds = is
+effect_keeps desk (Base commit) limits is holds = is
 effect_keeps desk (Staged batch commit) limits is holds = is
 effect_keeps desk (Conflict batch) limits is holds = is
-effect_keeps desk (Tick now) limits is holds = record { changes = is.changes; clock = limits }
+effect_keeps desk (Status commit name state) limits is holds = is
+effect_keeps desk (Refused batch) limits is holds = is
+effect_keeps desk (Tick now) limits is holds = is
 
 pub empty_is_desk : IsDesk (look empty_desk)
 empty_is_desk = record { changes = λ c. subst (λ (o : Option Change). IfSome o (IsChange None None)) (sym (get-empty nat_cmp c)) tt; clock = omega arith }

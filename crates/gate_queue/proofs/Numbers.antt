@@ -7,9 +7,10 @@ use Rattle.std.specs.Option.{option_map_or}
 use Rattle.gate_queue.proofs.Counts.{sum-placed, sum-back, sum-left, sum-split}
 use Rattle.gate_queue.specs.Counts.{uses}
 use Rattle.gate_queue.specs.Lanes as lanes
-use Rattle.gate_queue.specs.Lanes.{batches_of, fresh, with_change, with_joined, entered, joins, enqueued, enqueue_uses, has_changes, back, back_uses, only, left, stops_running, running_back, running_back_uses, taken_out, taken_out_uses, restarted, restarted_uses, requeued, requeued_uses, has_several, failed, failed_uses, ordered_at, started, staged, dropped}
+use Rattle.gate_queue.specs.Lanes.{batches_of, fresh, with_change, with_joined, entered, joins, enqueued, enqueue_uses, has_changes, back, back_uses, only, left, stops_running, running_back, running_back_uses, taken_out, taken_out_uses, restarted, restarted_uses, requeued, requeued_uses, has_several, failed, failed_uses, ordered_at, started, staged, reported, landing, dropped}
 use Rattle.gate_queue.specs.Service.{is_new, OnlyNew, LawOfNumbers}
 use Rattle.gate_queue.specs.declared.batch.Batch.{Batch}
+use Rattle.gate_queue.specs.declared.batch.Report.{Report}
 use Rattle.gate_queue.specs.declared.lane.Lane.{Lane}
 
 abbrev once : Bool → ℕ
@@ -163,6 +164,22 @@ module _ (next : ℕ) (lane : Lane) where
         let same = unchanged next (beside (Some batch)) in
         record { waiting = same.waiting; all = same.all }
 
+  pub report_new : (name : List ℕ) (report : Report) → OnlyNew next 0 lane (reported name report lane)
+  report_new name report = by lane.running where
+    by : (running : Option Batch) → OnlyNew next 0 (beside running) (reported name report (beside running))
+    by None = unchanged next (beside None)
+    by (Some batch) =
+        let same = unchanged next (beside (Some batch)) in
+        record { waiting = same.waiting; all = same.all }
+
+  pub land_new : OnlyNew next 0 lane (landing lane)
+  land_new = by lane.running where
+    by : (running : Option Batch) → OnlyNew next 0 (beside running) (landing (beside running))
+    by None = unchanged next (beside None)
+    by (Some batch) =
+        let same = unchanged next (beside (Some batch)) in
+        record { waiting = same.waiting; all = same.all }
+
 pub numbers_law : LawOfNumbers
 numbers_law next lane =
     record {
@@ -173,5 +190,7 @@ numbers_law next lane =
       fail = fail_new next lane;
       start = start_new next lane;
       stage = stage_new next lane;
+      report = report_new next lane;
+      land = land_new next lane;
       drop = drop_new next lane;
     }

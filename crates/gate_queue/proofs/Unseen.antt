@@ -1,7 +1,8 @@
 -- A change that was never opened has nothing: no act on it is done but the one that opens it.
 use Rattle.std.proofs.Common.{◌≡◌, ◌⊎◌, ℕ, pos, Bool, true, false, cond, List, [], ◌∷◌, Option, Some, None, is_some, eqb, refl, sym, ◌∙◌, ap, inl, inr}
 use Rattle.std.specs.FinSet as set
-use Rattle.std.specs.Option.{option_map, option_map_or, option_and_then}
+use Rattle.std.specs.List.{cons_option, list_any}
+use Rattle.std.specs.Option.{option_map, option_map_or, option_and_then, option_or}
 use Rattle.gate_text.specs.declared.command.Command.{Command}
 use Rattle.gate_text.specs.declared.command.Command.TheVariants.{Ping, Approve, ApproveFor, Withdraw, Priority, Try, TryCancel, DelegateAuthor, DelegateTo, DelegateNone, Retry}
 use Rattle.gate_text.specs.declared.command.Spoken.TheVariants.{Known, Unknown}
@@ -10,28 +11,40 @@ use Rattle.gate_rules.specs.declared.change.Change.{Change}
 use Rattle.gate_rules.specs.declared.change.Phase.TheVariants as phase
 use Rattle.gate_rules.specs.declared.rule.Rule.TheVariants.{UnknownChange}
 use Rattle.gate_queue.specs.Acts.{subject, on}
-use Rattle.gate_queue.specs.History.{Event, did, gave, done_to, author_said, author_back, phase_back, priority_back, labels_back, delegates_back, repeat_back, change_of, settings_back, look_back}
+use Rattle.gate_queue.specs.History.{Event, did, gave, last_of, said_on, done_to, author_said, author_back, stage_naming, batches_back, landing_with, landing_back, has_landed, landed_back, phase_said, phase_by, phase_back, priority_back, labels_back, delegates_back, repeat_back, change_of, look_back}
 use Rattle.gate_queue.specs.Machine.{broken}
 use Rattle.gate_queue.specs.declared.act.Act.{Act}
-use Rattle.gate_queue.specs.declared.act.Act.TheVariants.{Spoken, Role, Settings, Base, Opened, Pushed, Closed, Labeled, Unlabeled, Review, Staged, Conflict, Tick}
+use Rattle.gate_queue.specs.declared.act.Act.TheVariants.{Spoken, Role, Settings, Base, Opened, Pushed, Closed, Labeled, Unlabeled, Review, Staged, Conflict, Status, Refused, Tick}
 use Rattle.gate_queue.specs.declared.reply.Order.{Order}
-use Rattle.gate_queue.proofs.After.{author_after, phase_after, priority_after, labels_after, delegates_after, repeat_after}
+use Rattle.gate_queue.proofs.After.{rest_back, author_after, priority_after, labels_after, delegates_after, repeat_after}
 use Rattle.gate_queue.proofs.Changes.{same_number}
 use Rattle.gate_queue.proofs.Fitness.{passed}
 use Rattle.gate_queue.proofs.Wording.{none_both}
 
 pub record Blank (events : List Event) (c : ℕ) : Type 0 where
-  pub phase : phase_back events c ≡ phase.Closed
+  pub unsaid : last_of (said_on c phase_said) events ≡ None
+  pub unstaged : batches_back events c ≡ []
   pub priority : priority_back events c ≡ pos 0
   pub labels : labels_back events c ≡ set.empty
   pub delegates : delegates_back events c ≡ set.empty
   pub last : repeat_back events c ≡ None
 
+-- so it isn't open, hasn't landed, and isn't landing
+module _ (events : List Event) (c : ℕ) (blank : Blank events c) where
+  pub blank_landed : landed_back events c ≡ false
+  blank_landed = ap (λ (ns : List ℕ). list_any (has_landed events) ns) blank.unstaged
+
+  pub blank_landing : landing_back events c ≡ false
+  blank_landing = ap (λ (ns : List ℕ). list_any (λ n. is_some (landing_with events n)) ns) blank.unstaged
+
+  pub blank_phase : phase_back events c ≡ phase.Closed
+  blank_phase = λ i. phase_by (blank_landed i) (blank.unsaid i)
+
 abbrev pub Unseen : List Event → ℕ → Type 0
 Unseen events c = author_back events c ≡ None → Blank events c
 
 pub nothing_unseen : (c : ℕ) → Unseen [] c
-nothing_unseen c none = record { phase = refl; priority = refl; labels = refl; delegates = refl; last = refl }
+nothing_unseen c none = record { unsaid = refl; unstaged = refl; priority = refl; labels = refl; delegates = refl; last = refl }
 
 -- THE FIRST RULE of an act on a change: that the change is known, but for the act that opens it
 abbrev KnownOrOpened : Look → ℕ → Act → Type 0
@@ -69,6 +82,8 @@ known_first s act holds n is = first act holds is where
   first (Review m person head approves) so at = inl (known m (passed (is_known s m) UnknownChange _ so).0 at)
   first (Staged batch commit) so at = cc at
   first (Conflict batch) so at = cc at
+  first (Status commit name state) so at = cc at
+  first (Refused batch) so at = cc at
   first (Tick now) so at = cc at
 
 -- an act is on a change if that is its subject
@@ -84,25 +99,26 @@ known_so : (author : Option (List ℕ)) (was : List ℕ → Change) → is_some 
 known_so None was known none = cc known
 known_so (Some author) was known none = cc none
 
--- what an event leaves that did nothing to the change
-left_unseen : (events : List Event) (event : Event) (c : ℕ) → done_to c event ≡ None → Unseen events c → Unseen (event ∷ events) c
-left_unseen events event c other unseen none =
-    let s = settings_back events in
-    let blank = unseen (sym (λ i. author_after events c s (other i)) ∙ none) in
+-- what an event leaves that did nothing to the change, and doesn't stage it
+left_unseen : (events : List Event) (event : Event) (c : ℕ) → done_to c event ≡ None → stage_naming c event ≡ None → Unseen events c → Unseen (event ∷ events) c
+left_unseen events event c other unnamed unseen none =
+    let r = rest_back events c in
+    let blank = unseen (sym (λ i. author_after events c r (other i)) ∙ none) in
     record {
-      phase = (λ i. phase_after events c s (other i)) ∙ blank.phase;
-      priority = (λ i. priority_after events c s (other i)) ∙ blank.priority;
-      labels = (λ i. labels_after events c s (other i)) ∙ blank.labels;
-      delegates = (λ i. delegates_after events c s (other i)) ∙ blank.delegates;
-      last = (λ i. repeat_after events c s (other i)) ∙ blank.last;
+      unsaid = ap (λ (d : Option Act). option_or (option_and_then phase_said d) (last_of (said_on c phase_said) events)) other ∙ blank.unsaid;
+      unstaged = ap (λ (n : Option ℕ). cons_option n (batches_back events c)) unnamed ∙ blank.unstaged;
+      priority = (λ i. priority_after events c r (other i)) ∙ blank.priority;
+      labels = (λ i. labels_after events c r (other i)) ∙ blank.labels;
+      delegates = (λ i. delegates_after events c r (other i)) ∙ blank.delegates;
+      last = (λ i. repeat_after events c r (other i)) ∙ blank.last;
     }
 
-pub order_unseen : (events : List Event) (order : Order) (c : ℕ) → Unseen events c → Unseen (gave order ∷ events) c
-order_unseen events order c unseen = left_unseen events (gave order) c refl unseen
+pub order_unseen : (events : List Event) (order : Order) (c : ℕ) → stage_naming c (gave order) ≡ None → Unseen events c → Unseen (gave order ∷ events) c
+order_unseen events order c unnamed unseen = left_unseen events (gave order) c refl unnamed unseen
 
 pub still_unseen : (events : List Event) (act : Act) → broken (look_back events) act ≡ None → (c : ℕ) → Unseen events c → Unseen (did act ∷ events) c
 still_unseen events act holds c unseen = elim (about c act (subject act)) [
-  | inl other ↦ left_unseen events (did act) c other unseen
+  | inl other ↦ left_unseen events (did act) c other refl unseen
   | inr (subject, here) ↦ λ none.
       let both = none_both (option_and_then author_said (on c act)) (author_back events c) none in
       elim (known_first (look_back events) act holds c subject) [

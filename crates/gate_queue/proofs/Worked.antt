@@ -11,12 +11,14 @@ use Rattle.gate_rules.specs.declared.role.Level.TheVariants as level
 use Rattle.gate_rules.specs.declared.role.Role.TheVariants.{Nobody, Reviewer}
 use Rattle.gate_rules.specs.declared.rule.Rule.TheVariants.{UnknownChange, NotACommand, NotOpen, NoSettings, NotApproved, AlreadyOpen, ClockBack, NoSuchBatch, SameAsBase}
 use Rattle.gate_queue.specs.Acts.{on}
-use Rattle.gate_queue.specs.History.{Event, did, gave, role_back, author_back, head_back, moves, phase_back, priority_back, standing_back, look_back}
+use Rattle.gate_queue.specs.History.{Event, did, gave, role_back, author_back, head_back, moves, landing_back, landed_back, phase_back, priority_back, standing_back, is_ordered_on, has_passed, is_unmoved, look_back}
 use Rattle.gate_queue.specs.Lanes.{fresh}
 use Rattle.gate_queue.specs.Machine.{empty_state, broken, denial, followed, reply_to, pushed, ends_approval, just_opened, approved_by}
 use Rattle.gate_queue.specs.Queue.{empty_queue}
-use Rattle.gate_queue.specs.declared.act.Act.TheVariants.{Spoken, Role, Settings, Base, Opened, Pushed, Closed, Staged, Conflict, Tick}
-use Rattle.gate_queue.specs.declared.reply.Order.TheVariants.{Notice}
+use Rattle.gate_queue.specs.declared.act.Act.TheVariants.{Spoken, Role, Settings, Base, Opened, Pushed, Closed, Staged, Conflict, Status, Refused, Tick}
+use Rattle.gate_queue.specs.declared.act.StatusState.TheVariants.{Success, Failure, Pending}
+use Rattle.gate_queue.specs.declared.batch.Branch.TheVariants.{Staging}
+use Rattle.gate_queue.specs.declared.reply.Order.TheVariants.{Stage, Land, Notice}
 use Rattle.gate_queue.specs.declared.reply.Why.TheVariants as why
 use Rattle.gate_queue.specs.declared.reply.Reply.TheVariants.{Done}
 
@@ -116,3 +118,42 @@ module _ (text : List ℕ) (settings : SettingsView) (read : settings_of text �
 
   elsewhere : standing_back (gave (Notice 2 why.Conflict) ∷ approved_one) 1 ≡ true
   elsewhere = rw (read, free, enough set.empty) refl
+
+-- Batch 7 has change 1 at its head, is ordered on base a, and is staged as commit b.
+abbrev ci : List ℕ
+ci = 99 ∷ 105 ∷ []
+
+abbrev ordered_seven : List Event
+ordered_seven = gave (Stage 7 Staging a (record { change = 1; head = a } ∷ [])) ∷ opened_one
+
+abbrev staged_seven : List Event
+staged_seven = did (Staged 7 b) ∷ ordered_seven
+
+-- a status has passed if its last report is a success, none before was bad, and all came since the batch was staged
+statuses : (has_passed (did (Status b ci Success) ∷ staged_seven) 7 b ci ≡ true)
+    × (has_passed (did (Status b ci Success) ∷ did (Status b ci Pending) ∷ staged_seven) 7 b ci ≡ true)
+    × (has_passed (did (Status b ci Pending) ∷ did (Status b ci Success) ∷ staged_seven) 7 b ci ≡ false)
+    × (has_passed (did (Status b ci Success) ∷ did (Status b ci Failure) ∷ staged_seven) 7 b ci ≡ false)
+    × (has_passed (did (Staged 7 b) ∷ did (Status b ci Success) ∷ ordered_seven) 7 b ci ≡ false)
+    × (has_passed (did (Status a ci Success) ∷ staged_seven) 7 b ci ≡ false)
+statuses = (refl, refl, refl, refl, refl, refl)
+
+-- a base ends that the batch was ordered on the base of before
+bases : (is_ordered_on staged_seven 7 a ≡ true) × (is_ordered_on (did (Base b) ∷ staged_seven) 7 a ≡ false) × (is_ordered_on (did (Base a) ∷ did (Base b) ∷ staged_seven) 7 a ≡ false)
+bases = (refl, refl, refl)
+
+-- and a push, that its head hasn't moved, also if the head of before comes back
+unmoved : (is_unmoved staged_seven 7 (record { change = 1; head = a }) ≡ true)
+    × (is_unmoved (did (Pushed 1 a) ∷ staged_seven) 7 (record { change = 1; head = a }) ≡ true)
+    × (is_unmoved (did (Pushed 1 a) ∷ did (Pushed 1 b) ∷ staged_seven) 7 (record { change = 1; head = a }) ≡ false)
+unmoved = (refl, refl, refl)
+
+-- it lands if the next base is its commit, and the host hasn't refused it before
+landings_of_one : (landing_back (gave (Land 7 a b) ∷ staged_seven) 1 ≡ true)
+    × (landing_back (gave (Land 7 a b) ∷ staged_seven) 2 ≡ false)
+    × (landed_back (did (Base b) ∷ gave (Land 7 a b) ∷ staged_seven) 1 ≡ true)
+    × (landing_back (did (Base b) ∷ gave (Land 7 a b) ∷ staged_seven) 1 ≡ false)
+    × (landed_back (did (Base b) ∷ did (Base a) ∷ gave (Land 7 a b) ∷ staged_seven) 1 ≡ false)
+    × (landed_back (did (Base b) ∷ did (Refused 7) ∷ gave (Land 7 a b) ∷ staged_seven) 1 ≡ false)
+    × (phase_back (did (Closed 1) ∷ did (Base b) ∷ gave (Land 7 a b) ∷ staged_seven) 1 ≡ phase.Landed)
+landings_of_one = (refl, refl, refl, refl, refl, refl, refl)

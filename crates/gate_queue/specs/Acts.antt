@@ -5,7 +5,7 @@ use Rattle.gate_text.specs.Limits.{IsPriority, AreNames}
 use Rattle.gate_text.specs.declared.command.Command.TheVariants.{ApproveFor, Priority}
 use Rattle.gate_text.specs.declared.command.Spoken.TheVariants.{Known}
 use Rattle.gate_queue.specs.declared.act.Act.{Act}
-use Rattle.gate_queue.specs.declared.act.Act.TheVariants.{Spoken, Role, Settings, Base, Opened, Pushed, Closed, Labeled, Unlabeled, Review, Staged, Conflict, Tick}
+use Rattle.gate_queue.specs.declared.act.Act.TheVariants.{Spoken, Role, Settings, Base, Opened, Pushed, Closed, Labeled, Unlabeled, Review, Staged, Conflict, Status, Refused, Tick}
 
 -- the change, if there is one
 abbrev pub subject : Act → Option ℕ
@@ -21,23 +21,9 @@ subject (Unlabeled change label) = Some change
 subject (Review change person head approves) = Some change
 subject (Staged batch commit) = None
 subject (Conflict batch) = None
+subject (Status commit name state) = None
+subject (Refused batch) = None
 subject (Tick now) = None
-
--- the batch that it names, if it names one
-abbrev pub batch_of : Act → Option ℕ
-batch_of (Staged batch commit) = Some batch
-batch_of (Conflict batch) = Some batch
-batch_of (Tick now) = None
-batch_of (Spoken change person spoken) = None
-batch_of (Role person role) = None
-batch_of (Settings text) = None
-batch_of (Base commit) = None
-batch_of (Opened change author head) = None
-batch_of (Pushed change head) = None
-batch_of (Closed change) = None
-batch_of (Labeled change label) = None
-batch_of (Unlabeled change label) = None
-batch_of (Review change person head approves) = None
 
 -- the act, if it is about this change
 abbrev pub on : ℕ → Act → Option Act

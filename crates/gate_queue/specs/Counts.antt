@@ -2,8 +2,9 @@
 use Rattle.std.specs.Prelude.{◌≡◌, ℕ, ◌+◌, ◌==◌, ℤ, Bool, true, ◌&&◌, List, Option, if◌then◌else◌}
 use Rattle.std.specs.List.{sum_by, count_by}
 use Rattle.std.specs.Option.{option_map_or}
-use Rattle.gate_queue.specs.Lanes.{batches_of, is_landing, has_several, enqueued, taken_out, restarted, requeued, failed, started, staged, dropped}
+use Rattle.gate_queue.specs.Lanes.{batches_of, is_landing, has_several, enqueued, taken_out, restarted, requeued, failed, started, staged, reported, landing, dropped}
 use Rattle.gate_queue.specs.declared.batch.Batch.{Batch}
+use Rattle.gate_queue.specs.declared.batch.Report.{Report}
 use Rattle.gate_queue.specs.declared.lane.Lane.{Lane}
 
 -- how often a change is in a list of changes
@@ -51,7 +52,8 @@ abbrev pub LawOfTakeOut : Type 0
 LawOfTakeOut = (test : ℤ → Bool) (stays : ℕ → Bool) (number change : ℕ) (lane : Lane) →
     held test change (taken_out stays number lane) ≡ (if stays change then held test change lane else in_landing test change lane)
 
--- A restart loses nothing, and neither does a start, nor that a batch is staged.
+-- A restart loses nothing, and neither does a start, nor that a batch is staged, that a status is reported, or that it is to
+-- land.
 abbrev pub LawOfRestart : Type 0
 LawOfRestart = (test : ℤ → Bool) (number change : ℕ) (lane : Lane) → held test change (restarted number lane) ≡ held test change lane
 
@@ -60,6 +62,12 @@ LawOfStart = (test : ℤ → Bool) (now change : ℕ) (lane : Lane) → held tes
 
 abbrev pub LawOfStage : Type 0
 LawOfStage = (test : ℤ → Bool) (now : ℕ) (commit : List ℕ) (change : ℕ) (lane : Lane) → held test change (staged now commit lane) ≡ held test change lane
+
+abbrev pub LawOfReport : Type 0
+LawOfReport = (test : ℤ → Bool) (name : List ℕ) (report : Report) (change : ℕ) (lane : Lane) → held test change (reported name report lane) ≡ held test change lane
+
+abbrev pub LawOfLand : Type 0
+LawOfLand = (test : ℤ → Bool) (change : ℕ) (lane : Lane) → held test change (landing lane) ≡ held test change lane
 
 -- A running batch that waits again loses what isn't chosen.
 abbrev pub LawOfRequeue : Type 0

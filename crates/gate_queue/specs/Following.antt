@@ -5,8 +5,8 @@ use Rattle.std.specs.FinMap as finite
 use Rattle.std.specs.Option.{option_map_or}
 use Rattle.std.specs.Ordering.{int_eq}
 use Rattle.std.specs.Str.{bytes_eq}
-use Rattle.gate_queue.specs.Vocabulary.{Approve, ApproveFor, Withdraw, Priority, Known, Change, Act, Spoken, Opened, Pushed, Closed, Labeled, Unlabeled, Review}
-use Rattle.gate_queue.specs.Machine.{State, denial, queue_after, approved_on, priority_on, size_on, all_but, ends_approval, labeled, reviewed}
+use Rattle.gate_queue.specs.Vocabulary.{Ping, Approve, ApproveFor, Withdraw, Priority, DelegateAuthor, DelegateTo, DelegateNone, Known, Change, State, Act, Spoken, Opened, Pushed, Closed, Labeled, Unlabeled, Review}
+use Rattle.gate_queue.specs.Machine.{denial, done, approved_on, priority_on, size_on, all_but, ends_approval, labeled, reviewed}
 use Rattle.gate_queue.specs.Queue.{enqueued, taken_out}
 use Rattle.gate_queue.specs.State.{IsState}
 use Rattle.gate_queue.specs.declared.queue.Queue.{Queue}
@@ -26,7 +26,7 @@ abbrev pub is_ended : State → ℕ → (Change → Change) → Bool
 is_ended s change alter = option_map_or (ends_approval alter) (finite.get s.desk.changes change) false
 
 abbrev pub Leaves : State → Act → Queue → Type 0
-Leaves s act queue = denial s act ≡ None → queue_after s act ≡ queue
+Leaves s act queue = denial s act ≡ None → (done s act).state.queue ≡ queue
 
 pub record ActByAct (s : State) (change : ℕ) : Type 0 where
   -- `r+` and `r=` queue the change, and `r-` takes it out
@@ -44,6 +44,10 @@ pub record ActByAct (s : State) (change : ℕ) : Type 0 where
   pub reviewed : (person head : List ℕ) (approves : Bool) →
       Leaves s (Review change person head approves) (if is_ended s change (reviewed s.desk.settings person approves) then without s change else s.queue)
   -- all else leaves the queue
+  pub ping : (person : List ℕ) → Leaves s (Spoken change person (Known Ping)) s.queue
+  pub delegate_author : (person : List ℕ) → Leaves s (Spoken change person (Known DelegateAuthor)) s.queue
+  pub delegate_to : (person : List ℕ) (names : List (List ℕ)) → Leaves s (Spoken change person (Known (DelegateTo names))) s.queue
+  pub delegate_none : (person : List ℕ) → Leaves s (Spoken change person (Known DelegateNone)) s.queue
   pub opened : (author head : List ℕ) → Leaves s (Opened change author head) s.queue
   pub unlabeled : (label : List ℕ) → Leaves s (Unlabeled change label) s.queue
 

@@ -2,16 +2,19 @@
 use Rattle.std.specs.Prelude.{◌≡◌, ℕ, ℤ, pos, ◌==◌, ◌≤◌, Bool, true, false, not, ◌&&◌, ◌||◌, ⊤, List, [], ◌∷◌, Option, Some, None, is_some, if◌then◌else◌}
 use Rattle.std.specs.FinMap as finite
 use Rattle.std.specs.FinSet as set
-use Rattle.std.specs.List.{fold, count_by, All}
-use Rattle.std.specs.Option.{unwrap_or, option_or, option_map, option_map_or, option_and_then}
+use Rattle.std.specs.Bool.{then_some}
+use Rattle.std.specs.List.{fold, filter_map, list_any, count_by, All}
+use Rattle.std.specs.Option.{option_flatten, unwrap_or, option_or, option_map, option_map_or, option_and_then}
 use Rattle.std.specs.Result.{result_ok}
 use Rattle.std.specs.Str.{bytes_eq}
-use Rattle.gate_queue.specs.Vocabulary.{SettingsView, settings_of, Approve, ApproveFor, Withdraw, Priority, DelegateAuthor, DelegateTo, DelegateNone, Known, Look, Texts, is_fit, DeskView, role_on, Change, Phase, Repeat, Nobody, RoleOf, Rule, Act, Spoken, Role, Settings, Base, Opened, Pushed, Closed, Labeled, Unlabeled, Review, Tick, Order, Stage, Notice, Reply, Done, Denied, Why}
+use Rattle.gate_queue.specs.Vocabulary.{SettingsView, settings_of, same_settings, Approve, ApproveFor, Withdraw, Priority, DelegateAuthor, DelegateTo, DelegateNone, Known, Look, Texts, is_fit, DeskView, role_on, Change, Phase, Repeat, Nobody, RoleOf, Rule, Act, Spoken, Role, Settings, Base, Opened, Pushed, Closed, Labeled, Unlabeled, Review, Staged, Status, Refused, Tick, StatusState, Success, Failure, Error, Pending, Order, Stage, Land, Notice, Reply, Done, Denied, Why, State}
 use Rattle.gate_rules.specs.declared.change.Phase.TheVariants as phase
 use Rattle.gate_rules.specs.declared.change.Repeat.TheVariants as repeat
 use Rattle.gate_queue.specs.Acts.{on}
-use Rattle.gate_queue.specs.Counts.{held, of_any_priority}
-use Rattle.gate_queue.specs.Machine.{State, IsEmpty, broken, missing, Step}
+use Rattle.gate_queue.specs.Counts.{held, in_landing, of_any_priority}
+use Rattle.gate_queue.specs.Machine.{IsEmpty, broken, missing, Step}
+use Rattle.gate_queue.specs.State.{IsState}
+use Rattle.gate_queue.specs.declared.batch.Branch.TheVariants.{Staging}
 use Rattle.gate_queue.specs.declared.reply.Head.{Head}
 use Rattle.gate_queue.specs.declared.reply.Why.TheVariants as why
 
@@ -119,14 +122,66 @@ moves_head change before _ = false
 abbrev pub moves : ℕ → Event → List Event → Bool
 moves change event before = option_map_or (moves_head change before) (done_to change event) false
 
+-- BATCHES OF A CHANGE: the numbers of those that an order to stage names it for
+abbrev pub names_change : ℕ → List Head → Bool
+names_change change heads = list_any (λ (head : Head). change == head.change) heads
+
+abbrev pub stage_naming : ℕ → Event → Option ℕ
+stage_naming change (did act) = None
+stage_naming change (gave (Stage batch branch base heads)) = then_some (names_change change heads) batch
+stage_naming change (gave (Land batch base commit)) = None
+stage_naming change (gave (Notice other why)) = None
+
+abbrev pub batches_back : List Event → ℕ → List ℕ
+batches_back events change = filter_map (stage_naming change) events
+
+-- LANDING: the commit that a batch was ordered to land with, until the host refuses it, or the base is another
+abbrev pub ends_landing : ℕ → Act → Bool
+ends_landing number (Base commit) = true
+ends_landing number (Refused batch) = number == batch
+ends_landing number act = false
+
+abbrev pub landing_said : ℕ → Event → List Event → Option (Option (List ℕ))
+landing_said number (did act) before = then_some (ends_landing number act) None
+landing_said number (gave (Stage batch branch base heads)) before = None
+landing_said number (gave (Land batch base commit)) before = then_some (number == batch) (Some commit)
+landing_said number (gave (Notice change why)) before = None
+
+abbrev pub landing_with : List Event → ℕ → Option (List ℕ)
+landing_with events number = option_flatten (last_of (landing_said number) events)
+
+-- LANDED: since the base was the commit that the batch was to land with
+abbrev pub are_same : Option (List ℕ) → Option (List ℕ) → Bool
+are_same None commit = false
+are_same (Some base) None = false
+are_same (Some base) (Some commit) = bytes_eq base commit
+
+abbrev pub lands_now : ℕ → Event → List Event → Bool
+lands_now number event before = are_same (said_by base_said event before) (landing_with before number)
+
+abbrev pub has_landed : List Event → ℕ → Bool
+has_landed events number = since (lands_now number) (λ event before. true) events
+
+-- A change is landing, or has landed, if a batch of it is or has.
+abbrev pub landing_back : List Event → ℕ → Bool
+landing_back events change = list_any (λ number. is_some (landing_with events number)) (batches_back events change)
+
+abbrev pub landed_back : List Event → ℕ → Bool
+landed_back events change = list_any (has_landed events) (batches_back events change)
+
+-- PHASES: a change that has landed stays so; else it is open from when it was opened last, until it is closed
 abbrev pub phase_said : Act → Option Phase
 phase_said (Opened change author head) = Some phase.Opened
 phase_said (Closed change) = Some phase.Closed
 phase_said _ = None
 
 -- A change that was never opened isn't open.
+abbrev pub phase_by : Bool → Option Phase → Phase
+phase_by true said = phase.Landed
+phase_by false said = unwrap_or said phase.Closed
+
 abbrev pub phase_back : List Event → ℕ → Phase
-phase_back events change = unwrap_or (last_of (said_on change phase_said) events) phase.Closed
+phase_back events change = phase_by (landed_back events change) (last_of (said_on change phase_said) events)
 
 abbrev pub priority_said : Act → Option ℤ
 priority_said (Spoken change person (Known (Priority priority))) = Some priority
@@ -209,7 +264,8 @@ approval_said (Spoken change person (Known Approve)) = Some (person ∷ [])
 approval_said (Spoken change person (Known (ApproveFor names))) = Some names
 approval_said _ = None
 
--- what ends an approval, beside the loss of fitness: `r-`, a head move, that the change is closed, and the notice of a conflict
+-- what ends an approval, beside the loss of fitness: `r-`, a head move, that the change is closed, and the notice that its
+-- batch has failed
 abbrev pub ends_it : ℕ → List Event → Act → Bool
 ends_it change before (Spoken other person (Known Withdraw)) = true
 ends_it change before (Closed other) = true
@@ -217,6 +273,8 @@ ends_it change before act = moves_head change before act
 
 abbrev pub ends_why : Why → Bool
 ends_why why.Conflict = true
+ends_why (why.Failed name) = true
+ends_why why.TimedOut = true
 ends_why why.Pushed = false
 ends_why why.Closed = false
 ends_why why.Labeled = false
@@ -226,6 +284,7 @@ ends_why why.Settings = false
 abbrev pub order_ends : ℕ → Order → Bool
 order_ends change (Notice other why) = ends_why why && (change == other)
 order_ends change (Stage batch branch base heads) = false
+order_ends change (Land batch base commit) = false
 
 abbrev pub ends : ℕ → Event → List Event → Bool
 ends change (did act) before = option_map_or (ends_it change before) (on change act) false
@@ -254,31 +313,158 @@ change_of events change author = record {
   reviews = reviews_back events change;
   delegates = delegates_back events change;
   approved = approvers_back events change;
+  landing = landing_back events change;
   last = repeat_back events change;
 }
 
 abbrev pub change_back : List Event → ℕ → Option Change
 change_back events change = option_map (change_of events change) (author_back events change)
 
--- ORDERS TO STAGE: how many named a batch
-abbrev pub is_stage_of : ℕ → Event → Bool
-is_stage_of number (did act) = false
-is_stage_of number (gave (Stage batch branch base heads)) = number == batch
-is_stage_of number (gave (Notice change why)) = false
+-- ORDERS: how many were to stage a batch, and how many to land it
+abbrev pub is_stage_of : ℕ → Order → Bool
+is_stage_of number (Stage batch branch base heads) = number == batch
+is_stage_of number (Land batch base commit) = false
+is_stage_of number (Notice change why) = false
+
+abbrev pub is_land_of : ℕ → Order → Bool
+is_land_of number (Stage batch branch base heads) = false
+is_land_of number (Land batch base commit) = number == batch
+is_land_of number (Notice change why) = false
+
+abbrev pub is_order : (Order → Bool) → Event → Bool
+is_order test (did act) = false
+is_order test (gave order) = test order
 
 abbrev pub stages : ℕ → List Event → ℕ
-stages number events = count_by (is_stage_of number) events
+stages number events = count_by (is_order (is_stage_of number)) events
 
+abbrev pub landings : ℕ → List Event → ℕ
+landings number events = count_by (is_order (is_land_of number)) events
+
+-- the heads that the last order to stage a batch names
+abbrev pub heads_said : ℕ → Event → List Event → Option (List Head)
+heads_said number (did act) before = None
+heads_said number (gave (Stage batch branch base heads)) before = then_some (number == batch) heads
+heads_said number (gave (Land batch base commit)) before = None
+heads_said number (gave (Notice change why)) before = None
+
+abbrev pub heads_back : List Event → ℕ → List Head
+heads_back events number = unwrap_or (last_of (heads_said number) events) []
+
+-- TESTED, for a base and a commit.
+-- The batch was ordered on this base, and since then no base was set, and settings only that equal those before.
+abbrev pub is_order_on : ℕ → List ℕ → Event → List Event → Bool
+is_order_on number base (gave (Stage batch Staging other heads)) before = (number == batch) && bytes_eq base other
+is_order_on number base event before = false
+
+abbrev pub keeps_settings : Option SettingsView → Act → Bool
+keeps_settings present act = option_map_or (λ (new : SettingsView). option_map_or (λ (old : SettingsView). same_settings old new) present false) (settings_said act) true
+
+abbrev pub keeps_order : Event → List Event → Bool
+keeps_order (did act) before = not (is_some (base_said act)) && keeps_settings (settings_back before) act
+keeps_order (gave order) before = true
+
+abbrev pub is_ordered_on : List Event → ℕ → List ℕ → Bool
+is_ordered_on events number base = since (is_order_on number base) keeps_order events
+
+-- It was staged with this commit, and not staged or ordered anew since.
+abbrev pub is_staging : ℕ → List ℕ → Act → Bool
+is_staging number commit (Staged batch other) = (number == batch) && bytes_eq commit other
+is_staging number commit act = false
+
+abbrev pub stages_anew : ℕ → Act → Bool
+stages_anew number (Staged batch commit) = number == batch
+stages_anew number act = false
+
+abbrev pub is_staged_as : ℕ → List ℕ → Event → List Event → Bool
+is_staged_as number commit (did act) before = is_staging number commit act
+is_staged_as number commit (gave order) before = false
+
+abbrev pub keeps_staged : ℕ → Event → List Event → Bool
+keeps_staged number (did act) before = not (stages_anew number act)
+keeps_staged number (gave order) before = not (is_stage_of number order)
+
+abbrev pub is_staged_back : List Event → ℕ → List ℕ → Bool
+is_staged_back events number commit = since (is_staged_as number commit) (keeps_staged number) events
+
+-- what an event reports of a status of a commit
+abbrev pub state_said : List ℕ → List ℕ → Act → Option StatusState
+state_said commit name (Status other status state) = then_some (bytes_eq commit other && bytes_eq name status) state
+state_said commit name act = None
+
+abbrev pub is_bad : StatusState → Bool
+is_bad Success = false
+is_bad Failure = true
+is_bad Error = true
+is_bad Pending = false
+
+abbrev pub is_good : StatusState → Bool
+is_good Success = true
+is_good Failure = false
+is_good Error = false
+is_good Pending = false
+
+-- Since it was staged, none of these reports was bad.
+abbrev pub keeps_clean : ℕ → List ℕ → List ℕ → Event → List Event → Bool
+keeps_clean number commit name event before = keeps_staged number event before && not (option_map_or is_bad (said_by (state_said commit name) event before) false)
+
+abbrev pub is_clean : List Event → ℕ → List ℕ → List ℕ → Bool
+is_clean events number commit name = since (is_staged_as number commit) (keeps_clean number commit name) events
+
+-- The last was good, and came after it was staged, and none before it was bad.
+abbrev pub passes : ℕ → List ℕ → List ℕ → Event → List Event → Bool
+passes number commit name event before = is_clean before number commit name && option_map_or is_good (said_by (state_said commit name) event before) false
+
+abbrev pub keeps_passed : ℕ → List ℕ → List ℕ → Event → List Event → Bool
+keeps_passed number commit name event before = keeps_staged number event before && not (is_some (said_by (state_said commit name) event before))
+
+abbrev pub has_passed : List Event → ℕ → List ℕ → List ℕ → Bool
+has_passed events number commit name = since (passes number commit name) (keeps_passed number commit name) events
+
+pub record IsTested (events : List Event) (number : ℕ) (base commit : List ℕ) : Type 0 where
+  pub ordered : is_ordered_on events number base ≡ true
+  pub present : base_back events ≡ Some base
+  pub staged : is_staged_back events number commit ≡ true
+  pub settings : SettingsView
+  pub accepted : settings_back events ≡ Some settings
+  pub passed : All (λ name. has_passed events number commit name ≡ true) settings.status
+
+-- RIGHT ORDERS
 -- a change that is staged is standing, at its present head, and has this priority
 pub record IsStandingAt (events : List Event) (priority : ℤ) (staged : Head) : Type 0 where
   pub standing : standing_back events staged.change ≡ true
   pub head : head_back events staged.change ≡ staged.head
-  pub ranks : priority_back events staged.change ≡ priority
+  pub of_priority : priority_back events staged.change ≡ priority
+
+-- a change that is to land is standing and fit, at the head at which it was staged, and its head hasn't moved since
+abbrev pub is_order_at : ℕ → Head → Event → List Event → Bool
+is_order_at number head (gave (Stage batch branch base heads)) before = (number == batch) && list_any (λ (other : Head). (head.change == other.change) && bytes_eq head.head other.head) heads
+is_order_at number head event before = false
+
+abbrev pub keeps_head : ℕ → Event → List Event → Bool
+keeps_head change event before = not (moves change event before)
+
+abbrev pub is_unmoved : List Event → ℕ → Head → Bool
+is_unmoved events number head = since (is_order_at number head) (keeps_head head.change) events
+
+pub record IsReadyToLand (events : List Event) (number : ℕ) (staged : Head) : Type 0 where
+  pub standing : standing_back events staged.change ≡ true
+  pub fit : fit_back events staged.change ≡ true
+  pub head : head_back events staged.change ≡ staged.head
+  pub unmoved : is_unmoved events number staged ≡ true
+
+-- An order to land comes by a success of the commit, if the batch is tested and each change that it was staged with is ready.
+pub record IsRightLanding (events : List Event) (act : Act) (number : ℕ) (base commit : List ℕ) : Type 0 where
+  pub name : List ℕ
+  pub success : act ≡ Status commit name Success
+  pub tested : IsTested events number base commit
+  pub ready : All (IsReadyToLand events number) (heads_back events number)
 
 -- An order to stage names the present base, and changes that stand, at their heads; they have one priority.
-abbrev pub IsFitOrder : List Event → Order → Type 0
-IsFitOrder events (Stage batch branch base heads) = (base_back events ≡ Some base) × ((priority : ℤ) × All (IsStandingAt events priority) heads)
-IsFitOrder events (Notice change why) = ⊤
+abbrev pub IsRightOrder : List Event → Act → Order → Type 0
+IsRightOrder events act (Stage batch branch base heads) = (base_back events ≡ Some base) × ((priority : ℤ) × All (IsStandingAt events priority) heads)
+IsRightOrder events act (Land batch base commit) = IsRightLanding events act batch base commit
+IsRightOrder events act (Notice change why) = ⊤
 
 -- WHAT THE RULES READ of a history
 abbrev pub look_back : List Event → Look
@@ -294,10 +480,10 @@ look_back events = record {
 abbrev pub rule_back : List Entry → Act → Option Rule
 rule_back history act = broken (look_back (events_of history)) act
 
--- LEGAL: the entries are steps of the machine, one after the other, from an empty state to this one
+-- LEGAL: the entries are steps of the machine, one after the other, from an empty state to this one, each to a state
 abbrev pub Legal : List Entry → State → Type 0
-Legal [] s = IsEmpty s
-Legal (entry ∷ history) s = (before : State) × Legal history before × Step before entry.act entry.reply s
+Legal [] s = IsEmpty s × IsState s
+Legal (entry ∷ history) s = (before : State) × Legal history before × Step before entry.act entry.reply s × IsState s
 
 -- the approvers of a change, if it is there and has any
 abbrev pub approvers_on : DeskView → ℕ → Option (List (List ℕ))
@@ -319,18 +505,22 @@ pub record EntryTells (history : List Entry) (old : State) (entry : Entry) (new 
   pub settings : new.desk.settings ≡ settings_back (events_of (entry ∷ history))
   pub base : new.desk.base ≡ base_back (events_of (entry ∷ history))
   pub clock : new.desk.clock ≡ clock_back (events_of (entry ∷ history))
-  -- a change is there exactly if it was opened; then its author, head, phase, priority, labels, reviews, delegates and
-  -- last command are those of the history
+  -- a change is there exactly if it was opened; then its author, head, phase, priority, labels, reviews, delegates, its last
+  -- command, and whether it is landing, are those of the history
   pub changes : (change : ℕ) → finite.get new.desk.changes change ≡ change_back (events_of (entry ∷ history)) change
   -- a change has approvers exactly if it is standing, and then those of its last approval
   pub approvers : (change : ℕ) → approvers_on new.desk change ≡ approvers_back (events_of (entry ∷ history)) change
-  -- a change is in exactly one batch on staging if it is standing, and in none if it isn't
-  pub queued : (change : ℕ) → held of_any_priority change new.queue.staging ≡ (if standing_back (events_of (entry ∷ history)) change then 1 else 0)
-  -- no number was staged twice, and each order to stage is fit
+  -- a change is in exactly one batch on staging if it is standing or landing, and in none if it isn't; and its batch is landing
+  -- exactly if it is
+  pub queued : (change : ℕ) → held of_any_priority change new.queue.staging
+      ≡ (if standing_back (events_of (entry ∷ history)) change || landing_back (events_of (entry ∷ history)) change then 1 else 0)
+  pub landing : (change : ℕ) → in_landing of_any_priority change new.queue.staging ≡ (if landing_back (events_of (entry ∷ history)) change then 1 else 0)
+  -- no number was staged twice, and none was to land twice; each order is right
   pub staged_once : (number : ℕ) → stages number (events_of (entry ∷ history)) ≤ 1
-  pub fit : All (IsFitOrder (events_of (entry ∷ history))) (orders_in entry.reply)
-  -- acts exactly by rule: done if no rule fails on the history before, and else denied by the first that does; an act on a
-  -- batch is denied before if no batch of that number was ordered
+  pub landed_once : (number : ℕ) → landings number (events_of (entry ∷ history)) ≤ 1
+  pub ordered_rightly : All (IsRightOrder (events_of (entry ∷ history)) entry.act) (orders_in entry.reply)
+  -- acts exactly by rule: done if no rule fails on the history before, and else denied by the first that does; news of a batch
+  -- is denied before, if no batch is where the news needs it
   pub by_rule : denied_by entry.reply ≡ option_or (missing old.queue entry.act) (rule_back history entry.act)
   -- a denied act changes nothing
   pub denied : (rule : Rule) → entry.reply ≡ Denied rule → new ≡ old

@@ -8,6 +8,7 @@ use Rattle.std.specs.Option.{option_map, option_map_or, option_or, unwrap_or}
 use Rattle.std.specs.Ordering.{int_eq}
 use Rattle.gate_queue.specs.declared.batch.Batch.{Batch}
 use Rattle.gate_queue.specs.declared.batch.Branch.TheVariants.{Staging}
+use Rattle.gate_queue.specs.declared.batch.Report.{Report}
 use Rattle.gate_queue.specs.declared.batch.Stage.{Stage}
 use Rattle.gate_queue.specs.declared.batch.Stage.TheVariants as stage
 use Rattle.gate_queue.specs.declared.lane.Lane.{Lane}
@@ -220,6 +221,32 @@ staged_at now commit batch = record batch { stage = stage.Staged now commit fini
 
 abbrev pub staged : ℕ → List ℕ → Lane → Lane
 staged now commit lane = record lane { running = option_map (staged_at now commit) lane.running }
+
+-- REPORTED: the last report of a required status takes the place of the one before, while the batch is tested
+abbrev pub with_report : List ℕ → Report → Stage → Stage
+with_report name report stage.Waiting = stage.Waiting
+with_report name report (stage.Ordered since) = stage.Ordered since
+with_report name report (stage.Staged since commit reports) = stage.Staged since commit (finite.insert reports name report)
+with_report name report (stage.Landing commit) = stage.Landing commit
+
+abbrev pub reported_on : List ℕ → Report → Batch → Batch
+reported_on name report batch = record batch { stage = with_report name report batch.stage }
+
+abbrev pub reported : List ℕ → Report → Lane → Lane
+reported name report lane = record lane { running = option_map (reported_on name report) lane.running }
+
+-- LANDING: the commit that was tested is to land
+abbrev pub to_landing : Stage → Stage
+to_landing stage.Waiting = stage.Waiting
+to_landing (stage.Ordered since) = stage.Ordered since
+to_landing (stage.Staged since commit reports) = stage.Landing commit
+to_landing (stage.Landing commit) = stage.Landing commit
+
+abbrev pub to_land : Batch → Batch
+to_land batch = record batch { stage = to_landing batch.stage }
+
+abbrev pub landing : Lane → Lane
+landing lane = record lane { running = option_map to_land lane.running }
 
 -- DROP the running batch
 abbrev pub dropped : Lane → Lane

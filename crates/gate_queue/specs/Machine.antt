@@ -1,32 +1,31 @@
 -- THE MACHINE: what one act is answered on a state, and the state after it.
-use Rattle.std.specs.Prelude.{◌≡◌, ◌==◌, ℕ, ℤ, pos, nat_le, not, Bool, true, false, ◌&&◌, ◌||◌, ⊤, List, [], ◌∷◌, map, slice_get, Option, Some, None, Result, Ok, Err, is_some, is_none, if◌then◌else◌}
+use Rattle.std.specs.Prelude.{◌≡◌, ◌==◌, ◌-◌, ◌++◌, ℕ, ℤ, pos, nat_le, not, Bool, true, false, ◌&&◌, ◌||◌, ⊤, List, [], ◌∷◌, map, slice_get, Option, Some, None, Result, Ok, Err, is_some, is_none, if◌then◌else◌}
+use Rattle.std.specs.Cmp.Lexicographic.{slice_cmp}
 use Rattle.std.specs.FinMap as finite
+use Rattle.std.specs.FinMap.{FinMap}
 use Rattle.std.specs.FinSet as set
-use Rattle.std.specs.List.{fold, filter_map}
+use Rattle.std.specs.List.{fold, filter_map, list_all, list_any}
 use Rattle.std.specs.Option.{option_map, option_map_or, option_and_then, option_or}
-use Rattle.std.specs.Ordering.{int_eq}
+use Rattle.std.specs.Ordering.{int_eq, nat_cmp}
 use Rattle.std.specs.Str.{bytes_eq}
-use Rattle.gate_queue.specs.Vocabulary.{SettingsView, settings_of, fault_number, same_settings, Command, Ping, Approve, ApproveFor, Withdraw, Priority, Try, TryCancel, DelegateAuthor, DelegateTo, DelegateNone, Retry, Known, Unknown, SettingsFault, Look, asks, is_known, is_open, is_member, is_blocked, has_too_few_reviews, first_failing, DeskView, empty_desk, with_role, with_change, with_settings, with_base, with_clock, with_ended, numbers_where, ended_if, without_approval, look, Change, Repeat, Nobody, Rule, UnknownChange, NotOpen, AlreadyOpen, StaleHead, NotMember, OwnChange, BadSettings, ClockBack, NoSuchBatch, SameAsBase, Act, Spoken, Role, Settings, Base, Opened, Pushed, Closed, Labeled, Unlabeled, Review, Staged, Conflict, Tick, Order, Stage, Notice, Reply, Done, Denied, Why}
+use Rattle.gate_queue.specs.Vocabulary.{SettingsView, settings_of, fault_number, same_settings, Command, Ping, Approve, ApproveFor, Withdraw, Priority, Try, TryCancel, DelegateAuthor, DelegateTo, DelegateNone, Retry, Known, Unknown, SettingsFault, Look, asks, is_known, is_open, is_landed, is_member, is_blocked, has_too_few_reviews, first_failing, DeskView, empty_desk, with_role, with_change, with_settings, with_base, with_clock, with_ended, numbers_where, ended_if, without_approval, look, Change, Repeat, Nobody, Rule, UnknownChange, NotOpen, AlreadyOpen, ChangeLanded, StaleHead, NotMember, OwnChange, BadSettings, ClockBack, NoSuchBatch, SameAsBase, Act, Spoken, Role, Settings, Base, Opened, Pushed, Closed, Labeled, Unlabeled, Review, Staged, Conflict, Status, Refused, Tick, StatusState, Success, Failure, Error, Pending, Order, Stage, Land, Notice, Reply, Done, Denied, Why, State, Outcome}
 use Rattle.gate_rules.specs.Rules as rules
 use Rattle.gate_rules.specs.declared.change.Phase.TheVariants as phase
 use Rattle.gate_rules.specs.declared.change.Repeat.TheVariants as repeat
-use Rattle.gate_queue.specs.Acts.{subject, batch_of}
+use Rattle.gate_queue.specs.Acts.{subject}
 use Rattle.gate_queue.specs.Lanes as lanes
-use Rattle.gate_queue.specs.Queue.{empty_queue, enqueued, taken_out, restarted, staged, failed, started}
+use Rattle.gate_queue.specs.Queue.{empty_queue, enqueued, taken_out, restarted, requeued, staged, failed, started, reported, landing}
 use Rattle.gate_queue.specs.declared.batch.Batch.{Batch}
 use Rattle.gate_queue.specs.declared.batch.Branch.TheVariants.{Staging}
+use Rattle.gate_queue.specs.declared.batch.Report.{Report}
+use Rattle.gate_queue.specs.declared.batch.Report.TheVariants as report
 use Rattle.gate_queue.specs.declared.batch.Stage.{Stage as StageOf}
 use Rattle.gate_queue.specs.declared.batch.Stage.TheVariants as stage
 use Rattle.gate_queue.specs.declared.queue.Queue.{Queue}
 use Rattle.gate_queue.specs.declared.reply.Head.{Head}
 use Rattle.gate_queue.specs.declared.reply.Why.TheVariants as why
 
--- A STATE: the desk and the batches.
-pub record State : Type 0 where
-  pub desk : DeskView
-  pub queue : Queue
-
--- an empty state has nothing but the next number
+-- A STATE is the desk and the batches. An empty one has nothing but the next number.
 abbrev pub empty_state : ℕ → State
 empty_state next = record { desk = empty_desk; queue = empty_queue next }
 
@@ -52,6 +51,9 @@ bad_settings (Err fault) = Some (BadSettings (fault_number fault))
 abbrev pub of_open_change : Look → ℕ → List (Option Rule) → List (Option Rule)
 of_open_change s change others = asks (is_known s change) UnknownChange ∷ asks (is_open s change) NotOpen ∷ others
 
+abbrev pub opening_row : Look → ℕ → List (Option Rule)
+opening_row s change = asks (not (is_open s change)) AlreadyOpen ∷ asks (not (is_landed s change)) ChangeLanded ∷ []
+
 abbrev pub review_row : Look → ℕ → List ℕ → List ℕ → List (Option Rule)
 review_row s change person head =
     of_open_change s change
@@ -66,7 +68,7 @@ row s (Spoken change person spoken) = rules.line_row s person change spoken
 row s (Role person role) = []
 row s (Settings text) = bad_settings (settings_of text) ∷ []
 row s (Base commit) = asks (not (is_base s commit)) SameAsBase ∷ []
-row s (Opened change author head) = asks (not (is_open s change)) AlreadyOpen ∷ []
+row s (Opened change author head) = opening_row s change
 row s (Pushed change head) = of_open_change s change []
 row s (Closed change) = of_open_change s change []
 row s (Labeled change label) = of_open_change s change []
@@ -74,24 +76,45 @@ row s (Unlabeled change label) = of_open_change s change []
 row s (Review change person head approves) = review_row s change person head
 row s (Staged batch commit) = asks (not (is_base s commit)) SameAsBase ∷ []
 row s (Conflict batch) = []
+row s (Status commit name state) = []
+row s (Refused batch) = []
 row s (Tick now) = asks (nat_le s.clock now) ClockBack ∷ []
 
 -- the first of these that fails
 abbrev pub broken : Look → Act → Option Rule
 broken s act = first_failing (row s act)
 
--- An act that names a batch is judged by this before: the host was ordered to stage that batch, and hasn't answered yet.
+-- News of a batch is judged by this before: the running batch has the number, or the commit, and is where the news needs it.
 abbrev pub is_ordered : StageOf → Bool
 is_ordered stage.Waiting = false
 is_ordered (stage.Ordered since) = true
 is_ordered (stage.Staged since commit reports) = false
 is_ordered (stage.Landing commit) = false
 
-abbrev pub has_ordered : Queue → ℕ → Bool
-has_ordered queue number = option_map_or (λ (batch : Batch). number == batch.number && is_ordered batch.stage) queue.staging.running false
+abbrev pub is_staged_with : List ℕ → StageOf → Bool
+is_staged_with commit stage.Waiting = false
+is_staged_with commit (stage.Ordered since) = false
+is_staged_with commit (stage.Staged since other reports) = bytes_eq commit other
+is_staged_with commit (stage.Landing other) = false
+
+abbrev pub has_running : (Batch → Bool) → Queue → Bool
+has_running test queue = option_map_or test queue.staging.running false
+
+abbrev pub has_ordered : ℕ → Queue → Bool
+has_ordered number queue = has_running (λ batch. (number == batch.number) && is_ordered batch.stage) queue
+
+abbrev pub has_staged : List ℕ → Queue → Bool
+has_staged commit queue = has_running (λ batch. is_staged_with commit batch.stage) queue
+
+abbrev pub has_landing : ℕ → Queue → Bool
+has_landing number queue = has_running (λ batch. (number == batch.number) && lanes.is_landing batch.stage) queue
 
 abbrev pub missing : Queue → Act → Option Rule
-missing queue act = option_and_then (λ number. asks (has_ordered queue number) NoSuchBatch) (batch_of act)
+missing queue (Staged batch commit) = asks (has_ordered batch queue) NoSuchBatch
+missing queue (Conflict batch) = asks (has_ordered batch queue) NoSuchBatch
+missing queue (Status commit name state) = asks (has_staged commit queue) NoSuchBatch
+missing queue (Refused batch) = asks (has_landing batch queue) NoSuchBatch
+missing queue act = None
 
 -- the rule that denies an act, if one does
 abbrev pub denial : State → Act → Option Rule
@@ -128,6 +151,7 @@ just_opened author head = record {
   reviews = set.empty;
   delegates = set.empty;
   approved = None;
+  landing = false;
   last = None;
 }
 
@@ -166,7 +190,7 @@ with_review person approves change = record change { reviews = if approves then 
 abbrev pub reviewed : Option SettingsView → List ℕ → Bool → Change → Change
 reviewed settings person approves change = unless_against (λ s c. has_too_few_reviews s c.reviews) settings (with_review person approves change)
 
--- WHAT AN ACT DOES TO THE DESK, if no rule denies it
+-- ON THE DESK
 -- the desk with one change altered, if it is there
 abbrev pub with_altered : DeskView → ℕ → Option Change → DeskView
 with_altered desk number None = desk
@@ -189,17 +213,11 @@ with_settled desk settings = with_ended (loses_approval settings) desk
 abbrev pub losing_on : DeskView → SettingsView → List ℕ
 losing_on desk settings = numbers_where (loses_approval settings) desk
 
--- Settings that equal the present ones do nothing. Others take their place, and end the approvals that they are against.
+-- Settings that equal the present ones do nothing.
 abbrev pub are_present : DeskView → SettingsView → Bool
 are_present desk settings = option_map_or (λ present. same_settings present settings) desk.settings false
 
-abbrev pub with_new_settings : DeskView → SettingsView → DeskView
-with_new_settings desk settings = if are_present desk settings then desk else with_settings (with_settled desk settings) settings
-
-abbrev pub with_accepted : DeskView → Result SettingsView SettingsFault → DeskView
-with_accepted desk (Ok settings) = with_new_settings desk settings
-with_accepted desk (Err fault) = desk
-
+-- AN ACT ABOUT A CHANGE, on the desk and if no rule denies it
 -- `ping` does nothing, and an unknown line or a command that is still to come never acts.
 abbrev pub command_effect : DeskView → List ℕ → ℕ → Command → DeskView
 command_effect desk person change Approve = altered desk change (approved_by (person ∷ []) repeat.Approve)
@@ -217,20 +235,16 @@ command_effect desk person change Retry = desk
 abbrev pub effect : DeskView → Act → DeskView
 effect desk (Spoken change person (Known command)) = command_effect desk person change command
 effect desk (Spoken change person Unknown) = desk
-effect desk (Role person role) = with_role desk person role
-effect desk (Settings text) = with_accepted desk (settings_of text)
-effect desk (Base commit) = with_base desk commit
 effect desk (Opened change author head) = with_change desk change (opened author head (finite.get desk.changes change))
 effect desk (Pushed change head) = altered desk change (pushed head)
 effect desk (Closed change) = altered desk change closed
 effect desk (Labeled change label) = altered desk change (labeled desk.settings label)
 effect desk (Unlabeled change label) = altered desk change (without_label label)
 effect desk (Review change person head approves) = altered desk change (reviewed desk.settings person approves)
-effect desk (Staged batch commit) = desk
-effect desk (Conflict batch) = desk
-effect desk (Tick now) = with_clock desk now
+-- the others are about no change
+effect desk act = desk
 
--- THE ORDERS OF AN ACT: a notice if a change was approved and no longer is; `r-` gives none
+-- Its notices: one if the change was approved and no longer is; `r-` gives none.
 abbrev pub notice_if : Bool → ℕ → Why → List Order
 notice_if ends number why = if ends then Notice number why ∷ [] else []
 
@@ -240,34 +254,19 @@ ends_approval alter change = is_some change.approved && not (is_some (alter chan
 abbrev pub notice_of : DeskView → ℕ → Why → (Change → Change) → List Order
 notice_of desk number why alter = notice_if (option_map_or (ends_approval alter) (finite.get desk.changes number) false) number why
 
-abbrev pub settings_notices : List ℕ → List Order
-settings_notices numbers = map (λ number. Notice number why.Settings) numbers
-
-abbrev pub new_settings_notices : DeskView → SettingsView → List Order
-new_settings_notices desk settings = if are_present desk settings then [] else settings_notices (losing_on desk settings)
-
-abbrev pub accepted_notices : DeskView → Result SettingsView SettingsFault → List Order
-accepted_notices desk (Ok settings) = new_settings_notices desk settings
-accepted_notices desk (Err fault) = []
-
-abbrev pub orders : DeskView → Act → List Order
-orders desk (Settings text) = accepted_notices desk (settings_of text)
-orders desk (Pushed change head) = notice_of desk change why.Pushed (pushed head)
-orders desk (Closed change) = notice_of desk change why.Closed closed
-orders desk (Labeled change label) = notice_of desk change why.Labeled (labeled desk.settings label)
-orders desk (Review change person head approves) = notice_of desk change why.Reviews (reviewed desk.settings person approves)
-orders desk (Spoken change person spoken) = []
-orders desk (Role person role) = []
-orders desk (Base commit) = []
-orders desk (Opened change author head) = []
-orders desk (Unlabeled change label) = []
-orders desk (Staged batch commit) = []
-orders desk (Conflict batch) = []
-orders desk (Tick now) = []
+abbrev pub notices : DeskView → Act → List Order
+notices desk (Pushed change head) = notice_of desk change why.Pushed (pushed head)
+notices desk (Closed change) = notice_of desk change why.Closed closed
+notices desk (Labeled change label) = notice_of desk change why.Labeled (labeled desk.settings label)
+notices desk (Review change person head approves) = notice_of desk change why.Reviews (reviewed desk.settings person approves)
+notices desk act = []
 
 -- THE QUEUE FOLLOWS what an act does to one change: it sees whether the change was approved and is, and its priority.
 abbrev pub approved_on : DeskView → ℕ → Bool
-approved_on desk change = option_map_or (λ (c : Change). is_some c.approved) (finite.get desk.changes change) false
+approved_on desk change = rules.is_approved (look desk) change
+
+abbrev pub landing_on : DeskView → ℕ → Bool
+landing_on desk change = rules.is_landing (look desk) change
 
 abbrev pub priority_on : DeskView → ℕ → ℤ
 priority_on desk change = option_map_or (λ (c : Change). c.priority) (finite.get desk.changes change) (pos 0)
@@ -290,20 +289,49 @@ abbrev pub followed_on : DeskView → DeskView → ℕ → Queue → Queue
 followed_on old new change queue =
     followed (approved_on old change) (approved_on new change) (not (int_eq (priority_on old change) (priority_on new change))) (size_on new) (priority_on new change) change queue
 
--- if the act is about a change
-abbrev pub following : DeskView → DeskView → Option ℕ → Queue → Queue
-following old new None queue = queue
-following old new (Some change) queue = followed_on old new change queue
+-- WHAT AN ACT COMES TO: the state after it, and its orders
+abbrev pub quiet : State → Outcome
+quiet s = record { state = s; orders = [] }
 
--- NEW SETTINGS take out what isn't approved under them, and then the running batch waits again.
+-- one after the other
+abbrev pub then_next : Outcome → (State → Outcome) → Outcome
+then_next first next = record { state = (next first.state).state; orders = first.orders ++ (next first.state).orders }
+
+abbrev pub with_desk : State → DeskView → State
+with_desk s desk = record { desk = desk; queue = s.queue }
+
+abbrev pub with_queue : State → Queue → State
+with_queue s queue = record { desk = s.desk; queue = queue }
+
+-- AN ACT ABOUT A CHANGE: the queue follows the desk.
+abbrev pub about : State → ℕ → Act → Outcome
+about s change act = record {
+  state = record { desk = effect s.desk act; queue = followed_on s.desk (effect s.desk act) change s.queue };
+  orders = notices s.desk act;
+}
+
+-- NEW SETTINGS take the place of the present ones, and end the approvals that they are against. The queue loses what isn't
+-- approved any longer, and then the running batch waits again.
 abbrev pub resettled : DeskView → Queue → Queue
 resettled desk queue = restarted Staging (taken_out (approved_on desk) queue)
 
-abbrev pub settled_queue : DeskView → Result SettingsView SettingsFault → Queue → Queue
-settled_queue desk (Ok settings) queue = if are_present desk settings then queue else resettled (with_new_settings desk settings) queue
-settled_queue desk (Err fault) queue = queue
+abbrev pub settings_notices : List ℕ → List Order
+settings_notices numbers = map (λ number. Notice number why.Settings) numbers
 
--- A CONFLICT: a batch of one change is dropped, which ends its approval; a larger one is split.
+abbrev pub with_new_settings : DeskView → SettingsView → DeskView
+with_new_settings desk settings = with_settings (with_settled desk settings) settings
+
+abbrev pub under : SettingsView → State → Outcome
+under settings s = record {
+  state = record { desk = with_new_settings s.desk settings; queue = resettled (with_new_settings s.desk settings) s.queue };
+  orders = settings_notices (losing_on s.desk settings);
+}
+
+abbrev pub accepted : State → Result SettingsView SettingsFault → Outcome
+accepted s (Ok settings) = if are_present s.desk settings then quiet s else under settings s
+accepted s (Err fault) = quiet s
+
+-- A BATCH FAILS: one of one change is dropped, which ends its approval with a notice; a larger one is split.
 abbrev pub lone : Option Batch → Option ℕ
 lone None = None
 lone (Some batch) = if lanes.has_several batch then None else slice_get batch.changes 0
@@ -312,11 +340,114 @@ abbrev pub without_lone : DeskView → Option ℕ → DeskView
 without_lone desk None = desk
 without_lone desk (Some change) = altered desk change without_approval
 
-abbrev pub lone_notices : Option ℕ → List Order
-lone_notices None = []
-lone_notices (Some change) = Notice change why.Conflict ∷ []
+abbrev pub lone_notices : Why → Option ℕ → List Order
+lone_notices why None = []
+lone_notices why (Some change) = Notice change why ∷ []
 
--- A TICK orders the first waiting batch, if no batch runs.
+abbrev pub failing : Why → State → Outcome
+failing why s = record {
+  state = record { desk = without_lone s.desk (lone s.queue.staging.running); queue = failed Staging s.queue };
+  orders = lone_notices why (lone s.queue.staging.running);
+}
+
+-- A STATUS of the commit that is tested: one that isn't required does nothing. One that has failed fails the batch. Another
+-- takes the place of the last report of that name; and if all required names now report a success, the batch is to land.
+abbrev pub is_required : Option SettingsView → List ℕ → Bool
+is_required settings name = option_map_or (λ (s : SettingsView). list_any (bytes_eq name) s.status) settings false
+
+abbrev pub is_success : Report → Bool
+is_success report.Success = true
+is_success report.Pending = false
+
+abbrev pub has_succeeded : FinMap (slice_cmp nat_cmp) Report → List ℕ → Bool
+has_succeeded reports name = option_map_or is_success (finite.get reports name) false
+
+abbrev pub has_passed : Option SettingsView → StageOf → Bool
+has_passed settings stage.Waiting = false
+has_passed settings (stage.Ordered since) = false
+has_passed settings (stage.Staged since commit reports) = option_map_or (λ (s : SettingsView). list_all (has_succeeded reports) s.status) settings false
+has_passed settings (stage.Landing commit) = false
+
+-- A batch that is to land: its changes are marked, and the host is ordered to land the commit that was tested.
+abbrev pub with_landing : Bool → Change → Change
+with_landing landing change = record change { landing = landing }
+
+abbrev pub all_altered : (Change → Change) → DeskView → List ℕ → DeskView
+all_altered alter desk changes = fold (λ d change. altered d change alter) desk changes
+
+abbrev pub land_order : DeskView → ℕ → StageOf → List Order
+land_order desk number stage.Waiting = []
+land_order desk number (stage.Ordered since) = []
+land_order desk number (stage.Staged since commit reports) = option_map_or (λ base. Land number base commit ∷ []) desk.base []
+land_order desk number (stage.Landing commit) = []
+
+abbrev pub to_land : Batch → State → Outcome
+to_land batch s = record {
+  state = record { desk = all_altered (with_landing true) s.desk batch.changes; queue = landing Staging s.queue };
+  orders = land_order s.desk batch.number batch.stage;
+}
+
+abbrev pub if_passed : State → Option Batch → Outcome
+if_passed s None = quiet s
+if_passed s (Some batch) = if has_passed s.desk.settings batch.stage then to_land batch s else quiet s
+
+abbrev pub goes_on : List ℕ → Report → State → Outcome
+goes_on name report s =
+    let after = with_queue s (reported Staging name report s.queue) in
+    if_passed after after.queue.staging.running
+
+abbrev pub told_of : List ℕ → StatusState → State → Outcome
+told_of name Success s = goes_on name report.Success s
+told_of name Pending s = goes_on name report.Pending s
+told_of name Failure s = failing (why.Failed name) s
+told_of name Error s = failing (why.Failed name) s
+
+abbrev pub told : List ℕ → StatusState → State → Outcome
+told name state s = if is_required s.desk.settings name then told_of name state s else quiet s
+
+-- THE RUNNING BATCH GOES BACK: the base is new, or the host refuses to land it. If it was landing, its changes no longer are;
+-- they have landed if the new base is the commit that was to land. Those of its changes that are approved then wait again.
+abbrev pub landed : Change → Change
+landed change = record change { phase = phase.Landed; approved = None; landing = false }
+
+abbrev pub released : Option (List ℕ) → List ℕ → Change → Change
+released None commit change = with_landing false change
+released (Some base) commit change = if bytes_eq base commit then landed change else with_landing false change
+
+abbrev pub released_at : Option (List ℕ) → DeskView → List ℕ → StageOf → DeskView
+released_at base desk changes stage.Waiting = desk
+released_at base desk changes (stage.Ordered since) = desk
+released_at base desk changes (stage.Staged since commit reports) = desk
+released_at base desk changes (stage.Landing commit) = all_altered (released base commit) desk changes
+
+abbrev pub released_on : Option (List ℕ) → DeskView → Option Batch → DeskView
+released_on base desk None = desk
+released_on base desk (Some batch) = released_at base desk batch.changes batch.stage
+
+abbrev pub sent_back : Option (List ℕ) → State → State
+sent_back base s =
+    let desk = released_on base s.desk s.queue.staging.running in
+    record { desk = desk; queue = requeued Staging (approved_on desk) s.queue }
+
+abbrev pub rebased : List ℕ → State → State
+rebased base s =
+    let back = sent_back (Some base) s in
+    with_desk back (with_base back.desk base)
+
+-- A TICK sets the clock. The running batch fails if it has taken too long. Then the first waiting batch is ordered, if none
+-- runs.
+abbrev pub is_overdue : Option SettingsView → ℕ → StageOf → Bool
+is_overdue settings now stage.Waiting = false
+is_overdue settings now (stage.Ordered since) = option_map_or (λ (s : SettingsView). nat_le s.timeout_sec (now - since)) settings false
+is_overdue settings now (stage.Staged since commit reports) = option_map_or (λ (s : SettingsView). nat_le s.timeout_sec (now - since)) settings false
+is_overdue settings now (stage.Landing commit) = false
+
+abbrev pub has_overdue : ℕ → State → Bool
+has_overdue now s = has_running (λ batch. is_overdue s.desk.settings now batch.stage) s.queue
+
+abbrev pub timed_out : ℕ → State → Outcome
+timed_out now s = if has_overdue now s then failing why.TimedOut s else quiet s
+
 abbrev pub head_on : DeskView → ℕ → Option Head
 head_on desk change = option_map (λ (c : Change). record { change = change; head = c.head }) (finite.get desk.changes change)
 
@@ -328,26 +459,29 @@ stage_orders desk None (batch ∷ waiting) = stage_order desk batch
 stage_orders desk None [] = []
 stage_orders desk (Some batch) waiting = []
 
--- WHAT AN ACT DOES that no rule denies: the desk and the queue after it, and its orders
-abbrev pub desk_after : State → Act → DeskView
-desk_after s (Conflict batch) = without_lone s.desk (lone s.queue.staging.running)
-desk_after s act = effect s.desk act
+abbrev pub starting : ℕ → State → Outcome
+starting now s = record {
+  state = with_queue s (started Staging now s.queue);
+  orders = stage_orders s.desk s.queue.staging.running s.queue.staging.waiting;
+}
 
-abbrev pub queue_after : State → Act → Queue
-queue_after s (Settings text) = settled_queue s.desk (settings_of text) s.queue
-queue_after s (Base commit) = restarted Staging s.queue
-queue_after s (Staged batch commit) = staged Staging s.desk.clock commit s.queue
-queue_after s (Conflict batch) = failed Staging s.queue
-queue_after s (Tick now) = started Staging now s.queue
-queue_after s act = following s.desk (effect s.desk act) (subject act) s.queue
-
-abbrev pub done : State → Act → State
-done s act = record { desk = desk_after s act; queue = queue_after s act }
-
-abbrev pub all_orders : State → Act → List Order
-all_orders s (Conflict batch) = lone_notices (lone s.queue.staging.running)
-all_orders s (Tick now) = stage_orders s.desk s.queue.staging.running s.queue.staging.waiting
-all_orders s act = orders s.desk act
+-- ANY ACT that no rule denies
+abbrev pub done : State → Act → Outcome
+done s (Spoken change person spoken) = about s change (Spoken change person spoken)
+done s (Role person role) = quiet (with_desk s (with_role s.desk person role))
+done s (Settings text) = accepted s (settings_of text)
+done s (Base commit) = quiet (rebased commit s)
+done s (Opened change author head) = about s change (Opened change author head)
+done s (Pushed change head) = about s change (Pushed change head)
+done s (Closed change) = about s change (Closed change)
+done s (Labeled change label) = about s change (Labeled change label)
+done s (Unlabeled change label) = about s change (Unlabeled change label)
+done s (Review change person head approves) = about s change (Review change person head approves)
+done s (Staged batch commit) = quiet (with_queue s (staged Staging s.desk.clock commit s.queue))
+done s (Conflict batch) = failing why.Conflict s
+done s (Status commit name state) = told name state s
+done s (Refused batch) = quiet (sent_back None s)
+done s (Tick now) = then_next (timed_out now (with_desk s (with_clock s.desk now))) (starting now)
 
 -- WHAT TAKES NO MEMORY: an act that adds nothing to a list, a set or a map, and gives no order
 abbrev pub CommandTakesNoMemory : Command → Type 0
@@ -371,13 +505,15 @@ DeskTakesNoMemory desk (Role person role) = role ≡ Nobody
 DeskTakesNoMemory desk (Settings text) = ⊥
 DeskTakesNoMemory desk (Base commit) = ⊤
 DeskTakesNoMemory desk (Opened change author head) = ⊥
-DeskTakesNoMemory desk (Pushed change head) = orders desk (Pushed change head) ≡ []
-DeskTakesNoMemory desk (Closed change) = orders desk (Closed change) ≡ []
+DeskTakesNoMemory desk (Pushed change head) = notices desk (Pushed change head) ≡ []
+DeskTakesNoMemory desk (Closed change) = notices desk (Closed change) ≡ []
 DeskTakesNoMemory desk (Labeled change label) = ⊥
 DeskTakesNoMemory desk (Unlabeled change label) = ⊤
 DeskTakesNoMemory desk (Review change person head approves) = ⊥
 DeskTakesNoMemory desk (Staged batch commit) = ⊤
 DeskTakesNoMemory desk (Conflict batch) = ⊥
+DeskTakesNoMemory desk (Status commit name state) = is_required desk.settings name ≡ false
+DeskTakesNoMemory desk (Refused batch) = ⊤
 DeskTakesNoMemory desk (Tick now) = ⊤
 
 -- The queue needn't follow.
@@ -391,10 +527,11 @@ abbrev pub is_unmoved_on : DeskView → DeskView → ℕ → Bool
 is_unmoved_on old new change =
     is_unmoved (approved_on old change) (approved_on new change) (not (int_eq (priority_on old change) (priority_on new change)))
 
--- in the queue: a batch that runs waits again under a new base, and one that waits is ordered by a tick
+-- in the queue: a batch that runs may wait again, and one that waits may be ordered by a tick
 abbrev pub QueueTakesNoMemory : State → Act → Type 0
 QueueTakesNoMemory s (Base commit) = is_none s.queue.staging.running ≡ true
-QueueTakesNoMemory s (Tick now) = all_orders s (Tick now) ≡ []
+QueueTakesNoMemory s (Refused batch) = is_none s.queue.staging.running ≡ true
+QueueTakesNoMemory s (Tick now) = (has_overdue now s ≡ false) × (stage_orders s.desk s.queue.staging.running s.queue.staging.waiting ≡ [])
 QueueTakesNoMemory s act = option_map_or (is_unmoved_on s.desk (effect s.desk act)) (subject act) true ≡ true
 
 -- A STEP: an act that a rule denies is answered the first that does, and changes nothing.
@@ -403,14 +540,14 @@ answered None orders = Done orders
 answered (Some rule) orders = Denied rule
 
 abbrev pub reply_to : State → Act → Reply
-reply_to s act = answered (denial s act) (all_orders s act)
+reply_to s act = answered (denial s act) (done s act).orders
 
 abbrev pub unless_denied : Option Rule → State → State → State
 unless_denied None before done = done
 unless_denied (Some rule) before done = before
 
 abbrev pub after : State → Act → State
-after s act = unless_denied (denial s act) s (done s act)
+after s act = unless_denied (denial s act) s (done s act).state
 
 abbrev pub Step : State → Act → Reply → State → Type 0
 Step s act reply t = (reply ≡ reply_to s act) × (t ≡ after s act)

@@ -5,6 +5,7 @@ use Rattle.gate_queue.specs.Lanes as lanes
 use Rattle.gate_queue.specs.declared.batch.Batch.{Batch}
 use Rattle.gate_queue.specs.declared.batch.Branch.{Branch}
 use Rattle.gate_queue.specs.declared.batch.Branch.TheVariants.{Staging, Trying}
+use Rattle.gate_queue.specs.declared.batch.Report.{Report}
 use Rattle.gate_queue.specs.declared.lane.Lane.{Lane}
 use Rattle.gate_queue.specs.declared.queue.Queue.{Queue}
 
@@ -63,6 +64,12 @@ started branch now queue = with_lane branch (lanes.started now (lane_of branch q
 
 abbrev pub staged : Branch → ℕ → List ℕ → Queue → Queue
 staged branch now commit queue = with_lane branch (lanes.staged now commit (lane_of branch queue)) 0 queue
+
+abbrev pub reported : Branch → List ℕ → Report → Queue → Queue
+reported branch name report queue = with_lane branch (lanes.reported name report (lane_of branch queue)) 0 queue
+
+abbrev pub landing : Branch → Queue → Queue
+landing branch queue = with_lane branch (lanes.landing (lane_of branch queue)) 0 queue
 
 abbrev pub dropped : Branch → Queue → Queue
 dropped branch queue = with_lane branch (lanes.dropped (lane_of branch queue)) 0 queue

@@ -2,8 +2,9 @@
 use Rattle.std.specs.Prelude.{◌≡◌, ◌≤◌, ℕ, ◌+◌, nat_lt, nat_le, ℤ, Bool, true, ◌&&◌, List, Option, if◌then◌else◌}
 use Rattle.std.specs.List.{AllPairs}
 use Rattle.gate_queue.specs.Counts.{uses}
-use Rattle.gate_queue.specs.Lanes.{batches_of, goes_before, placed, left, enqueued, enqueue_uses, taken_out, taken_out_uses, restarted, restarted_uses, requeued, requeued_uses, failed, failed_uses, started, staged, dropped}
+use Rattle.gate_queue.specs.Lanes.{batches_of, goes_before, placed, left, enqueued, enqueue_uses, taken_out, taken_out_uses, restarted, restarted_uses, requeued, requeued_uses, failed, failed_uses, started, staged, reported, landing, dropped}
 use Rattle.gate_queue.specs.declared.batch.Batch.{Batch}
+use Rattle.gate_queue.specs.declared.batch.Report.{Report}
 use Rattle.gate_queue.specs.declared.lane.Lane.{Lane}
 
 -- Each batch goes before all that are behind it.
@@ -33,6 +34,8 @@ pub record StaysInOrder (next : ℕ) (lane : Lane) : Type 0 where
   pub fail : IsInOrder (next + failed_uses lane) (failed next lane)
   pub start : (now : ℕ) → IsInOrder next (started now lane)
   pub stage : (now : ℕ) (commit : List ℕ) → IsInOrder next (staged now commit lane)
+  pub report : (name : List ℕ) (report : Report) → IsInOrder next (reported name report lane)
+  pub land : IsInOrder next (landing lane)
   pub drop : IsInOrder next (dropped lane)
 
 abbrev pub LawOfOrder : Type 0
@@ -54,6 +57,8 @@ pub record UsesNewNumbers (next : ℕ) (lane : Lane) : Type 0 where
   pub fail : OnlyNew next (failed_uses lane) lane (failed next lane)
   pub start : (now : ℕ) → OnlyNew next 0 lane (started now lane)
   pub stage : (now : ℕ) (commit : List ℕ) → OnlyNew next 0 lane (staged now commit lane)
+  pub report : (name : List ℕ) (report : Report) → OnlyNew next 0 lane (reported name report lane)
+  pub land : OnlyNew next 0 lane (landing lane)
   pub drop : OnlyNew next 0 lane (dropped lane)
 
 abbrev pub LawOfNumbers : Type 0

@@ -1,23 +1,21 @@
 -- WHAT A STATE KEEPS, whatever has happened.
-use Rattle.std.specs.Prelude.{◌≡◌, ◌≤◌, ℕ, ℤ, not, Bool, true, false, ⊤, List, Option, Some, None, is_some, IfSome, if◌then◌else◌}
+use Rattle.std.specs.Prelude.{◌≡◌, ◌≤◌, ℕ, ℤ, not, Bool, true, ◌||◌, ⊤, List, Option, Some, None, is_some, IfSome, if◌then◌else◌}
 use Rattle.std.specs.FinMap as finite
 use Rattle.std.specs.FinMap.{FinMap}
 use Rattle.std.specs.Cmp.Lexicographic.{slice_cmp}
-use Rattle.std.specs.List.{All, list_any}
-use Rattle.std.specs.Option.{option_map_or}
+use Rattle.std.specs.List.{All}
 use Rattle.std.specs.Ordering.{int_eq, nat_cmp}
-use Rattle.std.specs.Str.{bytes_eq}
 use Rattle.gate_text.specs.Limits.{IsPriority, AreNames}
 use Rattle.gate_text.specs.Settings.{SettingsView}
 use Rattle.gate_rules.specs.Rules.{Look, is_open_phase}
-use Rattle.gate_rules.specs.View.{look}
+use Rattle.gate_rules.specs.View.{DeskView, look}
 use Rattle.gate_rules.specs.declared.change.Change.{Change}
 use Rattle.gate_rules.specs.declared.change.Repeat.{Repeat}
 use Rattle.gate_rules.specs.declared.change.Repeat.TheVariants.{Approve, ApproveFor, Try}
 use Rattle.gate_queue.specs.Acts.{IsMoment}
-use Rattle.gate_queue.specs.Counts.{held, of_any_priority}
+use Rattle.gate_queue.specs.Counts.{held, in_landing, of_any_priority}
 use Rattle.gate_queue.specs.Lanes.{empty_lane, has_changes}
-use Rattle.gate_queue.specs.Machine.{State, approved_on, priority_on}
+use Rattle.gate_queue.specs.Machine.{approved_on, landing_on, priority_on, is_required}
 use Rattle.gate_queue.specs.Service.{IsInOrder}
 use Rattle.gate_queue.specs.declared.batch.Batch.{Batch}
 use Rattle.gate_queue.specs.declared.batch.Branch.TheVariants.{Staging}
@@ -25,6 +23,7 @@ use Rattle.gate_queue.specs.declared.batch.Report.{Report}
 use Rattle.gate_queue.specs.declared.batch.Stage.{Stage}
 use Rattle.gate_queue.specs.declared.batch.Stage.TheVariants.{Waiting, Ordered, Staged, Landing}
 use Rattle.gate_queue.specs.declared.queue.Queue.{Queue}
+use Rattle.gate_queue.specs.declared.state.State.{State}
 
 -- A CHANGE
 abbrev pub RepeatKeepsLimits : Option Repeat → Type 0
@@ -35,9 +34,10 @@ RepeatKeepsLimits (Some Try) = ⊤
 
 pub record IsChange (settings : Option SettingsView) (base : Option (List ℕ)) (change : Change) : Type 0 where
   pub priority : IsPriority change.priority
-  -- only an open change has approvers, under settings and on a base; they are one or more people, no two the same
+  -- only an open change has approvers; they are one or more people, no two the same
   pub opened : is_some change.approved ≡ true → is_open_phase change.phase ≡ true
-  pub ready : is_some change.approved ≡ true → (is_some settings ≡ true) × (is_some base ≡ true)
+  -- a change in a batch has settings that it was approved under, and a base
+  pub ready : (is_some change.approved || change.landing) ≡ true → (is_some settings ≡ true) × (is_some base ≡ true)
   pub approvers : IfSome change.approved AreNames
   pub last : RepeatKeepsLimits change.last
 
@@ -53,18 +53,15 @@ pub record IsWaiting (batch : Batch) : Type 0 where
   pub changes : has_changes batch ≡ true
 
 -- Reports are of required statuses.
-abbrev pub is_required : Option SettingsView → List ℕ → Bool
-is_required settings name = option_map_or (λ (s : SettingsView). list_any (bytes_eq name) s.status) settings false
-
 abbrev pub AreRequired : Option SettingsView → FinMap (slice_cmp nat_cmp) Report → Type 0
 AreRequired settings reports = (name : List ℕ) → is_some (finite.get reports name) ≡ true → is_required settings name ≡ true
 
--- One that runs was ordered or staged, not later than now. No batch lands yet.
+-- One that runs was ordered or staged, not later than now, or lands.
 abbrev pub IsUnderway : ℕ → Option SettingsView → Stage → Type 0
 IsUnderway now settings Waiting = ⊥
 IsUnderway now settings (Ordered since) = since ≤ now
 IsUnderway now settings (Staged since commit reports) = (since ≤ now) × AreRequired settings reports
-IsUnderway now settings (Landing commit) = ⊥
+IsUnderway now settings (Landing commit) = ⊤
 
 pub record IsRunning (now : ℕ) (settings : Option SettingsView) (batch : Batch) : Type 0 where
   pub branch : batch.branch ≡ Staging
@@ -74,19 +71,30 @@ pub record IsRunning (now : ℕ) (settings : Option SettingsView) (batch : Batch
 abbrev pub is_not : ℤ → ℤ → Bool
 is_not priority other = not (int_eq other priority)
 
--- THE QUEUE, by the clock and the settings, and by which changes are approved, and their priorities
-pub record IsQueue (now : ℕ) (settings : Option SettingsView) (approved : ℕ → Bool) (priority : ℕ → ℤ) (queue : Queue) : Type 0 where
+-- WHAT THE QUEUE SEES of the changes on a desk
+pub record Marks : Type 0 where
+  pub approved : ℕ → Bool
+  pub landing : ℕ → Bool
+  pub priority : ℕ → ℤ
+
+abbrev pub marks_on : DeskView → Marks
+marks_on desk = record { approved = approved_on desk; landing = landing_on desk; priority = priority_on desk }
+
+-- THE QUEUE, by the clock, the settings and these marks
+pub record IsQueue (now : ℕ) (settings : Option SettingsView) (marks : Marks) (queue : Queue) : Type 0 where
   -- the batches on staging are in order, under different numbers below the next one; none is on trying yet
   pub order : IsInOrder queue.next queue.staging
   pub waiting : All IsWaiting queue.staging.waiting
   pub running : IfSome queue.staging.running (IsRunning now settings)
   pub trying : queue.trying ≡ empty_lane
-  -- a change is in exactly one batch if it is approved, and in none if it isn't; the batch has its priority
-  pub places : (change : ℕ) → held of_any_priority change queue.staging ≡ (if approved change then 1 else 0)
-  pub priorities : (change : ℕ) → held (is_not (priority change)) change queue.staging ≡ 0
+  -- a change is in exactly one batch if it is approved or landing, and in none if it isn't; the batch has its priority
+  pub places : (change : ℕ) → held of_any_priority change queue.staging ≡ (if marks.approved change || marks.landing change then 1 else 0)
+  pub priorities : (change : ℕ) → held (is_not (marks.priority change)) change queue.staging ≡ 0
+  -- it is landing exactly if its batch is
+  pub landing : (change : ℕ) → in_landing of_any_priority change queue.staging ≡ (if marks.landing change then 1 else 0)
 
 -- A STATE
 pub record IsState (s : State) : Type 0 where
   pub desk : IsDesk (look s.desk)
   pub next : s.queue.next ≤ 9_000_000_000_000_000
-  pub queue : IsQueue s.desk.clock s.desk.settings (approved_on s.desk) (priority_on s.desk) s.queue
+  pub queue : IsQueue s.desk.clock s.desk.settings (marks_on s.desk) s.queue

@@ -6,7 +6,7 @@ pub use Rattle.gate_text.specs.declared.command.Command.TheVariants.{Ping, Appro
 pub use Rattle.gate_text.specs.declared.command.Spoken.TheVariants.{Known, Unknown}
 pub use Rattle.gate_text.specs.declared.settings.fault.SettingsFault.{SettingsFault}
 -- people, changes, the desk, the rules
-pub use Rattle.gate_rules.specs.Rules.{Look, Texts, asks, is_known, is_open, is_member, is_blocked, has_too_few_reviews, is_fit, first_failing}
+pub use Rattle.gate_rules.specs.Rules.{Look, Texts, asks, is_known, is_open, is_landed, is_member, is_blocked, has_too_few_reviews, is_fit, first_failing}
 pub use Rattle.gate_rules.specs.View.{DeskView, empty_desk, with_role, role_on, with_change, with_settings, with_base, with_clock, with_ended, numbers_where, ended_if, without_approval, look}
 pub use Rattle.gate_rules.specs.declared.change.Change.{Change}
 pub use Rattle.gate_rules.specs.declared.change.Phase.{Phase}
@@ -14,12 +14,17 @@ pub use Rattle.gate_rules.specs.declared.change.Repeat.{Repeat}
 pub use Rattle.gate_rules.specs.declared.role.Role.{Role as RoleOf}
 pub use Rattle.gate_rules.specs.declared.role.Role.TheVariants.{Nobody}
 pub use Rattle.gate_rules.specs.declared.rule.Rule.{Rule}
-pub use Rattle.gate_rules.specs.declared.rule.Rule.TheVariants.{UnknownChange, NotOpen, AlreadyOpen, StaleHead, NotMember, OwnChange, BadSettings, ClockBack, NoSuchBatch, SameAsBase}
+pub use Rattle.gate_rules.specs.declared.rule.Rule.TheVariants.{UnknownChange, NotOpen, AlreadyOpen, ChangeLanded, StaleHead, NotMember, OwnChange, BadSettings, ClockBack, NoSuchBatch, SameAsBase}
 -- acts, orders, replies
 pub use Rattle.gate_queue.specs.declared.act.Act.{Act}
-pub use Rattle.gate_queue.specs.declared.act.Act.TheVariants.{Spoken, Role, Settings, Base, Opened, Pushed, Closed, Labeled, Unlabeled, Review, Staged, Conflict, Tick}
+pub use Rattle.gate_queue.specs.declared.act.Act.TheVariants.{Spoken, Role, Settings, Base, Opened, Pushed, Closed, Labeled, Unlabeled, Review, Staged, Conflict, Status, Refused, Tick}
+pub use Rattle.gate_queue.specs.declared.act.StatusState.{StatusState}
+pub use Rattle.gate_queue.specs.declared.act.StatusState.TheVariants.{Success, Failure, Error, Pending}
 pub use Rattle.gate_queue.specs.declared.reply.Order.{Order}
-pub use Rattle.gate_queue.specs.declared.reply.Order.TheVariants.{Stage, Notice}
+pub use Rattle.gate_queue.specs.declared.reply.Order.TheVariants.{Stage, Land, Notice}
 pub use Rattle.gate_queue.specs.declared.reply.Reply.{Reply}
 pub use Rattle.gate_queue.specs.declared.reply.Reply.TheVariants.{Done, Denied}
 pub use Rattle.gate_queue.specs.declared.reply.Why.{Why}
+-- states
+pub use Rattle.gate_queue.specs.declared.state.State.{State}
+pub use Rattle.gate_queue.specs.declared.state.Outcome.{Outcome}

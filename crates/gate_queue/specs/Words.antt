@@ -1,12 +1,15 @@
 -- THE WORDS OF THE HISTORY over a whole list of events. The look-backs take one event after the other; these laws say what
 -- they come to.
-use Rattle.std.specs.Prelude.{◌≡◌, ◌↔◌, ℕ, Bool, true, false, not, ◌&&◌, ⊤, List, [], ◌∷◌, ◌++◌, Option, Some, None, is_none, if◌then◌else◌}
+use Rattle.std.specs.Prelude.{◌≡◌, ◌≢◌, ◌↔◌, ℕ, Bool, true, false, not, ◌&&◌, ⊤, List, [], ◌∷◌, ◌++◌, Option, Some, None, is_none, if◌then◌else◌}
 use Rattle.std.specs.FinSet as set
-use Rattle.std.specs.List.{list_any}
+use Rattle.std.specs.List.{list_any, All}
 use Rattle.std.specs.Option.{unwrap_or, option_and_then, option_map_or}
 use Rattle.std.specs.Str.{bytes_eq}
-use Rattle.gate_queue.specs.History.{Event, Mark, put, taken, Delegation, to_author, to_people, to_nobody, last_of, since, said_on, author_back, moves, label_said, labels_back, review_said, reviews_back, delegation_said, delegates_back}
-use Rattle.gate_queue.specs.declared.act.Act.{Act}
+use Rattle.gate_queue.specs.History.{Event, Mark, put, taken, Delegation, to_author, to_people, to_nobody, last_of, since, said_on, author_back, moves, label_said, labels_back, review_said, reviews_back, delegation_said, delegates_back, did, gave, settings_back, base_back, IsTested}
+use Rattle.gate_queue.specs.Vocabulary.{Act, SettingsView, Base, Staged, Status, StatusState, Success, Failure, Error, Stage}
+use Rattle.gate_queue.specs.declared.batch.Branch.{Branch}
+use Rattle.gate_queue.specs.declared.batch.Branch.TheVariants.{Staging}
+use Rattle.gate_queue.specs.declared.reply.Head.{Head}
 
 -- SINCE. The list can be cut at an event that started it, and each event that came after has kept it.
 abbrev pub AllKept : (Event → List Event → Bool) → List Event → List Event → Type 0
@@ -73,3 +76,42 @@ LawOfSets = (events : List Event) (change : ℕ) (name : List ℕ) →
     (set.contains (labels_back events change) name ≡ is_labeled events change name)
     × (set.contains (reviews_back events change) name ≡ has_reviewed events change name)
     × (set.contains (delegates_back events change) name ≡ is_delegated events change name)
+
+-- TESTED. Not one of the events is this one.
+abbrev pub Lacks : List Event → Event → Type 0
+Lacks [] event = ⊤
+Lacks (other ∷ events) event = (other ≢ event) × Lacks events event
+
+-- Of a status of a commit, these events report a success, and nothing after it; and no event of them reports it as bad.
+pub record Succeeded (events : List Event) (commit name : List ℕ) : Type 0 where
+  pub later : List Event
+  pub before : List Event
+  pub success : events ≡ later ++ did (Status commit name Success) ∷ before
+  pub last : (state : StatusState) → Lacks later (did (Status commit name state))
+  pub no_failure : Lacks events (did (Status commit name Failure))
+  pub no_error : Lacks events (did (Status commit name Error))
+
+pub record WasTested (events : List Event) (number : ℕ) (base commit : List ℕ) : Type 0 where
+  -- The batch was ordered on staging, on this base.
+  pub later : List Event
+  pub before : List Event
+  pub heads : List Head
+  pub ordered : events ≡ later ++ gave (Stage number Staging base heads) ∷ before
+  -- Since then no base was set, and it is the base of now.
+  pub no_base : (other : List ℕ) → Lacks later (did (Base other))
+  pub present : base_back events ≡ Some base
+  -- At each moment from the order on, the settings were those of now.
+  pub settings : SettingsView
+  pub accepted : settings_back events ≡ Some settings
+  pub same : (newer older : List Event) → later ≡ newer ++ older → settings_back (older ++ gave (Stage number Staging base heads) ∷ before) ≡ Some settings
+  -- Since the order it was staged with this commit, and then neither staged nor ordered anew.
+  pub after : List Event
+  pub between : List Event
+  pub staged : later ≡ after ++ did (Staged number commit) ∷ between
+  pub not_staged_anew : (other : List ℕ) → Lacks after (did (Staged number other))
+  pub not_ordered_anew : (branch : Branch) (other : List ℕ) (others : List Head) → Lacks after (gave (Stage number branch other others))
+  -- After it was staged, each required status succeeded.
+  pub succeeded : All (Succeeded after commit) settings.status
+
+abbrev pub LawOfTests : Type 0
+LawOfTests = (events : List Event) (number : ℕ) (base commit : List ℕ) → IsTested events number base commit → WasTested events number base commit

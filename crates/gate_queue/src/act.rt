@@ -1,5 +1,18 @@
 use gate_rules::Role;
-use gate_text::{ChangeNo, Commit, Label, Name, Spoken, Text};
+use gate_text::{ChangeNo, Commit, Context, Label, Name, Spoken, Text};
+
+/// What a status of a commit says, in the words of the code hosts.
+#[derive(Clone, Copy, Debug, PartialEq, Eq)]
+pub enum StatusState {
+    /// What it checks is good.
+    Success,
+    /// What it checks is bad.
+    Failure,
+    /// It couldn't check it.
+    Error,
+    /// It goes on.
+    Pending,
+}
 
 /// One thing that may change the state: a command of a comment, or a fact that the host hands in.
 #[derive(Debug, Drop, PartialEq, Eq)]
@@ -85,6 +98,20 @@ pub enum Act {
     },
     /// The fact `conflict`: the changes of a batch can't be merged.
     Conflict {
+        /// The number of the batch.
+        batch: u64,
+    },
+    /// The fact `status`: a status of a commit is reported.
+    Status {
+        /// The commit.
+        commit: Commit,
+        /// The name of the status.
+        name: Context,
+        /// What it says.
+        state: StatusState,
+    },
+    /// The fact `refused`: the host can't land a batch.
+    Refused {
         /// The number of the batch.
         batch: u64,
     },

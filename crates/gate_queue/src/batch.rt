@@ -1,8 +1,9 @@
-ghost use Rattle.std.specs.Prelude.{◌≡◌};
-ghost use Rattle.std.specs.FinMap.{empty};
+ghost use Rattle.std.specs.Prelude.{◌≡◌, OnOk};
+ghost use Rattle.std.specs.FinMap.{empty, get, insert};
+ghost use Rattle.gate_queue.specs.Machine.{has_succeeded};
 
 use gate_text::{ChangeNo, Commit, Context, List};
-use std::alloc::Global;
+use std::alloc::{AllocError, Global};
 use std::collections::BTreeMap;
 use std::marker::Model;
 
@@ -53,6 +54,31 @@ impl Reports {
     {
         Reports {
             reports: BTreeMap::new(alloc),
+        }
+    }
+
+    /// Keeps a report, in place of the one of this name, if there is one. `AllocError` if there is no memory for it.
+    pub fn keep(&mut self, name: Context, report: Report) -> Result<(), AllocError>
+        ensures value { OnOk result (self.new ≡ insert self.old name report) }
+    {
+        self.reports.insert(name, report)?;
+        Ok(())
+    }
+
+    /// The last report of this name, if one has come.
+    pub fn last(&self, name: &Context) -> Option<Report>
+        ensures value { result ≡ get self.now name.now }
+    {
+        self.reports.get(name).copied()
+    }
+
+    /// Whether the last report of this name is a success.
+    pub fn has_succeeded(&self, name: &Context) -> bool
+        ensures value { result ≡ has_succeeded self.now name.now }
+    {
+        match self.last(name) {
+            Some(Report::Success) => true,
+            Some(Report::Pending) | None => false,
         }
     }
 }

@@ -1,4 +1,4 @@
-ghost use Rattle.std.specs.Prelude.{◌≡◌, [], ◌∷◌, not, ◌&&◌, Some, is_some, false, IfOk, IsOk, OnOk};
+ghost use Rattle.std.specs.Prelude.{◌≡◌, [], ◌∷◌, not, ◌&&◌, Some, is_some, true, false, IfOk, IsOk, OnOk};
 ghost use Rattle.std.specs.FinMap as finite;
 ghost use Rattle.std.specs.FinSet as set;
 ghost use Rattle.std.specs.List.{fold};
@@ -77,6 +77,34 @@ pub fn withdraw(desk: &mut Desk, number: ChangeNo)
     ensures { desk.new ≡ altered desk.old number without_approval }
 {
     desk.alter(number, |change| change.approved = None);
+}
+
+/// Marks changes as landing.
+pub fn mark_landing(desk: &mut Desk, changes: &[ChangeNo])
+    ensures { desk.new ≡ machine.all_altered (machine.with_landing true) desk.old changes.now }
+{
+    for number in changes {
+        desk.alter(*number, |change| change.landing = true);
+    }
+}
+
+/// Ends that changes are landing that were to land with a commit. If it is the new base, they have landed.
+pub fn release(desk: &mut Desk, changes: &[ChangeNo], commit: Commit, base: Option<Commit>)
+    ensures { desk.new ≡ machine.all_altered (machine.released base commit) desk.old changes.now }
+{
+    for number in changes {
+        desk.alter(*number, |change| release_one(change, commit, base));
+    }
+}
+
+fn release_one(change: &mut Change, commit: Commit, base: Option<Commit>)
+    ensures { change.new ≡ machine.released base commit change.old }
+{
+    change.landing = false;
+    if base == Some(commit) {
+        change.phase = Phase::Landed;
+        change.approved = None;
+    }
 }
 
 /// Sets the priority of a change.
@@ -177,6 +205,7 @@ fn just_opened(alloc: Global, author: Name, head: Commit) -> Change
         reviews: NameSet::new(alloc),
         delegates: NameSet::new(alloc),
         approved: None,
+        landing: false,
         last: None,
     }
 }

@@ -43,9 +43,6 @@ impl Choice for Approved<'_> {
     ghost chooses = { λ change approved. approved_on approved.desk.now change };
 
     fn has(&self, change: ChangeNo) -> bool {
-        match self.desk.change(change) {
-            Some(change) => change.approved.is_some(),
-            None => false,
-        }
+        self.desk.is_approved(change)
     }
 }

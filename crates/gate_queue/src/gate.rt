@@ -16,6 +16,7 @@ use crate::fault::Fault;
 use crate::judging::rule_of;
 use crate::queue::Queue;
 use crate::reply::Reply;
+use crate::state::State;
 use crate::stepping::step;
 use gate_rules::{Change, Desk, Rule};
 use gate_text::ChangeNo;
@@ -25,24 +26,23 @@ use std::marker::Model;
 /// The state of the merge bot, on which acts step one after the other. A contract sees it as its desk and its queue.
 #[derive(Drop)]
 pub struct Gate {
-    desk: Desk,
-    queue: Queue,
+    state: State,
 }
 
 impl Model for Gate {
     ghost use Rattle.std.specs.Coded.{codes};
     ghost use Rattle.gate_text.specs.Finite.{finite_codes};
-    ghost use Rattle.gate_queue.specs.Machine.{State};
+    ghost use Rattle.gate_queue.specs.declared.state.State.{State};
     ghost use Rattle.gate_queue.specs.State.{IsState};
 
     ghost Value = { State };
 
     ghost coded = { Prim.hlevel (codes, finite_codes) };
 
-    ghost view = { λ gate. record { desk = gate.desk; queue = gate.queue } };
+    ghost view = { λ gate. gate.state };
 
     // What a state keeps, whatever has happened.
-    ghost invariant = { λ gate. IsState (record { desk = gate.desk; queue = gate.queue }) };
+    ghost invariant = { λ gate. IsState gate.state };
 }
 
 // The greatest next number under which an act may step: no act uses more than the four from it on.
@@ -64,8 +64,10 @@ impl Gate {
         ensures value { result ≡ empty_state next }
     {
         Gate {
-            desk: Desk::new(alloc),
-            queue: Queue::new(alloc, next),
+            state: State {
+                desk: Desk::new(alloc),
+                queue: Queue::new(alloc, next),
+            },
         }
     }
 
@@ -91,12 +93,12 @@ impl Gate {
         // An act that allocates nothing is always answered, if the gate isn't full.
         ensures no_memory { self.queue.next ≤ 8_999_999_999_999_996 → DeskTakesNoMemory self.desk act.now → QueueTakesNoMemory self act.now → IsOk result }
     {
-        let Gate { desk, queue } = self;
-        if queue.next > LAST_NEXT {
+        let Gate { state } = self;
+        if state.queue.next > LAST_NEXT {
             return Err(Fault::Full);
         }
-        match step(desk, queue, alloc, act) {
-            Ok((desk, queue, reply)) => Ok((Gate { desk, queue }, reply)),
+        match step(state, alloc, act) {
+            Ok((state, reply)) => Ok((Gate { state }, reply)),
             Err(_) => Err(Fault::Memory),
         }
     }
@@ -107,14 +109,14 @@ impl Gate {
         ensures value { IfOk result (λ rule. rule ≡ denial self.now act.now) }
         ensures cause { IfErr result (λ _. RefusalMayWantMemory act.now (denial self.now act.now)) }
     {
-        rule_of(&self.desk, &self.queue, alloc, act)
+        rule_of(&self.state.desk, &self.state.queue, alloc, act)
     }
 
     /// The change of this number, if it was opened.
     pub fn change(&self, number: ChangeNo) -> Option<&Change>
         ensures value { option_copied result ≡ map.get self.now.desk.changes number }
     {
-        self.desk.change(number)
+        self.state.desk.change(number)
     }
 
     /// The desk: roles, changes, settings, base and clock.
@@ -122,7 +124,7 @@ impl Gate {
         ensures value { result.now ≡ self.now.desk }
         ensures state { IsState self.now }
     {
-        &self.desk
+        &self.state.desk
     }
 
     /// The numbers of all batches, in order of service: of a branch the running batch first, then the waiting ones by greater
@@ -131,14 +133,14 @@ impl Gate {
         ensures value { IfOk result (λ numbers. numbers.items ≡ queue_specs.numbers_of self.now.queue) }
         ensures order { IsInOrder self.now.queue.next self.now.queue.staging }
     {
-        self.queue.numbers(alloc)
+        self.state.queue.numbers(alloc)
     }
 
     /// The batch of this number, if there is one.
     pub fn batch(&self, number: u64) -> Option<&Batch>
         ensures value { option_copied result ≡ queue_specs.batch_numbered number self.now.queue }
     {
-        self.queue.batch(number)
+        self.state.queue.batch(number)
     }
 
     /// The number of the next batch.
@@ -146,12 +148,12 @@ impl Gate {
         ensures value { result ≡ self.now.queue.next }
         ensures limit { result ≤ 9_000_000_000_000_000 }
     {
-        self.queue.next
+        self.state.queue.next
     }
 }
 
-/// The law of the first history: the one without entries is legal to an empty state, whatever its next number is, as
-/// `Gate::new` and `Gate::starting_at` show one.
+/// The law of the first history: the one without entries is legal to an empty state with a next number up to
+/// 9,000,000,000,000,000, as `Gate::new` and `Gate::starting_at` show one.
 pub fn empty_history_is_legal()
-    ensures { (next : ℕ) → Legal [] (empty_state next) }
+    ensures { (next : ℕ) → next ≤ 9_000_000_000_000_000 → Legal [] (empty_state next) }
 {}

@@ -3,12 +3,13 @@ ghost use Rattle.gate_text.specs.Settings.{settings_of};
 ghost use Rattle.gate_rules.specs.Rules.{first_failing};
 ghost use Rattle.gate_rules.specs.View.{look};
 ghost use Rattle.gate_queue.specs.Machine as machine;
-ghost use Rattle.gate_queue.specs.Machine.{RefusalMayWantMemory, DeskTakesNoMemory, denial, bad_settings, of_open_change, review_row, row};
+ghost use Rattle.gate_queue.specs.Machine.{RefusalMayWantMemory, DeskTakesNoMemory, denial, bad_settings, is_ordered, is_staged_with, of_open_change, opening_row, review_row, row};
 ghost use Rattle.gate_queue.specs.declared.act.Act.TheVariants as act;
 
 use crate::act::Act;
 use crate::batch::Stage;
 use crate::queue::Queue;
+use crate::waiting::is_landing;
 use gate_rules::{Desk, Rule};
 use gate_text::{ChangeNo, Commit, Name, SettingsFault, Text, read_settings};
 use std::alloc::{AllocError, Global};
@@ -34,8 +35,7 @@ pub fn rule_of(
         Act::Role { .. } => Ok(None),
         Act::Settings { text } => settings_rule(alloc, text),
         Act::Base { commit } => Ok(base_rule(desk, *commit)),
-        Act::Opened { change, .. } if desk.is_open(*change) => Ok(Some(Rule::AlreadyOpen)),
-        Act::Opened { .. } => Ok(None),
+        Act::Opened { change, .. } => Ok(opening_rule(desk, *change)),
         Act::Pushed { change, .. }
         | Act::Closed { change }
         | Act::Labeled { change, .. }
@@ -51,6 +51,9 @@ pub fn rule_of(
         }
         Act::Staged { commit, .. } => Ok(base_rule(desk, *commit)),
         Act::Conflict { .. } => Ok(None),
+        Act::Status { commit, .. } if !has_staged(queue, *commit) => Ok(Some(Rule::NoSuchBatch)),
+        Act::Refused { batch } if !has_landing(queue, *batch) => Ok(Some(Rule::NoSuchBatch)),
+        Act::Status { .. } | Act::Refused { .. } => Ok(None),
         Act::Tick { now } if *now < desk.clock() => Ok(Some(Rule::ClockBack)),
         Act::Tick { .. } => Ok(None),
     }
@@ -58,21 +61,63 @@ pub fn rule_of(
 
 // Whether the host was ordered to stage the batch of this number, and hasn't answered yet.
 fn has_ordered(queue: &Queue, number: u64) -> bool
-    ensures { result ≡ machine.has_ordered queue.now number }
+    ensures { result ≡ machine.has_ordered number queue.now }
 {
     match &queue.staging.running {
-        Some(batch) => batch.number == number && is_ordered(&batch.stage),
+        Some(batch) => number == batch.number && is_ordered(&batch.stage),
         None => false,
     }
 }
 
 fn is_ordered(stage: &Stage) -> bool
-    ensures { result ≡ machine.is_ordered stage.now }
+    ensures { result ≡ is_ordered stage.now }
 {
     match stage {
         Stage::Ordered { .. } => true,
         Stage::Waiting | Stage::Staged { .. } | Stage::Landing { .. } => false,
     }
+}
+
+// Whether the batch that is tested was staged with this commit.
+fn has_staged(queue: &Queue, commit: Commit) -> bool
+    ensures { result ≡ machine.has_staged commit queue.now }
+{
+    match &queue.staging.running {
+        Some(batch) => is_staged_with(&batch.stage, commit),
+        None => false,
+    }
+}
+
+fn is_staged_with(stage: &Stage, commit: Commit) -> bool
+    ensures { result ≡ is_staged_with commit stage.now }
+{
+    match stage {
+        Stage::Staged { commit: staged, .. } => commit == *staged,
+        Stage::Waiting | Stage::Ordered { .. } | Stage::Landing { .. } => false,
+    }
+}
+
+// Whether the host was ordered to land the batch of this number, and hasn't answered yet.
+fn has_landing(queue: &Queue, number: u64) -> bool
+    ensures { result ≡ machine.has_landing number queue.now }
+{
+    match &queue.staging.running {
+        Some(batch) => number == batch.number && is_landing(batch),
+        None => false,
+    }
+}
+
+// The first rule that fails of a change that is to be opened.
+fn opening_rule(desk: &Desk, change: ChangeNo) -> Option<Rule>
+    ensures { result ≡ first_failing (opening_row (look desk.now) change) }
+{
+    if desk.is_open(change) {
+        return Some(Rule::AlreadyOpen);
+    }
+    if desk.is_landed(change) {
+        return Some(Rule::ChangeLanded);
+    }
+    None
 }
 
 // The rule on a text of settings, if it fails.

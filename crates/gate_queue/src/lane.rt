@@ -1,14 +1,14 @@
-ghost use Rattle.std.specs.Prelude.{◌≡◌, ◌==◌, ◌<◌, true, None, Some, is_none, IfOk, IsOk};
+ghost use Rattle.std.specs.Prelude.{◌≡◌, ◌==◌, ◌<◌, true, None, Some, is_none, IfOk, IsOk, OnOk};
 ghost use Rattle.std.specs.List.{find};
 ghost use Rattle.std.specs.Option.{option_copied};
 ghost use Rattle.gate_queue.specs.Lanes as lanes;
 
-use crate::batch::{Batch, Reports, Stage};
+use crate::batch::{Batch, Report, Reports, Stage};
 use crate::choice::Choice;
 use crate::waiting::{
     MAX_NUMBER, enter, has_all, has_several, is_landing, keep, left, put_back, split_into,
 };
-use gate_text::{ChangeNo, Commit, List};
+use gate_text::{ChangeNo, Commit, Context, List};
 use std::alloc::{AllocError, Global};
 
 /// Batches in order of service. A contract sees them as the list of the batches.
@@ -106,10 +106,12 @@ impl Lane {
     }
 
     /// Lets the chosen changes of the running batch, whatever its stage, wait again as a batch, under `number`; the others are
-    /// no longer queued. With it comes how many numbers were used. `AllocError` if there is no memory for it.
+    /// no longer queued. With it comes how many numbers were used. `AllocError` if there is no memory for it; if no batch runs,
+    /// it takes none.
     pub fn requeue<C: Choice>(self, number: u64, choice: &C) -> Result<(Lane, u64), AllocError>
         ensures lane { IfOk result (λ done. done.0 ≡ lanes.requeued (λ change. C.chooses change choice.now) number self) }
         ensures uses { IfOk result (λ done. done.1 ≡ lanes.requeued_uses (λ change. C.chooses change choice.now) self) }
+        ensures no_memory { is_none self.running ≡ true → IsOk result }
     {
         let Lane { running, waiting } = self;
         let mut waiting = waiting.into_vec();
@@ -165,6 +167,34 @@ impl Lane {
         Lane { running, waiting }
     }
 
+    /// Keeps a report of the running batch, if that is tested, in place of the last one of this name. `AllocError` if there is
+    /// no memory for it.
+    pub fn report(self, name: Context, report: Report) -> Result<Lane, AllocError>
+        ensures value { IfOk result (λ lane. lane ≡ lanes.reported name report self) }
+    {
+        let Lane { running, waiting } = self;
+        let running = match running {
+            Some(mut batch) => {
+                keep_report(&mut batch.stage, name, report)?;
+                Some(batch)
+            }
+            None => None,
+        };
+        Ok(Lane { running, waiting })
+    }
+
+    /// Has the running batch, if it is tested, land with the commit that is tested. It takes no memory.
+    pub fn land(self) -> Lane
+        ensures value { result ≡ lanes.landing self }
+    {
+        let Lane { running, waiting } = self;
+        let running = match running {
+            Some(batch) => Some(to_land(batch)),
+            None => None,
+        };
+        Lane { running, waiting }
+    }
+
     /// Drops the running batch.
     pub fn drop_running(self) -> Lane
         ensures value { result ≡ lanes.dropped self }
@@ -181,6 +211,24 @@ fn staged_at(mut batch: Batch, alloc: Global, now: u64, commit: Commit) -> Batch
         commit,
         reports: Reports::new(alloc),
     };
+    batch
+}
+
+fn keep_report(stage: &mut Stage, name: Context, report: Report) -> Result<(), AllocError>
+    ensures { OnOk result (stage.new ≡ lanes.with_report name report stage.old) }
+{
+    match stage {
+        Stage::Staged { reports, .. } => reports.keep(name, report),
+        Stage::Waiting | Stage::Ordered { .. } | Stage::Landing { .. } => Ok(()),
+    }
+}
+
+fn to_land(mut batch: Batch) -> Batch
+    ensures { result ≡ lanes.to_land batch }
+{
+    if let Stage::Staged { commit, .. } = &batch.stage {
+        batch.stage = Stage::Landing { commit: *commit };
+    }
     batch
 }
 

@@ -1,7 +1,7 @@
-ghost use Rattle.gate_queue.specs.Counts.{LawOfEnqueue, LawOfTakeOut, LawOfRestart, LawOfStart, LawOfStage, LawOfRequeue, LawOfFail, LawOfDrop};
+ghost use Rattle.gate_queue.specs.Counts.{LawOfEnqueue, LawOfTakeOut, LawOfRestart, LawOfStart, LawOfStage, LawOfReport, LawOfLand, LawOfRequeue, LawOfFail, LawOfDrop};
 ghost use Rattle.gate_queue.specs.Following.{LawOfTheQueue};
 ghost use Rattle.gate_queue.specs.Service.{LawOfNumbers, LawOfOrder, LawOfPlaces, LawOfRests};
-ghost use Rattle.gate_queue.specs.Words.{LawOfSince, LawOfTheLast, LawOfSets};
+ghost use Rattle.gate_queue.specs.Words.{LawOfSince, LawOfTheLast, LawOfSets, LawOfTests};
 
 /// The law of `since`: it holds exactly if the events can be cut at one that started it, and each event that came after
 /// has kept it.
@@ -38,6 +38,8 @@ pub fn law_of_changes()
     ensures restart { LawOfRestart }
     ensures start { LawOfStart }
     ensures stage { LawOfStage }
+    ensures report { LawOfReport }
+    ensures land { LawOfLand }
     ensures requeue { LawOfRequeue }
     ensures fail { LawOfFail }
     ensures drop { LawOfDrop }
@@ -47,4 +49,12 @@ pub fn law_of_changes()
 /// denies it. The machine has one definition for all of them, by which the queue follows the desk.
 pub fn law_of_the_queue()
     ensures { LawOfTheQueue }
+{}
+
+/// The law of tests: if a batch is tested for a base and a commit, then it was ordered on that base, which is still the
+/// base; at each moment since, the settings were those of now; since the order it was staged with that commit, and neither
+/// ordered nor staged anew; and after that each required status of the commit succeeded, with no report of it since the
+/// success, and no bad one before.
+pub fn law_of_tests()
+    ensures { LawOfTests }
 {}

@@ -22,7 +22,7 @@ pub fn perform(
     requires about { subject act.now ≡ Some number }
     requires holds { IsNone (broken (look desk.old) act.now) }
     ensures desk { OnOk result (desk.new ≡ effect desk.old act.now) }
-    ensures orders { IfOk result (λ orders. orders ≡ machine.orders desk.old act.now) }
+    ensures orders { IfOk result (λ orders. orders ≡ machine.notices desk.old act.now) }
     ensures no_memory { DeskTakesNoMemory desk.old act.now → IsOk result }
 {
     match act {
@@ -41,8 +41,16 @@ pub fn perform(
             approves,
             ..
         } => return changing::review(desk, alloc, number, person, *approves),
-        // The others are about no change, and an unknown line does nothing.
-        _ => {}
+        // An unknown line does nothing, and the others are about no change.
+        Act::Spoken { .. }
+        | Act::Role { .. }
+        | Act::Settings { .. }
+        | Act::Base { .. }
+        | Act::Staged { .. }
+        | Act::Conflict { .. }
+        | Act::Status { .. }
+        | Act::Refused { .. }
+        | Act::Tick { .. } => {}
     }
     Ok(no_orders(alloc))
 }

@@ -3,11 +3,11 @@ ghost use Rattle.std.specs.Option.{option_copied};
 ghost use Rattle.gate_queue.specs.Lanes as lanes;
 ghost use Rattle.gate_queue.specs.Queue as specs;
 
-use crate::batch::{Batch, Branch};
+use crate::batch::{Batch, Branch, Report};
 use crate::choice::Choice;
 use crate::lane::Lane;
 use crate::waiting::MAX_NUMBER;
-use gate_text::{ChangeNo, Commit};
+use gate_text::{ChangeNo, Commit, Context};
 use std::alloc::{AllocError, Global};
 
 /// The batches of both branches, and the number of the next batch.
@@ -111,10 +111,11 @@ impl Queue {
     }
 
     /// Lets the chosen changes of the running batch of a branch wait again, whatever its stage; the others are no longer
-    /// queued. `AllocError` if there is no memory for it.
+    /// queued. `AllocError` if there is no memory for it; if no batch runs there, it takes none.
     pub fn requeue<C: Choice>(self, branch: Branch, choice: &C) -> Result<Queue, AllocError>
         requires { self.next < MAX_NUMBER }
         ensures value { IfOk result (λ queue. queue ≡ specs.requeued branch (λ change. C.chooses change choice.now) self) }
+        ensures no_memory { is_none (specs.lane_of branch self).running ≡ true → IsOk result }
     {
         let next = self.next;
         let (lane, other) = lanes_of(self, branch);
@@ -151,6 +152,26 @@ impl Queue {
         let next = self.next;
         let (lane, other) = lanes_of(self, branch);
         of_lanes(branch, lane.stage(alloc, now, commit), other, next)
+    }
+
+    /// Keeps a report of the running batch of a branch, if that is tested, in place of the last one of this name. `AllocError` if
+    /// there is no memory for it.
+    pub fn report(self, branch: Branch, name: Context, report: Report) -> Result<Queue, AllocError>
+        ensures value { IfOk result (λ queue. queue ≡ specs.reported branch name report self) }
+    {
+        let next = self.next;
+        let (lane, other) = lanes_of(self, branch);
+        let lane = lane.report(name, report)?;
+        Ok(of_lanes(branch, lane, other, next))
+    }
+
+    /// Has the running batch of a branch, if it is tested, land with the commit that is tested. It takes no memory.
+    pub fn land(self, branch: Branch) -> Queue
+        ensures value { result ≡ specs.landing branch self }
+    {
+        let next = self.next;
+        let (lane, other) = lanes_of(self, branch);
+        of_lanes(branch, lane.land(), other, next)
     }
 
     /// Drops the running batch of a branch.

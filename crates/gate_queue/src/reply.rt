@@ -1,12 +1,16 @@
 use crate::batch::Branch;
 use gate_rules::Rule;
-use gate_text::{ChangeNo, Commit, List};
+use gate_text::{ChangeNo, Commit, Context, List};
 
 /// Why a change's approval has ended without a command.
-#[derive(Clone, Copy, Debug, PartialEq, Eq)]
+#[derive(Debug, Drop, PartialEq, Eq)]
 pub enum Why {
     /// Its batch, in which it was alone, can't be merged.
     Conflict,
+    /// This required status of its batch, in which it was alone, has failed.
+    Failed(Context),
+    /// Its batch, in which it was alone, has taken longer than the settings allow.
+    TimedOut,
     /// Another head was pushed.
     Pushed,
     /// The change was closed.
@@ -44,6 +48,15 @@ pub enum Order {
         base: Commit,
         /// The changes of the batch at their heads.
         heads: Heads,
+    },
+    /// To move the main branch from the base to the commit that was tested.
+    Land {
+        /// The number of the batch.
+        batch: u64,
+        /// The commit that the main branch stands at.
+        base: Commit,
+        /// The commit that it is to stand at.
+        commit: Commit,
     },
     /// To tell the people of a change that its approval has ended.
     Notice {

@@ -1,15 +1,15 @@
 ghost use Rattle.std.specs.Prelude.{◌≡◌, ◌≤◌, Ok, IfOk};
 ghost use Rattle.gate_text.specs.Settings.{settings_of};
 ghost use Rattle.gate_queue.specs.Machine as machine;
-ghost use Rattle.gate_queue.specs.Machine.{with_accepted, accepted_notices, with_new_settings, new_settings_notices, settled_queue, settings_notices};
+ghost use Rattle.gate_queue.specs.Machine.{settings_notices};
 ghost use Rattle.gate_queue.specs.Queue as queue_specs;
 ghost use Rattle.gate_queue.specs.declared.batch.Branch.TheVariants.{Staging};
 
 use crate::batch::Branch;
-use crate::changing::no_orders;
 use crate::choice::Approved;
 use crate::queue::Queue;
 use crate::reply::{Order, Orders, Why};
+use crate::state::{Outcome, State, quiet};
 use gate_rules::{Change, Condition, Desk, has_too_few_reviews, is_blocked};
 use gate_text::{ChangeNo, Settings, SettingsFault, Text, read_settings};
 use std::alloc::{AllocError, Global};
@@ -30,22 +30,16 @@ impl Condition for LosesApproval<'_> {
     }
 }
 
-/// Takes the settings of a text, unless they are the present ones.
-pub fn accept_settings(
-    desk: Desk,
-    queue: Queue,
-    alloc: Global,
-    text: &Text,
-) -> Result<(Desk, Queue, Orders), AllocError>
-    requires { queue.next ≤ 8_999_999_999_999_996 }
-    ensures desk { IfOk result (λ done. done.0 ≡ with_accepted desk (settings_of text.now)) }
-    ensures queue { IfOk result (λ done. done.1 ≡ settled_queue desk (settings_of text.now) queue) }
-    ensures orders { IfOk result (λ done. done.2 ≡ accepted_notices desk (settings_of text.now)) }
+/// Takes the settings of a text, unless they are the present ones. `AllocError` if there is no memory for it.
+pub fn accept_settings(state: State, alloc: Global, text: &Text) -> Result<Outcome, AllocError>
+    requires { state.queue.next ≤ 8_999_999_999_999_996 }
+    ensures value { IfOk result (λ outcome. outcome ≡ machine.accepted state (settings_of text.now)) }
 {
     match read_settings(alloc, text.as_str()) {
-        Ok(settings) => take_settings(desk, queue, alloc, settings),
+        Ok(settings) if are_present(&state.desk, &settings) => Ok(quiet(state, alloc)),
+        Ok(settings) => take_settings(state, alloc, settings),
         Err(SettingsFault::Memory) => Err(AllocError),
-        Err(_) => Ok((desk, queue, no_orders(alloc))),
+        Err(_) => Ok(quiet(state, alloc)),
     }
 }
 
@@ -60,28 +54,22 @@ fn are_present(desk: &Desk, settings: &Settings) -> bool
 
 // Takes settings in place of the present ones. They end the approvals that they are against, and what was tested under the
 // present ones is tested anew.
-fn take_settings(
-    mut desk: Desk,
-    queue: Queue,
-    alloc: Global,
-    settings: Settings,
-) -> Result<(Desk, Queue, Orders), AllocError>
-    requires { queue.next ≤ 8_999_999_999_999_996 }
-    ensures desk { IfOk result (λ done. done.0 ≡ with_new_settings desk settings) }
-    ensures queue { IfOk result (λ done. done.1 ≡ settled_queue desk (Ok settings) queue) }
-    ensures orders { IfOk result (λ done. done.2 ≡ new_settings_notices desk settings) }
+fn take_settings(state: State, alloc: Global, settings: Settings) -> Result<Outcome, AllocError>
+    requires { state.queue.next ≤ 8_999_999_999_999_996 }
+    ensures { IfOk result (λ outcome. outcome ≡ machine.under settings state) }
 {
-    if are_present(&desk, &settings) {
-        return Ok((desk, queue, no_orders(alloc)));
-    }
+    let State { mut desk, queue } = state;
     let loses = LosesApproval {
         settings: &settings,
     };
-    let notices = notices_to(alloc, desk.numbers_where(alloc, &loses)?.as_slice())?;
+    let orders = notices_to(alloc, desk.numbers_where(alloc, &loses)?.as_slice())?;
     desk.end_approvals_where(&loses);
     desk.set_settings(settings);
     let queue = resettle(queue, alloc, &desk)?;
-    Ok((desk, queue, notices))
+    Ok(Outcome {
+        state: State { desk, queue },
+        orders,
+    })
 }
 
 // Takes out what isn't approved any longer, and lets the running batch wait again.

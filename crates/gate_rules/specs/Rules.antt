@@ -21,7 +21,7 @@ use Rattle.gate_rules.specs.declared.role.Role.TheVariants as role
 use Rattle.gate_rules.specs.declared.role.Level.{Level}
 use Rattle.gate_rules.specs.declared.role.Level.TheVariants as level
 use Rattle.gate_rules.specs.declared.rule.Rule.{Rule}
-use Rattle.gate_rules.specs.declared.rule.Rule.TheVariants.{UnknownChange, NotACommand, NotPermitted, NotOpen, NoSettings, NoBase, AlreadyApproved, NotApproved, Blocked, TooFewReviews}
+use Rattle.gate_rules.specs.declared.rule.Rule.TheVariants.{UnknownChange, NotACommand, NotPermitted, NotOpen, Landing, NoSettings, NoBase, AlreadyApproved, NotApproved, Blocked, TooFewReviews}
 
 -- WHAT THE RULES READ: roles, the changes that were opened, the settings and the base, if there are any, and the clock
 pub record Look : Type 0 where
@@ -92,6 +92,17 @@ is_open s change = option_map_or (λ c. is_open_phase c.phase) (s.change change)
 abbrev pub is_approved : Look → ℕ → Bool
 is_approved s change = option_map_or (λ c. is_some c.approved) (s.change change) false
 
+abbrev pub is_landing : Look → ℕ → Bool
+is_landing s change = option_map_or (λ c. c.landing) (s.change change) false
+
+abbrev pub is_landed_phase : Phase → Bool
+is_landed_phase Opened = false
+is_landed_phase Closed = false
+is_landed_phase Landed = true
+
+abbrev pub is_landed : Look → ℕ → Bool
+is_landed s change = option_map_or (λ c. is_landed_phase c.phase) (s.change change) false
+
 abbrev pub has_settings : Look → Bool
 has_settings s = is_some s.settings
 
@@ -144,6 +155,10 @@ begins_with_rules s person change command others =
     ∷ asks (is_open s change) NotOpen
     ∷ others
 
+-- and those that alter an approval or a priority: an order to land makes both final
+abbrev pub unless_landing : Look → List ℕ → ℕ → Command → List (Option Rule) → List (Option Rule)
+unless_landing s person change command others = begins_with_rules s person change command (asks (not (is_landing s change)) Landing ∷ others)
+
 -- the rules of an approval, behind these
 abbrev pub approval_rules : Look → ℕ → List (Option Rule)
 approval_rules s change =
@@ -161,10 +176,10 @@ no_command s change = asks (is_known s change) UnknownChange ∷ Some NotAComman
 -- what a command on a change is judged by, in order; a command whose rules are still to come counts as no command
 abbrev pub command_row : Look → List ℕ → ℕ → Command → List (Option Rule)
 command_row s person change Ping = asks (is_known s change) UnknownChange ∷ []
-command_row s person change Approve = begins_with_rules s person change Approve (approval_rules s change)
-command_row s person change (ApproveFor names) = begins_with_rules s person change (ApproveFor names) (approval_rules s change)
-command_row s person change Withdraw = begins_with_rules s person change Withdraw (asks (is_approved s change) NotApproved ∷ [])
-command_row s person change (Priority priority) = begins_with_rules s person change (Priority priority) []
+command_row s person change Approve = unless_landing s person change Approve (approval_rules s change)
+command_row s person change (ApproveFor names) = unless_landing s person change (ApproveFor names) (approval_rules s change)
+command_row s person change Withdraw = unless_landing s person change Withdraw (asks (is_approved s change) NotApproved ∷ [])
+command_row s person change (Priority priority) = unless_landing s person change (Priority priority) []
 command_row s person change DelegateAuthor = begins_with_rules s person change DelegateAuthor []
 command_row s person change (DelegateTo names) = begins_with_rules s person change (DelegateTo names) []
 command_row s person change DelegateNone = begins_with_rules s person change DelegateNone []

@@ -57,6 +57,8 @@ pub struct Change {
     pub delegates: NameSet,
     /// The approvers, if the change is approved.
     pub approved: Option<Names>,
+    /// Whether the host was ordered to land it, and hasn't answered yet.
+    pub landing: bool,
     /// The last command that `retry` would repeat, if there was one.
     pub last: Option<Repeat>,
 }
@@ -83,6 +85,7 @@ impl Change {
             reviews: self.reviews.copy(alloc)?,
             delegates: self.delegates.copy(alloc)?,
             approved,
+            landing: self.landing,
             last,
         })
     }

@@ -15,6 +15,8 @@ pub enum Rule {
     NotPermitted(Level),
     /// The change is closed or landed.
     NotOpen,
+    /// The change is landing: its approval and its priority are final.
+    Landing,
     /// No settings are accepted yet.
     NoSettings,
     /// No base is known yet, the commit that the main branch stands at.
@@ -29,6 +31,8 @@ pub enum Rule {
     TooFewReviews(u32, u32),
     /// The change is open already.
     AlreadyOpen,
+    /// The change has landed, and is never opened again.
+    ChangeLanded,
     /// The review is of another commit than the change's head.
     StaleHead,
     /// The person who reviews has no role.
@@ -55,12 +59,14 @@ impl Rule {
             Rule::NotACommand => 2,
             Rule::NotPermitted(_) => 3,
             Rule::NotOpen => 4,
+            Rule::Landing => 6,
             Rule::NoSettings => 7,
             Rule::NoBase => 8,
             Rule::AlreadyApproved | Rule::NotApproved => 9,
             Rule::Blocked(_) => 10,
             Rule::TooFewReviews(..) => 11,
             Rule::AlreadyOpen => 12,
+            Rule::ChangeLanded => 13,
             Rule::StaleHead => 14,
             Rule::NotMember => 15,
             Rule::OwnChange => 16,
@@ -80,6 +86,7 @@ impl Rule {
             Rule::NotACommand => "NotACommand",
             Rule::NotPermitted(_) => "NotPermitted",
             Rule::NotOpen => "NotOpen",
+            Rule::Landing => "Landing",
             Rule::NoSettings => "NoSettings",
             Rule::NoBase => "NoBase",
             Rule::AlreadyApproved => "AlreadyApproved",
@@ -87,6 +94,7 @@ impl Rule {
             Rule::Blocked(_) => "Blocked",
             Rule::TooFewReviews(..) => "TooFewReviews",
             Rule::AlreadyOpen => "AlreadyOpen",
+            Rule::ChangeLanded => "ChangeLanded",
             Rule::StaleHead => "StaleHead",
             Rule::NotMember => "NotMember",
             Rule::OwnChange => "OwnChange",

@@ -163,7 +163,7 @@ fn numbered(rt: &impl Abort, alloc: Global, next: u64, line: &str) -> String
 #[test]
 fn a_full_gate(rt: HostRuntime) {
     let lines =
-        "role alice reviewer|base 0|opened 1 carol a|1 alice bors r+|settings|pushed 1 a|conflict 1|tick 5";
+        "role alice reviewer|base 0|opened 1 carol a|1 alice bors r+|settings|pushed 1 a|conflict 1|status d ci error|refused 1|tick 5";
     for line in lines.split('|') {
         let full = numbered(&rt, rt.alloc(), 8_999_999_999_999_997, line);
         check_words(&rt, line, full.as_str(), "Full");

@@ -1,5 +1,5 @@
 use gate_rules::{Change, Phase, Repeat, Role, Rule};
-use gate_text::{ChangeNo, Commit, Label, LabelSet, Name, NameSet, Names};
+use gate_text::{ChangeNo, Commit, Context, Label, LabelSet, Name, NameSet, Names};
 use std::alloc::Global;
 use std::ops::Range;
 use std::process::Abort;
@@ -62,6 +62,10 @@ pub(crate) fn label(rt: &impl Abort, alloc: Global, text: &str) -> Label {
     Label::read(alloc, text).expect(rt, "a label")
 }
 
+pub(crate) fn context(rt: &impl Abort, alloc: Global, text: &str) -> Context {
+    Context::read(alloc, text).expect(rt, "the name of a status")
+}
+
 pub(crate) fn number(rt: &impl Abort, text: &str) -> ChangeNo {
     ChangeNo::read(text).expect(rt, "a change number")
 }
@@ -113,8 +117,8 @@ pub(crate) fn role(word: &str) -> Role {
 
 fn phase(word: &str) -> Phase {
     match word {
-        "opened" => Phase::Opened,
-        "closed" => Phase::Closed,
+        "opened" | "landing" => Phase::Opened,
+        "closed" | "closed-landing" => Phase::Closed,
         _ => Phase::Landed,
     }
 }
@@ -142,7 +146,8 @@ fn last(rt: &impl Abort, alloc: Global, word: &str) -> Option<Repeat> {
 }
 
 // The change of a text: author, head, phase, priority, labels, reviews, delegates, approvers and last command, with `-` for
-// none.
+// none. The phase is `opened`, `closed` or `landed`; an open change that is landing has `landing`, and a closed one
+// `closed-landing`.
 pub(crate) fn change(rt: &impl Abort, alloc: Global, text: &str) -> Change {
     let (author, rest) = cut(text);
     let (head, rest) = cut(rest);
@@ -161,6 +166,7 @@ pub(crate) fn change(rt: &impl Abort, alloc: Global, text: &str) -> Change {
         reviews: name_set(rt, alloc, reviews),
         delegates: name_set(rt, alloc, delegates),
         approved: approvers(rt, alloc, approver_list),
+        landing: phase_word.ends_with("landing"),
         last: last(rt, alloc, last_word),
     }
 }

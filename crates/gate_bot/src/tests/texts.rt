@@ -1,8 +1,9 @@
 use super::check_text;
 use crate::answers::answer_text;
 use crate::errors::error_text;
+use crate::field::Field;
 use crate::lines::HookFault;
-use crate::reading::{DeliveryFault, Field};
+use crate::reading::DeliveryFault;
 use gate_queue::{Fault, Reply};
 use gate_rules::{Level, Rule};
 use std::alloc::Global;

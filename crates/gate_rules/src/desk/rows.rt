@@ -30,6 +30,26 @@ impl Desk {
         }
     }
 
+    /// Whether the change of this number is on the desk and landing.
+    pub fn is_landing(&self, change: ChangeNo) -> bool
+        ensures value { result ≡ rules.is_landing (look self.now) change }
+    {
+        match self.change(change) {
+            Some(change) => change.landing,
+            None => false,
+        }
+    }
+
+    /// Whether the change of this number is on the desk and has landed.
+    pub fn is_landed(&self, change: ChangeNo) -> bool
+        ensures value { result ≡ rules.is_landed (look self.now) change }
+    {
+        match self.change(change) {
+            Some(change) => change.phase == Phase::Landed,
+            None => false,
+        }
+    }
+
     /// Whether the change of this number is on the desk.
     pub fn is_known(&self, change: ChangeNo) -> bool
         ensures value { result ≡ rules.is_known (look self.now) change }
@@ -76,10 +96,10 @@ impl Desk {
                 self.approve_rule(alloc, person, change, command)
             }
             Command::Withdraw => Ok(self.withdraw_rule(person, change)),
-            Command::Priority(_)
-            | Command::DelegateAuthor
-            | Command::DelegateTo(_)
-            | Command::DelegateNone => Ok(self.first_rules(person, change, command)),
+            Command::Priority(_) => Ok(self.rules_unless_landing(person, change, command)),
+            Command::DelegateAuthor | Command::DelegateTo(_) | Command::DelegateNone => {
+                Ok(self.first_rules(person, change, command))
+            }
             // The rules of these are still to come.
             Command::Try | Command::TryCancel | Command::Retry => Ok(Some(Rule::NotACommand)),
         }
@@ -101,6 +121,25 @@ impl Desk {
         None
     }
 
+    // The same of a command that alters an approval or a priority, which mustn't be landing.
+    fn rules_unless_landing(
+        &self,
+        person: &Name,
+        change: ChangeNo,
+        command: &Command,
+    ) -> Option<Rule>
+        requires { IsTrue (rules.is_known (look self.now) change) }
+        ensures value { result ≡ rules.first_failing (rules.unless_landing (look self.now) person.now change command.now []) }
+        ensures found { IfSome result (λ rule. (others : List (Option Rule)) → rules.first_failing (rules.unless_landing (look self.now) person.now change command.now others) ≡ Some rule) }
+        ensures passed { IfNone result ((others : List (Option Rule)) → rules.first_failing (rules.unless_landing (look self.now) person.now change command.now others) ≡ rules.first_failing others) }
+    {
+        match self.first_rules(person, change, command) {
+            Some(rule) => Some(rule),
+            None if self.is_landing(change) => Some(Rule::Landing),
+            None => None,
+        }
+    }
+
     // The first rule that fails of an approval of a known change.
     fn approve_rule(
         &self,
@@ -110,10 +149,10 @@ impl Desk {
         command: &Command,
     ) -> Result<Option<Rule>, AllocError>
         requires { IsTrue (rules.is_known (look self.now) change) }
-        ensures value { IfOk result (λ rule. rule ≡ rules.first_failing (rules.begins_with_rules (look self.now) person.now change command.now (rules.approval_rules (look self.now) change))) }
-        ensures cause { IfErr result (λ _. rules.MayWantMemory (rules.first_failing (rules.begins_with_rules (look self.now) person.now change command.now (rules.approval_rules (look self.now) change)))) }
+        ensures value { IfOk result (λ rule. rule ≡ rules.first_failing (rules.unless_landing (look self.now) person.now change command.now (rules.approval_rules (look self.now) change))) }
+        ensures cause { IfErr result (λ _. rules.MayWantMemory (rules.first_failing (rules.unless_landing (look self.now) person.now change command.now (rules.approval_rules (look self.now) change)))) }
     {
-        match self.first_rules(person, change, command) {
+        match self.rules_unless_landing(person, change, command) {
             Some(rule) => Ok(Some(rule)),
             None => self.approval_rule(alloc, change),
         }
@@ -124,7 +163,7 @@ impl Desk {
         requires { IsTrue (rules.is_known (look self.now) change) }
         ensures { result ≡ rules.first_failing (rules.command_row (look self.now) person.now change Command.Withdraw) }
     {
-        match self.first_rules(person, change, &Command::Withdraw) {
+        match self.rules_unless_landing(person, change, &Command::Withdraw) {
             Some(rule) => Some(rule),
             None if self.is_approved(change) => None,
             None => Some(Rule::NotApproved),

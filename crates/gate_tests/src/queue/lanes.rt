@@ -1,7 +1,7 @@
 ghost use Rattle.std.specs.Prelude.{◌<◌};
 
-use crate::readers::{check_words, commit, cut, number, row_of};
-use gate_queue::{AllBut, Batch, Branch, Lane, Queue, Stage};
+use crate::readers::{check_words, commit, context, cut, number, row_of};
+use gate_queue::{AllBut, Batch, Branch, Lane, Queue, Report, Stage};
 use std::alloc::Global;
 use std::process::Abort;
 
@@ -15,11 +15,28 @@ fn push_batch(rt: &impl Abort, words: &mut String, batch: &Batch) {
     words.push_str("; ").expect(rt, "memory");
 }
 
-// The batches in order of service; a star marks the one that runs.
+// What marks the running batch: a star if it is ordered, a plus if it is tested, two if `ci` has succeeded, and `!` if it lands.
+fn mark(rt: &impl Abort, alloc: Global, stage: &Stage) -> &'static str {
+    match stage {
+        Stage::Waiting => "",
+        Stage::Ordered { .. } => "*",
+        Stage::Staged { reports, .. } => {
+            if reports.has_succeeded(&context(rt, alloc, "ci")) {
+                "++"
+            } else {
+                "+"
+            }
+        }
+        Stage::Landing { .. } => "!",
+    }
+}
+
+// The batches in order of service, the running one behind its mark.
 fn lane_words(rt: &impl Abort, alloc: Global, lane: &Lane) -> String {
     let mut words = String::new(alloc);
     if let Some(batch) = &lane.running {
-        words.push('*').expect(rt, "memory");
+        let mark = mark(rt, alloc, &batch.stage);
+        words.push_str(mark).expect(rt, "memory");
         push_batch(rt, &mut words, batch);
     }
     for batch in lane.waiting.as_slice() {
@@ -31,33 +48,6 @@ fn lane_words(rt: &impl Abort, alloc: Global, lane: &Lane) -> String {
 // The number of a word, and 0 for another word.
 fn whole(word: &str) -> u32 {
     word.parse::<u32>().unwrap_or(0)
-}
-
-// The lane with its running batch landing.
-fn landing(rt: &impl Abort, alloc: Global, lane: Lane) -> Lane {
-    let Lane { running, waiting } = lane;
-    let mut batch = running.expect(rt, "a running batch");
-    batch.stage = Stage::Landing {
-        commit: commit(rt, alloc, "d"),
-    };
-    Lane {
-        running: Some(batch),
-        waiting,
-    }
-}
-
-// The queue with its running batch on staging landing.
-fn with_landing(rt: &impl Abort, alloc: Global, queue: Queue) -> Queue {
-    let Queue {
-        staging,
-        trying,
-        next,
-    } = queue;
-    Queue {
-        staging: landing(rt, alloc, staging),
-        trying,
-        next,
-    }
 }
 
 // Batch numbers are far from used up.
@@ -115,8 +105,25 @@ fn restarted(rt: &impl Abort, queue: Queue) -> Queue {
     queue.restart(Branch::Staging).expect(rt, "memory")
 }
 
+fn staged(rt: &impl Abort, alloc: Global, queue: Queue) -> Queue {
+    queue.stage(alloc, Branch::Staging, 100, commit(rt, alloc, "d"))
+}
+
+// The queue with a report of its running batch: `ci success` or `ci pending`.
+fn reported(rt: &impl Abort, alloc: Global, queue: Queue, text: &str) -> Queue {
+    let (name, word) = cut(text);
+    let report = match word {
+        "success" => Report::Success,
+        _ => Report::Pending,
+    };
+    let name = context(rt, alloc, name);
+    queue
+        .report(Branch::Staging, name, report)
+        .expect(rt, "memory")
+}
+
 // The queue after what a line says of staging: `add CHANGE PRIORITY SIZE`, `out CHANGE`, `requeue CHANGE` (all but
-// this one), `start`, `restart`, `fail`, `drop` or `land`.
+// this one), `start`, `stage`, `report NAME STATE`, `restart`, `fail`, `drop` or `land`.
 fn stepped(rt: &impl Abort, alloc: Global, queue: Queue, line: &str) -> Queue {
     let (word, rest) = cut(line);
     match word {
@@ -126,8 +133,10 @@ fn stepped(rt: &impl Abort, alloc: Global, queue: Queue, line: &str) -> Queue {
         "fail" => failed(rt, alloc, queue),
         "restart" => restarted(rt, queue),
         "start" => queue.start(Branch::Staging, 100),
+        "stage" => staged(rt, alloc, queue),
+        "report" => reported(rt, alloc, queue, rest),
         "drop" => queue.drop_running(Branch::Staging),
-        _ => with_landing(rt, alloc, queue),
+        _ => queue.land(Branch::Staging),
     }
 }
 
@@ -172,6 +181,9 @@ fn lanes_of_batches(rt: HostRuntime) {
         // Batches of one change each, by their priorities.
         - =>
         start =>
+        stage =>
+        report ci success =>
+        land =>
         fail =>
         restart =>
         drop =>
@@ -192,7 +204,8 @@ fn lanes_of_batches(rt: HostRuntime) {
         add 6 0 3 => 1: 2; 2: 3 4; 3: 5 6;
         add 7 1 3 => 4: 7; 1: 2; 2: 3 4; 3: 5 6;
         out 7 => 1: 2; 2: 3 4; 3: 5 6;
-        // What a running batch is left with waits again; one that is landing stays as it is.
+        // What a running batch is left with waits again; one that is landing stays as it is. Only what is tested lands, and
+        // the last report of a name counts.
         - =>
         add 1 0 0 => 1: 1;
         add 2 0 0 => 1: 1 2;
@@ -204,9 +217,19 @@ fn lanes_of_batches(rt: HostRuntime) {
         out 1 => 3 again: 3;
         start => *3 again: 3;
         land => *3 again: 3;
-        out 3 => *3 again: 3;
-        restart => *3 again: 3;
-        start => *3 again: 3;
+        report ci success => *3 again: 3;
+        stage => +3 again: 3;
+        report lint success => +3 again: 3;
+        report ci pending => +3 again: 3;
+        report ci success => ++3 again: 3;
+        stage => +3 again: 3;
+        report ci success => ++3 again: 3;
+        report ci pending => +3 again: 3;
+        land => !3 again: 3;
+        out 3 => !3 again: 3;
+        restart => !3 again: 3;
+        start => !3 again: 3;
+        report ci success => !3 again: 3;
         drop =>
         add 5 0 0 => 4: 5;
         start => *4: 5;
@@ -219,7 +242,8 @@ fn lanes_of_batches(rt: HostRuntime) {
         start => *1: 1 2;
         requeue 3 => 2 again: 1 2;
         start => *2 again: 1 2;
-        land => *2 again: 1 2;
+        stage => +2 again: 1 2;
+        land => !2 again: 1 2;
         requeue 1 => 3 again: 2;
         start => *3 again: 2;
         requeue 2 =>

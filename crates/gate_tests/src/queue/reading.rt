@@ -1,8 +1,8 @@
 ghost use Rattle.gate_text.specs.Limits.{KeepsLimits};
 ghost use Rattle.gate_queue.specs.Acts.{ActKeepsLimits, IsMoment};
 
-use crate::readers::{commit, cut, label, name, number, role, rule_words};
-use gate_queue::{Act, Head, Order, Reply};
+use crate::readers::{commit, context, cut, label, name, number, role, rule_words};
+use gate_queue::{Act, Head, Order, Reply, StatusState, Why};
 use gate_text::{ChangeNo, Commit, Spoken, Text, read_comment};
 use std::alloc::Global;
 use std::process::Abort;
@@ -50,13 +50,10 @@ pub(crate) fn read_act(rt: &impl Abort, alloc: Global, line: &str) -> Act
         "base" => Act::Base {
             commit: commit(rt, alloc, rest),
         },
-        "staged" => Act::Staged {
-            batch: whole(rt, first),
-            commit: commit(rt, alloc, fields),
-        },
-        "conflict" => Act::Conflict {
-            batch: whole(rt, first),
-        },
+        "staged" | "conflict" | "refused" => {
+            read_news(rt, alloc, word, whole(rt, first), fields)
+        }
+        "status" => read_status(rt, alloc, first, fields),
         "tick" => Act::Tick {
             now: moment(rt, first),
         },
@@ -68,6 +65,20 @@ pub(crate) fn read_act(rt: &impl Abort, alloc: Global, line: &str) -> Act
             person: name(rt, alloc, first),
             spoken: spoken(rt, alloc, fields),
         },
+    }
+}
+
+// The act of a fact on a batch.
+fn read_news(rt: &impl Abort, alloc: Global, word: &str, batch: u64, fields: &str) -> Act
+    ensures { ActKeepsLimits result }
+{
+    match word {
+        "staged" => Act::Staged {
+            batch,
+            commit: commit(rt, alloc, fields),
+        },
+        "conflict" => Act::Conflict { batch },
+        _ => Act::Refused { batch },
     }
 }
 
@@ -111,6 +122,26 @@ fn read_review(rt: &impl Abort, alloc: Global, change: ChangeNo, person: &str, r
     }
 }
 
+fn state(word: &str) -> StatusState {
+    match word {
+        "success" => StatusState::Success,
+        "failure" => StatusState::Failure,
+        "error" => StatusState::Error,
+        _ => StatusState::Pending,
+    }
+}
+
+fn read_status(rt: &impl Abort, alloc: Global, digit: &str, rest: &str) -> Act
+    ensures { ActKeepsLimits result }
+{
+    let (name, state_word) = cut(rest);
+    Act::Status {
+        commit: commit(rt, alloc, digit),
+        name: context(rt, alloc, name),
+        state: state(state_word),
+    }
+}
+
 // A reply in words: `done` with the orders, or the rule with what it names.
 pub(crate) fn shown(rt: &impl Abort, alloc: Global, reply: &Reply) -> String {
     match reply {
@@ -127,11 +158,18 @@ fn shown_orders(rt: &impl Abort, alloc: Global, orders: &[Order]) -> String {
     words
 }
 
-// A notice as the change and the reason; an order to stage as the number, the first digit of the base, and the heads.
+// A notice as the change and the reason; an order to stage as the number, the first digit of the base, and the heads; an order
+// to land as the number, and the first digits of the base and of the commit.
 fn push_order(rt: &impl Abort, words: &mut String, order: &Order) {
     match order {
-        Order::Notice { change, why } => {
-            write!(words, " {} {why:?}", change.number()).expect(rt, "memory");
+        Order::Notice { change, why } => push_notice(rt, words, *change, why),
+        Order::Land {
+            batch,
+            base,
+            commit,
+        } => {
+            let (base, commit) = (digit(base), digit(commit));
+            write!(words, " land {batch} on {base}: {commit}").expect(rt, "memory");
         }
         Order::Stage {
             batch,
@@ -145,6 +183,15 @@ fn push_order(rt: &impl Abort, words: &mut String, order: &Order) {
             }
         }
     }
+}
+
+fn push_notice(rt: &impl Abort, words: &mut String, change: ChangeNo, why: &Why) {
+    let change = change.number();
+    match why {
+        Why::Failed(name) => write!(words, " {change} Failed {}", name.text()),
+        why => write!(words, " {change} {why:?}"),
+    }
+    .expect(rt, "memory");
 }
 
 fn push_head(rt: &impl Abort, words: &mut String, head: &Head) {

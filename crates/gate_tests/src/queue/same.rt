@@ -1,13 +1,13 @@
 ghost use Rattle.std.specs.Prelude.{◌≡◌, ◌↔◌, IsTrue, IfOk};
 
 use super::reading::read_act;
-use crate::readers::{check_pair, check_that, commit, cut, number};
-use gate_queue::{Act, Branch, Head, Heads, Order, Orders, Reply, Why};
+use crate::readers::{check_pair, check_that, commit, context, cut, number};
+use gate_queue::{Act, Branch, Head, Heads, Order, Orders, Reply, StatusState, Why};
 use gate_rules::Rule;
 use std::alloc::{AllocError, Global};
 use std::process::Abort;
 
-// `==` on reasons and heads is equality, and a clone is its source: the prover refuses any other.
+// `==` on reasons, states of a status and heads is equality, and a clone is its source: the prover refuses any other.
 fn is_same_why(one: &Why, other: &Why) -> bool
     ensures value { IsTrue result ↔ (one.now ≡ other.now) }
 {
@@ -20,17 +20,30 @@ fn is_same_head(one: &Head, other: &Head) -> bool
     one == other
 }
 
-fn clone_of_why(why: &Why) -> Result<Why, AllocError>
-    ensures value { IfOk result (λ clone. clone ≡ why.now) }
+fn is_same_state(one: &StatusState, other: &StatusState) -> bool
+    ensures value { IsTrue result ↔ (one.now ≡ other.now) }
 {
-    why.clone()
+    one == other
+}
+
+fn clone_of_state(state: &StatusState) -> Result<StatusState, AllocError>
+    ensures value { IfOk result (λ clone. clone ≡ state.now) }
+{
+    state.clone()
 }
 
 #[test]
-fn reasons_and_heads(rt: HostRuntime) {
-    let pushed = Why::Pushed;
-    let clone = clone_of_why(&pushed).expect(&rt, "memory");
-    check_that(&rt, "a clone", is_same_why(&pushed, &clone));
+fn reasons_states_and_heads(rt: HostRuntime) {
+    let failed = |name| Why::Failed(context(&rt, rt.alloc(), name));
+    check_that(&rt, "a reason", is_same_why(&failed("ci"), &failed("ci")));
+    check_that(
+        &rt,
+        "two reasons",
+        !is_same_why(&failed("ci"), &failed("lint")),
+    );
+    let error = StatusState::Error;
+    let clone = clone_of_state(&error).expect(&rt, "memory");
+    check_that(&rt, "a clone", is_same_state(&error, &clone));
     let head = |digit| Head {
         change: number(&rt, "1"),
         head: commit(&rt, rt.alloc(), digit),
@@ -92,6 +105,14 @@ const ACTS: &str = "\
     staged 1 b\n\
     conflict 1\n\
     conflict 2\n\
+    status a ci success\n\
+    status b ci success\n\
+    status a lint success\n\
+    status a ci failure\n\
+    status a ci error\n\
+    status a ci pending\n\
+    refused 1\n\
+    refused 2\n\
     tick 1\n\
     tick 2";
 
@@ -113,20 +134,14 @@ fn acts_that_are_equal(rt: HostRuntime) {
     }
 }
 
-// A notice for each of these changes.
-fn notices(rt: &impl Abort, alloc: Global, numbers: &str) -> Orders {
-    let mut orders = Vec::new(alloc);
-    for word in numbers.split_ascii_whitespace() {
-        let change = number(rt, word);
-        let why = match word {
-            "1" => Why::Closed,
-            _ => Why::Pushed,
-        };
-        orders
-            .push(Order::Notice { change, why })
-            .expect(rt, "memory");
+fn why(rt: &impl Abort, alloc: Global, text: &str) -> Why {
+    let (word, name) = cut(text);
+    match word {
+        "Closed" => Why::Closed,
+        "Failed" => Why::Failed(context(rt, alloc, name)),
+        "TimedOut" => Why::TimedOut,
+        _ => Why::Pushed,
     }
-    Orders::from(orders)
 }
 
 fn branch(word: &str) -> Branch {
@@ -147,7 +162,8 @@ fn heads(rt: &impl Abort, alloc: Global, digit: &str, numbers: &str) -> Heads {
     Heads::from(heads)
 }
 
-// The order of a text: the number of the batch, the branch, the digits of the base and of the heads, and their changes.
+// The order to stage of a text: the number of the batch, the branch, the digits of the base and of the heads, and their
+// changes.
 fn stage(rt: &impl Abort, alloc: Global, text: &str) -> Order {
     let (batch, rest) = cut(text);
     let (branch_word, rest) = cut(rest);
@@ -161,21 +177,48 @@ fn stage(rt: &impl Abort, alloc: Global, text: &str) -> Order {
     }
 }
 
-fn one_stage(rt: &impl Abort, alloc: Global, text: &str) -> Orders {
+// The order to land of a text: the number of the batch, and the digits of the base and of the commit.
+fn land(rt: &impl Abort, alloc: Global, text: &str) -> Order {
+    let (batch, rest) = cut(text);
+    let (base, digit) = cut(rest);
+    Order::Land {
+        batch: batch.parse::<u64>().expect(rt, "a number"),
+        base: commit(rt, alloc, base),
+        commit: commit(rt, alloc, digit),
+    }
+}
+
+// The order of a text: one to stage, one to land, or a notice as the change and the reason.
+fn order(rt: &impl Abort, alloc: Global, text: &str) -> Order {
+    let (word, rest) = cut(text);
+    match word {
+        "stage" => stage(rt, alloc, rest),
+        "land" => land(rt, alloc, rest),
+        word => Order::Notice {
+            change: number(rt, word),
+            why: why(rt, alloc, rest),
+        },
+    }
+}
+
+// The orders of a text, with a comma between each two.
+fn orders(rt: &impl Abort, alloc: Global, text: &str) -> Orders {
     let mut orders = Vec::new(alloc);
-    orders.push(stage(rt, alloc, text)).expect(rt, "memory");
+    for words in text.split(", ") {
+        orders.push(order(rt, alloc, words)).expect(rt, "memory");
+    }
     Orders::from(orders)
 }
 
-// The reply of a text: a denial, an order to stage, or a notice for each change that it lists.
+// The reply of a text: a denial, or orders.
 fn reply(rt: &impl Abort, alloc: Global, text: &str) -> Reply {
     match text {
+        "" => Reply::Done(Orders::from(Vec::new(alloc))),
         "unknown" => Reply::Denied(Rule::UnknownChange),
         "closed" => Reply::Denied(Rule::NotOpen),
         "few" => Reply::Denied(Rule::TooFewReviews(0, 1)),
         "fewer" => Reply::Denied(Rule::TooFewReviews(0, 2)),
-        staged if staged.starts_with("0") => Reply::Done(one_stage(rt, alloc, staged)),
-        numbers => Reply::Done(notices(rt, alloc, numbers)),
+        text => Reply::Done(orders(rt, alloc, text)),
     }
 }
 
@@ -185,11 +228,11 @@ fn is_reply(rt: &impl Abort, alloc: Global, found: &Reply, text: &str) -> bool {
 
 #[test]
 fn replies_that_are_equal(rt: HostRuntime) {
-    let notices = "|1|2|1 2|2 1|1 1|unknown|closed|few|fewer";
-    let stages =
-        "01 staging 0 a 1|02 staging 0 a 1|01 trying 0 a 1|01 staging 1 a 1|01 staging 0 b 1|01 staging 0 a 1,2|01 staging 0 a 2,1";
-    let replies = format!(in rt.alloc(); "{notices}|{stages}").expect(&rt, "memory");
-    let replies = replies.as_str();
+    let replies = "\
+        |1 Closed|2 Closed|1 Pushed|1 Closed, 2 Pushed|2 Pushed, 1 Closed|1 Closed, 1 Closed|1 TimedOut|1 Failed ci|2 Failed ci\
+        |1 Failed lint|unknown|closed|few|fewer|stage 1 staging 0 a 1|stage 2 staging 0 a 1|stage 1 trying 0 a 1\
+        |stage 1 staging 1 a 1|stage 1 staging 0 b 1|stage 1 staging 0 a 1,2|stage 1 staging 0 a 2,1|land 1 0 a|land 2 0 a\
+        |land 1 1 a|land 1 0 b|1 Closed, land 1 0 a";
     for one in replies.split('|') {
         let found = reply(&rt, rt.alloc(), one);
         for other in replies.split('|') {

@@ -82,6 +82,56 @@ fn what_ends_a_run(rt: HostRuntime) {
         closed 3 => done 3 Closed => queue next 5
         tick 101 => ClockBack => queue next 5
         tick 102 => done => queue next 5
+        // Statuses of the tested commit alone count, and only required ones. The last of each name has to be a success.
+        unlabeled 2 hold => done => queue next 5
+        1 alice bors r+ => done => queue 5: 1 next 6
+        2 alice bors r+ => done => queue 5: 1 2 next 6
+        tick 200 => done stage 5 on 1: 1e 2b => queue 5: 1 2 next 6
+        status d ci success => NoSuchBatch => queue 5: 1 2 next 6
+        staged 5 d => done => queue 5: 1 2 next 6
+        status c ci failure => NoSuchBatch => queue 5: 1 2 next 6
+        status d build failure => done => queue 5: 1 2 next 6
+        status d ci success => done => queue 5: 1 2 next 6
+        status d ci pending => done => queue 5: 1 2 next 6
+        status d lint success => done => queue 5: 1 2 next 6
+        refused 5 => NoSuchBatch => 1 carol e opened 0 - - - alice r+
+        status d ci success => done land 5 on 1: d => 1 carol e landing 0 - - - alice r+
+        status d ci success => NoSuchBatch => 2 carol b landing 0 - - - alice r+
+        // What is landing isn't moved, but may lose its approval, and then isn't queued again.
+        1 alice bors r- => Landing => queue 5: 1 2 next 6
+        1 alice bors p=5 => Landing => queue 5: 1 2 next 6
+        pushed 1 f => done 1 Pushed => 1 carol f landing 0 - - - - r+
+        1 alice bors r+ => Landing => queue 5: 1 2 next 6
+        refused 6 => NoSuchBatch => queue 5: 1 2 next 6
+        tick 9000 => done => queue 5: 1 2 next 6
+        refused 5 => done => queue 6: 2 next 7
+        1 alice bors r+ => done => queue 6: 2 7: 1 next 8
+        2 alice bors r- => done => 2 carol b opened 0 - - - - r+
+        // What failed last ends the batch, and so does the time that it takes.
+        tick 9001 => done stage 7 on 1: 1f => queue 7: 1 next 8
+        staged 7 d => done => queue 7: 1 next 8
+        status d ci success => done => queue 7: 1 next 8
+        status d ci error => done 1 Failed ci => 1 carol f opened 0 - - - - r+
+        1 alice bors r+ => done => queue 8: 1 next 9
+        tick 9002 => done stage 8 on 1: 1f => queue 8: 1 next 9
+        2 alice bors r+ => done => queue 8: 1 9: 2 next 10
+        tick 9500 => done => queue 8: 1 9: 2 next 10
+        staged 8 d => done => queue 8: 1 9: 2 next 10
+        tick 13099 => done => queue 8: 1 9: 2 next 10
+        tick 13100 => done 1 TimedOut stage 9 on 1: 2b => queue 9: 2 next 10
+        // It lands with the base that it was to land with, and another base sends it back.
+        staged 9 d => done => queue 9: 2 next 10
+        status d lint success => done => queue 9: 2 next 10
+        status d ci success => done land 9 on 1: d => 2 carol b landing 0 - - - alice r+
+        base c => done => queue 10: 2 next 11
+        tick 13100 => done stage 10 on c: 2b => 2 carol b opened 0 - - - alice r+
+        staged 10 d => done => queue 10: 2 next 11
+        status d lint success => done => queue 10: 2 next 11
+        status d ci success => done land 10 on c: d => queue 10: 2 next 11
+        closed 2 => done 2 Closed => 2 carol b closed-landing 0 - - - - r+
+        base d => done => 2 carol b landed 0 - - - - r+
+        opened 2 carol b => ChangeLanded => queue next 11
+        closed 2 => NotOpen => 2 carol b landed 0 - - - - r+
     ";
     check_story(&rt, rt.alloc(), started(&rt, rt.alloc()), story);
 }

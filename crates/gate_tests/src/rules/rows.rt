@@ -3,12 +3,16 @@ use super::words::check_table;
 use crate::readers::commit;
 use gate_text::read_settings;
 
-// Change 1 is open, 2 open and approved, 3 closed, 4 landed.
+// Change 1 is open, 2 open and approved, 3 closed, 4 landed; 5 is landing, 6 the same without its approval, 7 the same and
+// closed.
 const PLAIN: &[&str] = &[
     "1 carol a opened 0 - - - - -",
     "2 carol a opened 0 - - - alice r+",
     "3 carol a closed 0 - - - - -",
     "4 carol a landed 0 - - - - -",
+    "5 carol a landing 0 - - - alice r+",
+    "6 carol a landing 0 - - - - r+",
+    "7 carol a closed-landing 0 - - - - r+",
 ];
 
 #[test]
@@ -30,6 +34,23 @@ fn rows_without_settings(rt: HostRuntime) {
         alice 2 bors r=zoe => 7 NoSettings
         alice 1 bors r- => 9 NotApproved
         alice 2 bors r- => done
+        // What is landing keeps its approval or stays without one, and keeps its priority.
+        mia 5 bors r+ => 3 NotPermitted ReviewerOrDelegate
+        mia 5 bors p=5 => 3 NotPermitted ReviewerOrDelegate
+        alice 5 bors r+ => 6 Landing
+        alice 5 bors r=zoe => 6 Landing
+        alice 5 bors r- => 6 Landing
+        alice 5 bors p=5 => 6 Landing
+        alice 6 bors r+ => 6 Landing
+        alice 6 bors r- => 6 Landing
+        alice 7 bors r+ => 4 NotOpen
+        alice 7 bors r- => 4 NotOpen
+        alice 7 bors p=5 => 4 NotOpen
+        alice 5 bors d+ => done
+        alice 5 bors d=zoe => done
+        alice 5 bors d- => done
+        eve 5 bors ping => done
+        alice 5 bors dance => 2 NotACommand
         // Commands that are still to come.
         alice 1 bors try => 2 NotACommand
         alice 3 bors try- => 2 NotACommand

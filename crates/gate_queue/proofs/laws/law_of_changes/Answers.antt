@@ -1,4 +1,4 @@
-use Rattle.gate_queue.proofs.Counts.{enqueue_law, take_out_law, restart_law, start_law, stage_law, requeue_law, fail_law, drop_law}
+use Rattle.gate_queue.proofs.Counts.{enqueue_law, take_out_law, restart_law, start_law, stage_law, report_law, land_law, requeue_law, fail_law, drop_law}
 use Rattle.gate_queue.proofs.laws.law_of_changes.Goals as goal
 
 pub returns-clause-enqueue : goal.returns-clause-enqueue
@@ -15,6 +15,12 @@ returns-clause-start c = start_law
 
 pub returns-clause-stage : goal.returns-clause-stage
 returns-clause-stage c = stage_law
+
+pub returns-clause-report : goal.returns-clause-report
+returns-clause-report c = report_law
+
+pub returns-clause-land : goal.returns-clause-land
+returns-clause-land c = land_law
 
 pub returns-clause-requeue : goal.returns-clause-requeue
 returns-clause-requeue c = requeue_law

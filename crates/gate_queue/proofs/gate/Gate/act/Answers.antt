@@ -1,18 +1,19 @@
 use Rattle.std.proofs.Common.{◌≡◌, ◌≤◌, sym, subst, rules}
-use Rattle.gate_queue.specs.Machine.{State, Step, after}
+use Rattle.gate_queue.specs.Machine.{Step, after}
 use Rattle.gate_queue.specs.State.{IsState}
+use Rattle.gate_queue.specs.declared.state.State.{State}
 use Rattle.gate_queue.proofs.Law.{tells}
 use Rattle.gate_queue.proofs.States.{still_state}
 use Rattle.gate_queue.proofs.gate.Gate.act.Goals as goal
 
 kept : (c : goal.In-Ok) → IsState (after c.args.self c.args.act.now)
 kept c =
-    let old : State = record { desk = c.self.inside.desk; queue = c.self.inside.queue } in
+    let old : State = c.self.inside.state in
     let same : c.args.self ≡ old = search rules in
     let room : old.queue.next ≤ 8_999_999_999_999_996 = search rules in
     subst (λ (s : State). IsState (after s c.args.act.now)) (sym same) (still_state old c.self.invariant room c.args.act.now c.requires)
 
-stepped : (c : goal.In-Ok) → Step c.args.self c.args.act.now c.in-Ok.reply (record { desk = c.in-Ok.desk; queue = c.in-Ok.queue })
+stepped : (c : goal.In-Ok) → Step c.args.self c.args.act.now c.in-Ok.reply c.in-Ok.state
 stepped c = search rules
 
 pub returns-in-Ok-clause-history : goal.returns-in-Ok-clause-history

@@ -1,0 +1,192 @@
+ghost use Rattle.std.specs.Prelude.{◌≡◌, ◌≤◌, [], true, false, is_none, IfOk, IfSome, IsOk};
+ghost use Rattle.std.specs.List.{list_all};
+ghost use Rattle.gate_queue.specs.Machine as machine;
+ghost use Rattle.gate_queue.specs.Queue as queue_specs;
+ghost use Rattle.gate_queue.specs.declared.batch.Branch.TheVariants.{Staging};
+
+use crate::act::StatusState;
+use crate::batch::{Batch, Branch, Report, Reports, Stage};
+use crate::changing;
+use crate::changing::{no_orders, one_notice};
+use crate::choice::Approved;
+use crate::reply::{Order, Orders, Why};
+use crate::state::{Outcome, State, quiet};
+use crate::waiting::has_several;
+use gate_rules::Desk;
+use gate_text::{ChangeNo, Commit, Context};
+use std::alloc::{AllocError, Global};
+
+// The change of a batch that has no other.
+fn lone(running: &Option<Batch>) -> Option<ChangeNo>
+    ensures { result ≡ machine.lone running.now }
+{
+    match running {
+        Some(batch) if !has_several(batch) => batch.changes.as_slice().first().copied(),
+        _ => None,
+    }
+}
+
+/// Ends the running batch: one of several changes is split; another is dropped, which ends the approval of its change, and
+/// this is why. `AllocError` if there is no memory for it.
+pub fn give_up(state: State, alloc: Global, why: Why) -> Result<Outcome, AllocError>
+    requires { state.queue.next ≤ 8_999_999_999_999_996 }
+    ensures value { IfOk result (λ outcome. outcome ≡ machine.failing why state) }
+{
+    let State { mut desk, queue } = state;
+    let orders = match lone(&queue.staging.running) {
+        Some(change) => {
+            changing::withdraw(&mut desk, change);
+            one_notice(alloc, change, why)?
+        }
+        None => no_orders(alloc),
+    };
+    let queue = queue.fail(alloc, Branch::Staging)?;
+    Ok(Outcome {
+        state: State { desk, queue },
+        orders,
+    })
+}
+
+/// Takes what a status of the tested commit says. One that isn't required does nothing. One that has failed ends the running
+/// batch. Another is kept, and if all required ones have succeeded then, the batch is to land. `AllocError` if there is no
+/// memory for it.
+pub fn take_status(
+    state: State,
+    alloc: Global,
+    name: &Context,
+    said: StatusState,
+) -> Result<Outcome, AllocError>
+    requires { state.queue.next ≤ 8_999_999_999_999_996 }
+    ensures value { IfOk result (λ outcome. outcome ≡ machine.told name.now said state) }
+    ensures no_memory { machine.is_required state.desk.settings name.now ≡ false → IsOk result }
+{
+    if !is_required(&state.desk, name) {
+        return Ok(quiet(state, alloc));
+    }
+    match said {
+        StatusState::Success => keep_report(state, alloc, name, Report::Success),
+        StatusState::Pending => keep_report(state, alloc, name, Report::Pending),
+        StatusState::Failure | StatusState::Error => {
+            give_up(state, alloc, Why::Failed(name.copy(alloc)?))
+        }
+    }
+}
+
+fn is_required(desk: &Desk, name: &Context) -> bool
+    ensures { result ≡ machine.is_required desk.now.settings name.now }
+{
+    match desk.settings() {
+        Some(settings) => settings.status().contains(name),
+        None => false,
+    }
+}
+
+// Keeps a report of the running batch, and has it land if all required statuses have succeeded.
+fn keep_report(
+    state: State,
+    alloc: Global,
+    name: &Context,
+    report: Report,
+) -> Result<Outcome, AllocError>
+    ensures { IfOk result (λ outcome. outcome ≡ machine.goes_on name.now report state) }
+{
+    let State { desk, queue } = state;
+    let queue = queue.report(Branch::Staging, name.copy(alloc)?, report)?;
+    land_if_passed(State { desk, queue }, alloc)
+}
+
+// Whether all required statuses have succeeded.
+fn has_passed(desk: &Desk, stage: &Stage) -> bool
+    ensures { result ≡ machine.has_passed desk.now.settings stage.now }
+{
+    let Stage::Staged { reports, .. } = stage else {
+        return false;
+    };
+    match desk.settings() {
+        Some(settings) => have_succeeded(reports, settings.status()),
+        None => false,
+    }
+}
+
+// Whether the last report of each of these names is a success.
+fn have_succeeded(reports: &Reports, names: &[Context]) -> bool
+    ensures { result ≡ list_all (machine.has_succeeded reports.now) names.now }
+{
+    for name in names {
+        if !reports.has_succeeded(name) {
+            return false;
+        }
+    }
+    true
+}
+
+fn land_if_passed(state: State, alloc: Global) -> Result<Outcome, AllocError>
+    ensures { IfOk result (λ outcome. outcome ≡ machine.if_passed state state.queue.staging.running) }
+{
+    match &state.queue.staging.running {
+        Some(batch) if has_passed(&state.desk, &batch.stage) => {
+            let orders = land_orders(&state.desk, alloc, batch)?;
+            Ok(Outcome {
+                state: to_land(state),
+                orders,
+            })
+        }
+        _ => Ok(quiet(state, alloc)),
+    }
+}
+
+// The order to land a batch that is tested.
+fn land_orders(desk: &Desk, alloc: Global, batch: &Batch) -> Result<Orders, AllocError>
+    ensures { IfOk result (λ orders. orders ≡ machine.land_order desk.now batch.now.number batch.now.stage) }
+{
+    let Stage::Staged { commit, .. } = &batch.stage else {
+        return Ok(no_orders(alloc));
+    };
+    let Some(base) = desk.base() else {
+        return Ok(no_orders(alloc));
+    };
+    let order = Order::Land {
+        batch: batch.number,
+        base,
+        commit: *commit,
+    };
+    Ok(Orders::from(vec![in alloc; order]?))
+}
+
+// Has the running batch land.
+fn to_land(state: State) -> State
+    ensures { IfSome state.queue.staging.running (λ batch. result ≡ (machine.to_land batch state).state) }
+{
+    let State { mut desk, queue } = state;
+    if let Some(batch) = &queue.staging.running {
+        changing::mark_landing(&mut desk, batch.changes.as_slice());
+    }
+    let queue = queue.land(Branch::Staging);
+    State { desk, queue }
+}
+
+/// Lets the running batch wait again with those of its changes that are approved. If it is landing, its changes no longer are:
+/// they have landed if this is the new base and the commit that was to land. `AllocError` if there is no memory for it; if no
+/// batch runs, it takes none.
+pub fn send_back(state: State, alloc: Global, base: Option<Commit>) -> Result<State, AllocError>
+    requires { state.queue.next ≤ 8_999_999_999_999_996 }
+    ensures value { IfOk result (λ after. after ≡ machine.sent_back base state) }
+    ensures no_memory { is_none state.queue.staging.running ≡ true → IsOk result }
+{
+    let State { mut desk, queue } = state;
+    release(&mut desk, &queue.staging.running, base);
+    let queue = queue.requeue(Branch::Staging, &Approved { desk: &desk })?;
+    Ok(State { desk, queue })
+}
+
+// Ends that the changes of a batch are landing, if it was.
+fn release(desk: &mut Desk, running: &Option<Batch>, base: Option<Commit>)
+    ensures { desk.new ≡ machine.released_on base desk.old running.now }
+{
+    let Some(batch) = running else {
+        return;
+    };
+    if let Stage::Landing { commit } = &batch.stage {
+        changing::release(desk, batch.changes.as_slice(), *commit, base);
+    }
+}
