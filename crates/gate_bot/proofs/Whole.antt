@@ -2,7 +2,7 @@
 use Rattle.std.proofs.Common.{◌≡◌, false, List, [], ◌∷◌, map, refl}
 use Rattle.serde_json.specs.View.{items_of}
 use Rattle.serde_json.specs.Written.{has_float, items_have_float}
-use Rattle.gate_rules.specs.declared.rule.Rule.TheVariants.{UnknownChange, NotACommand, NotPermitted, NotOpen, Landing, NoSettings, NoBase, AlreadyApproved, NotApproved, Blocked, TooFewReviews, AlreadyOpen, ChangeLanded, StaleHead, NotMember, OwnChange, BadSettings, ClockBack, NoSuchBatch, SameAsBase}
+use Rattle.gate_rules.specs.declared.rule.Rule.TheVariants.{UnknownChange, NotACommand, NotPermitted, NotOpen, NothingToRetry, Landing, NoSettings, NoBase, AlreadyApproved, NotApproved, AlreadyTrying, NotTrying, Blocked, TooFewReviews, AlreadyOpen, ChangeLanded, StaleHead, NotMember, OwnChange, BadSettings, ClockBack, NoSuchBatch, SameAsBase}
 use Rattle.gate_bot.specs.Answers.{head_data, order_data, reply_data, answer_data}
 use Rattle.gate_bot.specs.Errors.{error_data}
 use Rattle.gate_bot.specs.declared.reading.DeliveryFault.{DeliveryFault}
@@ -37,11 +37,14 @@ reply_whole (Denied UnknownChange) = refl
 reply_whole (Denied NotACommand) = refl
 reply_whole (Denied (NotPermitted level)) = refl
 reply_whole (Denied NotOpen) = refl
+reply_whole (Denied NothingToRetry) = refl
 reply_whole (Denied Landing) = refl
 reply_whole (Denied NoSettings) = refl
 reply_whole (Denied NoBase) = refl
 reply_whole (Denied AlreadyApproved) = refl
 reply_whole (Denied NotApproved) = refl
+reply_whole (Denied AlreadyTrying) = refl
+reply_whole (Denied NotTrying) = refl
 reply_whole (Denied (Blocked label)) = refl
 reply_whole (Denied (TooFewReviews have need)) = refl
 reply_whole (Denied AlreadyOpen) = refl

@@ -5,7 +5,7 @@ use Rattle.serde_json.specs.View.{items_of}
 use Rattle.serde_json.specs.Written.{compact_text}
 use Rattle.gate_rules.specs.Words.{number_of, word_of, level_word_of}
 use Rattle.gate_rules.specs.declared.rule.Rule.{Rule}
-use Rattle.gate_rules.specs.declared.rule.Rule.TheVariants.{UnknownChange, NotACommand, NotPermitted, NotOpen, Landing, NoSettings, NoBase, AlreadyApproved, NotApproved, Blocked, TooFewReviews, AlreadyOpen, ChangeLanded, StaleHead, NotMember, OwnChange, BadSettings, ClockBack, NoSuchBatch, SameAsBase}
+use Rattle.gate_rules.specs.declared.rule.Rule.TheVariants.{UnknownChange, NotACommand, NotPermitted, NotOpen, NothingToRetry, Landing, NoSettings, NoBase, AlreadyApproved, NotApproved, AlreadyTrying, NotTrying, Blocked, TooFewReviews, AlreadyOpen, ChangeLanded, StaleHead, NotMember, OwnChange, BadSettings, ClockBack, NoSuchBatch, SameAsBase}
 use Rattle.gate_queue.specs.declared.batch.Branch.{Branch}
 use Rattle.gate_queue.specs.declared.batch.Branch.TheVariants.{Staging, Trying}
 use Rattle.gate_queue.specs.declared.reply.Head.{Head}
@@ -28,11 +28,14 @@ detail_of UnknownChange = None
 detail_of NotACommand = None
 detail_of (NotPermitted level) = Some (string (level_word_of level))
 detail_of NotOpen = None
+detail_of NothingToRetry = None
 detail_of Landing = None
 detail_of NoSettings = None
 detail_of NoBase = None
 detail_of AlreadyApproved = None
 detail_of NotApproved = None
+detail_of AlreadyTrying = None
+detail_of NotTrying = None
 detail_of (Blocked label) = Some (string label)
 detail_of (TooFewReviews have need) = Some (array (items_of (number (unsigned have) ∷ number (unsigned need) ∷ [])))
 detail_of AlreadyOpen = None

@@ -41,7 +41,7 @@ use Rattle.gate_queue.specs.declared.reply.Order.TheVariants.{Stage, Land, Notic
 use Rattle.gate_queue.specs.declared.reply.Why.{Why}
 use Rattle.gate_queue.specs.declared.reply.Why.TheVariants as why
 use Rattle.gate_queue.specs.declared.state.State.{State}
-use Rattle.gate_queue.proofs.After.{Rest, rest_back, change_after, change_of_after, altered_as, untouched, unaltered, unless_unfit, by_number, elsewhere, order_elsewhere, order_ended, quiet_line, stays}
+use Rattle.gate_queue.proofs.After.{rest_back, change_after, change_of_after, altered_as, untouched, unaltered, unless_unfit, by_number, elsewhere, order_elsewhere, order_ended, quiet_line, stays}
 use Rattle.gate_queue.proofs.Changes.{altered_look, all_look, opened_at}
 use Rattle.gate_queue.proofs.Facts.{closed_next, labeled_next, reviewed_next, unlabeled_next, pushed_next, opened_next, settled_next, unsettled_next, taken_settings}
 use Rattle.gate_queue.proofs.Keeping.{lands}
@@ -226,9 +226,6 @@ land_look s events batch base commit same none members =
     all_look (with_landing true) (λ change. refl) batch.changes s.desk
     ∙ ap (λ (l : Look). record l { change = λ c. cond (list_any (eqb c) batch.changes) (option_map (with_landing true) (l.change c)) (l.change c) }) same
     ∙ (λ i. record (look_back events) { change = λ c. (marked c (list_any (eqb c) batch.changes) ∙ (λ j. change_after events c ((sym (land_rest events batch base commit c none members)) j) None)) i }) where
-      rest : ℕ → Bool → Rest
-      rest c landing = record { settings = settings_back events; landed = landed_back events c; landing = landing }
-
       marked : (c : ℕ) (b : Bool) → cond b (option_map (with_landing true) (change_back events c)) (change_back events c) ≡ change_after events c (record (rest_back events c) { landing = b }) None
       marked c true = altered_as (with_landing true) (change_of events c) (change_of_after events c (record (rest_back events c) { landing = true }) None) (author_back events c)
           (λ author is. λ i. record (change_of events c author) { landing = true; approved = (sym (untouched events c)) i })

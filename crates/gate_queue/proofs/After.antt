@@ -103,6 +103,7 @@ module _ (events : List Event) (c : ℕ) (rest : Rest) (done : Option Act) (endi
     reviews = reviews_after events c rest done;
     delegates = delegates_after events c rest done;
     approved = approvers_by;
+    trying = false;
     landing = rest.landing;
     last = repeat_after events c rest done;
   }

@@ -7,7 +7,7 @@ use Rattle.std.proofs.lemmas.Option.{slice_get_within, get_or_from_slice_get, sa
 use Rattle.std.specs.List.{sum_by, filter, list_all}
 use Rattle.std.specs.Bool.{then_some}
 use Rattle.std.specs.Option.{option_map, option_map_or, option_or}
-use Rattle.gate_queue.specs.Counts.{occurs, held_by, inside, held, in_running, in_landing, in_lone, LawOfEnqueue, LawOfTakeOut, LawOfRestart, LawOfStart, LawOfStage, LawOfReport, LawOfLand, LawOfRequeue, LawOfFail, LawOfDrop}
+use Rattle.gate_queue.specs.Counts.{occurs, held_by, inside, held, in_running, in_landing, in_lone, LawOfEnqueue, LawOfTry, LawOfTakeOut, LawOfRestart, LawOfStart, LawOfStage, LawOfReport, LawOfLand, LawOfRequeue, LawOfFail, LawOfDrop}
 use Rattle.gate_queue.specs.Lanes as lanes
 use Rattle.gate_queue.specs.Lanes.{placed, retried, with_change, has_changes, back, only, left, half, first_half, second_half, split_into}
 use Rattle.gate_queue.specs.declared.batch.Batch.{Batch}
@@ -219,8 +219,14 @@ enqueue_law test size number priority change other lane =
           room true = rw is (omega (arith, in_set test other lane.waiting at old (with_change change old) is, joined))
           room false = alone_in
 
+pub try_law : LawOfTry
+try_law test number change other lane =
+    let batch = lanes.try_of number change in
+    let one = of_joined test other change (record batch { changes = [] }) in
+    grind (arith, nat_tests, one, in_placed test other batch lane.waiting, held_is test other lane, held_is test other (lanes.tried number change lane))
+
 -- a batch that loses nothing has its changes
-all_stay : (stays : ℕ → Bool) (changes : List ℕ) → list_all stays changes ≡ true → filter stays changes ≡ changes
+pub all_stay : (stays : ℕ → Bool) (changes : List ℕ) → list_all stays changes ≡ true → filter stays changes ≡ changes
 all_stay stays [] all = refl
 all_stay stays (first ∷ changes) all =
     let rest = all_stay stays changes (grind (arith, all)) in

@@ -86,6 +86,7 @@ module _ (events : List Event) (c n : ℕ) where
           reviews = set.empty;
           delegates = (sym blank.delegates) i;
           approved = (sym (ended events c (Opened n author head) refl refl)) i;
+          trying = false;
           landing = (sym (blank_landing events c blank)) i;
           last = (sym blank.last) i;
         }

@@ -12,27 +12,29 @@ use Rattle.std.specs.Ordering.{int_eq}
 use Rattle.std.specs.Str.{bytes_eq}
 use Rattle.gate_text.specs.Settings.{SettingsView}
 use Rattle.gate_text.specs.declared.command.Command.{Command}
-use Rattle.gate_text.specs.declared.command.Command.TheVariants.{Approve, ApproveFor}
+use Rattle.gate_text.specs.declared.command.Command.TheVariants.{Ping, Approve, ApproveFor, Withdraw, Priority, DelegateAuthor, DelegateTo, DelegateNone}
 use Rattle.gate_text.specs.declared.command.Spoken.TheVariants.{Known}
-use Rattle.gate_rules.specs.Rules.{Look, first_failing, unless_landing, approval_rules, is_known, is_open, is_landing as is_landing_on, is_open_phase, is_approved, has_settings, has_base, permits, need}
+use Rattle.gate_rules.specs.Rules.{Look, first_failing, begins_with_rules, approval_rules, is_known, is_open, is_landing as is_landing_on, is_open_phase, is_approved, has_settings, has_base, permits, need}
 use Rattle.gate_rules.specs.View.{DeskView, without_approval, look}
 use Rattle.gate_rules.specs.declared.change.Change.{Change}
 use Rattle.gate_rules.specs.declared.change.Repeat.TheVariants as repeat
 use Rattle.gate_rules.specs.declared.rule.Rule.TheVariants.{UnknownChange, NotPermitted, NotOpen, Landing, NoSettings, NoBase, AlreadyApproved, AlreadyOpen}
 use Rattle.gate_queue.specs.Counts.{occurs, inside, in_landing, held, held_by, of_any_priority}
-use Rattle.gate_queue.specs.Following.{with, without, has_head, ActByAct, LawOfTheQueue}
+use Rattle.gate_queue.specs.Following.{with, without, has_head, Leaves, ActByAct, LawOfTheQueue}
 use Rattle.gate_queue.specs.Lanes.{has_changes, is_landing, loses, back, back_uses, only, left, taken_out, taken_out_uses}
-use Rattle.gate_queue.specs.Machine.{broken, denial, missing, effect, altered, approved_by, with_priority, opened, pushed, moved_to, closed, unless_against, labeled, with_label, without_label, reviewed, with_review, approved_on, priority_on, size_on, all_but, followed, followed_on, ends_approval, landing_on, with_delegates, with_author_as_delegate, without_delegates}
+use Rattle.gate_queue.specs.Machine.{broken, denial, meaning, done, unless_denied, missing, effect, altered, approved_by, with_priority, opened, pushed, moved_to, closed, unless_against, labeled, with_label, without_label, reviewed, with_review, approved_on, priority_on, size_on, all_but, followed, followed_on, ends_approval, landing_on, with_delegates, with_author_as_delegate, without_delegates}
 use Rattle.gate_queue.specs.Queue as specs
 use Rattle.gate_queue.specs.State.{IsChange, IsWaiting, IsState}
 use Rattle.gate_queue.specs.declared.act.Act.{Act}
-use Rattle.gate_queue.specs.declared.act.Act.TheVariants.{Spoken, Opened}
+use Rattle.gate_queue.specs.declared.act.Act.TheVariants.{Spoken, Opened, Pushed, Closed, Labeled, Unlabeled, Review}
 use Rattle.gate_queue.specs.declared.batch.Batch.{Batch}
+use Rattle.gate_queue.specs.declared.batch.Branch.TheVariants.{Staging}
 use Rattle.gate_queue.specs.declared.lane.Lane.{Lane}
 use Rattle.gate_queue.specs.declared.queue.Queue.{Queue}
 use Rattle.gate_queue.specs.declared.state.State.{State}
 use Rattle.gate_queue.proofs.Changes.{altered_look, opened_at}
 use Rattle.gate_queue.proofs.Fitness.{passed}
+use Rattle.gate_queue.proofs.Meaning.{retry_means}
 use Rattle.gate_queue.proofs.Wording.{none_both}
 
 -- TO TAKE OUT A CHANGE THAT IS IN NO BATCH changes nothing.
@@ -84,7 +86,7 @@ none_taken_lane change number (Some batch) waiting all same = by (is_landing bat
       let rest = none_left change waiting all (omega (arith, one, none)) in
       (rw stays (λ i. record { running = Some batch; waiting = rest i }), rw stays refl)
 
-none_taken : (change : ℕ) (queue : Queue) → All IsWaiting queue.staging.waiting → held of_any_priority change queue.staging ≡ in_landing of_any_priority change queue.staging → specs.taken_out (all_but change) queue ≡ queue
+none_taken : (change : ℕ) (queue : Queue) → All IsWaiting queue.staging.waiting → held of_any_priority change queue.staging ≡ in_landing of_any_priority change queue.staging → specs.taken_out Staging (all_but change) queue ≡ queue
 none_taken change queue all none =
     let same = none_taken_lane change queue.next queue.staging.running queue.staging.waiting all none in
     let used : queue.next + taken_out_uses (all_but change) queue.staging ≡ queue.next = omega (arith, same.1) in
@@ -93,7 +95,7 @@ none_taken change queue all none =
 -- BY THE MARKS of the change before and after
 module _ (s : State) (change : ℕ) (is : IsState s) where
   -- a change that isn't approved is taken out of nothing: if it is in a batch, that is landing
-  unapproved : approved_on s.desk change ≡ false → specs.taken_out (all_but change) s.queue ≡ s.queue
+  unapproved : approved_on s.desk change ≡ false → specs.taken_out Staging (all_but change) s.queue ≡ s.queue
   unapproved wasnt = none_taken change s.queue is.queue.waiting
       (omega (arith, is.queue.places change ∙ ap {B = ℕ} (λ (b : Bool). if b || landing_on s.desk change then 1 else 0) wasnt, is.queue.landing change))
 
@@ -124,19 +126,19 @@ module _ (s : State) (change : ℕ) (is : IsState s) where
 
     -- an act that keeps the priority: what it ends is taken out, what it approves is queued, and all else stays
     kept_followed : ((c : Change) → (alter c).priority ≡ c.priority) → ((c : Change) → is_some (alter c).approved ≡ true → is_some c.approved ≡ true)
-        → followed_on s.desk new change s.queue ≡ (if option_map_or (ends_approval alter) (finite.get s.desk.changes change) false then specs.taken_out (all_but change) s.queue else s.queue)
+        → followed_on s.desk new change s.queue ≡ (if option_map_or (ends_approval alter) (finite.get s.desk.changes change) false then specs.taken_out Staging (all_but change) s.queue else s.queue)
     kept_followed same fewer = followed_to (finite.get s.desk.changes change) refl ∙ by (finite.get s.desk.changes change) where
       by : (had : Option Change)
           → followed (option_map_or (λ (c : Change). is_some c.approved) had false) (option_map_or (λ (c : Change). is_some c.approved) (option_map alter had) false)
           (not (int_eq (option_map_or (λ (c : Change). c.priority) had (pos 0)) (option_map_or (λ (c : Change). c.priority) (option_map alter had) (pos 0))))
           (size_on s.desk) (option_map_or (λ (c : Change). c.priority) (option_map alter had) (pos 0)) change s.queue
-          ≡ (if option_map_or (ends_approval alter) had false then specs.taken_out (all_but change) s.queue else s.queue)
+          ≡ (if option_map_or (ends_approval alter) had false then specs.taken_out Staging (all_but change) s.queue else s.queue)
       by None = refl
       by (Some c) =
           let still : int_eq c.priority (alter c).priority ≡ true = (signed_Decides c.priority (alter c).priority).1 (sym (same c)) in
           marks (is_some c.approved) (is_some (alter c).approved) (int_eq c.priority (alter c).priority) (fewer c) still where
             marks : (was now equal : Bool) → (now ≡ true → was ≡ true) → equal ≡ true
-                → followed was now (not equal) (size_on s.desk) (alter c).priority change s.queue ≡ (if was && not now then specs.taken_out (all_but change) s.queue else s.queue)
+                → followed was now (not equal) (size_on s.desk) (alter c).priority change s.queue ≡ (if was && not now then specs.taken_out Staging (all_but change) s.queue else s.queue)
             marks false false equal fewer still = refl
             marks false true equal fewer still = cc (fewer refl)
             marks true false equal fewer still = refl
@@ -145,15 +147,15 @@ module _ (s : State) (change : ℕ) (is : IsState s) where
 
     -- one that ends every approval takes the change out
     ended_followed : ((c : Change) → (alter c).priority ≡ c.priority) → ((c : Change) → (alter c).approved ≡ None)
-        → followed_on s.desk new change s.queue ≡ specs.taken_out (all_but change) s.queue
+        → followed_on s.desk new change s.queue ≡ specs.taken_out Staging (all_but change) s.queue
     ended_followed same none = kept_followed same (λ c some. cc (ap is_some (sym (none c)) ∙ some)) ∙ by (finite.get s.desk.changes change) unapproved where
-      by : (had : Option Change) → (option_map_or (λ (c : Change). is_some c.approved) had false ≡ false → specs.taken_out (all_but change) s.queue ≡ s.queue)
-          → (if option_map_or (ends_approval alter) had false then specs.taken_out (all_but change) s.queue else s.queue) ≡ specs.taken_out (all_but change) s.queue
+      by : (had : Option Change) → (option_map_or (λ (c : Change). is_some c.approved) had false ≡ false → specs.taken_out Staging (all_but change) s.queue ≡ s.queue)
+          → (if option_map_or (ends_approval alter) had false then specs.taken_out Staging (all_but change) s.queue else s.queue) ≡ specs.taken_out Staging (all_but change) s.queue
       by None gone = sym (gone refl)
       by (Some c) gone = ends (is_some c.approved) gone where
-        ends : (was : Bool) → (was ≡ false → specs.taken_out (all_but change) s.queue ≡ s.queue)
-            → (if was && not (is_some (alter c).approved) then specs.taken_out (all_but change) s.queue else s.queue) ≡ specs.taken_out (all_but change) s.queue
-        ends true gone = ap (λ (o : Option (List (List ℕ))). if not (is_some o) then specs.taken_out (all_but change) s.queue else s.queue) (none c)
+        ends : (was : Bool) → (was ≡ false → specs.taken_out Staging (all_but change) s.queue ≡ s.queue)
+            → (if was && not (is_some (alter c).approved) then specs.taken_out Staging (all_but change) s.queue else s.queue) ≡ specs.taken_out Staging (all_but change) s.queue
+        ends true gone = ap (λ (o : Option (List (List ℕ))). if not (is_some o) then specs.taken_out Staging (all_but change) s.queue else s.queue) (none c)
         ends false gone = sym (gone refl)
 
     -- one that approves what wasn't approved queues it
@@ -174,7 +176,7 @@ module _ (s : State) (change : ℕ) (is : IsState s) where
   holds_by : (act : Act) → denial s act ≡ None → broken (look s.desk) act ≡ None
   holds_by act holds = (none_both (missing s.queue act) (broken (look s.desk) act) holds).1
 
-  new_by : (person : List ℕ) (command : Command) → first_failing (unless_landing (look s.desk) person change command (approval_rules (look s.desk) change)) ≡ None
+  new_by : (person : List ℕ) (command : Command) → first_failing (begins_with_rules (look s.desk) person change command (approval_rules (look s.desk) change)) ≡ None
       → (is_known (look s.desk) change ≡ true) × (approved_on s.desk change ≡ false)
   new_by person command holds =
       let l = look s.desk in
@@ -188,7 +190,7 @@ module _ (s : State) (change : ℕ) (is : IsState s) where
       (known.0, not-true (is_approved l change) fresh.0)
 
   approves_by : (command : Command) (person : List ℕ) (alter : Change → Change) → ((c : Change) → (alter c).priority ≡ c.priority) → ((c : Change) → is_some (alter c).approved ≡ true)
-      → first_failing (unless_landing (look s.desk) person change command (approval_rules (look s.desk) change)) ≡ None
+      → first_failing (begins_with_rules (look s.desk) person change command (approval_rules (look s.desk) change)) ≡ None
       → followed_on s.desk (altered s.desk change alter) change s.queue ≡ with s change
   approves_by command person alter same some holds =
       let new = new_by person command holds in
@@ -299,25 +301,32 @@ module _ (s : State) (change : ℕ) (is : IsState s) where
           on true so = cc (sym (so refl) ∙ shut)
           on false so = refl
 
+  -- an act that means itself
+  left_by : (act : Act) (queue : Queue) → meaning (look s.desk) act ≡ act → (denial s act ≡ None → (done s act).state.queue ≡ queue) → Leaves s act queue
+  left_by act queue same stays holds = (λ i. (unless_denied (holds i) s (done s (same i)).state).queue) ∙ stays holds
+
   pub act_by_act : ActByAct s change
   act_by_act = record {
-    approve = λ person holds. approves_by Approve person (approved_by (person ∷ []) repeat.Approve) (λ c. refl) (λ c. refl) (holds_by (Spoken change person (Known Approve)) holds);
-    approve_for = λ person names holds.
-        approves_by (ApproveFor names) person (approved_by names (repeat.ApproveFor names)) (λ c. refl) (λ c. refl) (holds_by (Spoken change person (Known (ApproveFor names))) holds);
-    withdraw = λ person holds. ended_followed without_approval (λ c. refl) (λ c. refl);
-    priority = λ person priority holds. priority_by priority;
-    pushed = λ head holds. pushed_by head;
-    closed = λ holds. ended_followed closed (λ c. refl) (λ c. refl);
-    labeled = λ label holds. kept_followed (labeled s.desk.settings label) (λ c. against_same _ s.desk.settings (with_label label c)) (λ c some. against_fewer _ s.desk.settings (with_label label c) some);
-    reviewed = λ person head approves holds.
-        kept_followed (reviewed s.desk.settings person approves) (λ c. against_same _ s.desk.settings (with_review person approves c)) (λ c some. against_fewer _ s.desk.settings (with_review person approves c) some);
-    ping = λ person holds. kept_quiet;
-    delegate_author = λ person holds. quiet_by with_author_as_delegate (λ c. refl) (λ c. refl);
-    delegate_to = λ person names holds. quiet_by (with_delegates names) (λ c. refl) (λ c. refl);
-    delegate_none = λ person holds. quiet_by without_delegates (λ c. refl) (λ c. refl);
-    opened = λ author head holds.
-        opened_by author head (not-true (is_open (look s.desk) change) (passed (not (is_open (look s.desk) change)) AlreadyOpen _ (holds_by (Opened change author head) holds)).0);
-    unlabeled = λ label holds. unlabeled_by label;
+    approve = λ person. left_by (Spoken change person (Known Approve)) _ refl
+        (λ holds. approves_by Approve person (approved_by (person ∷ []) repeat.Approve) (λ c. refl) (λ c. refl) (holds_by (Spoken change person (Known Approve)) holds));
+    approve_for = λ person names. left_by (Spoken change person (Known (ApproveFor names))) _ refl
+        (λ holds. approves_by (ApproveFor names) person (approved_by names (repeat.ApproveFor names)) (λ c. refl) (λ c. refl) (holds_by (Spoken change person (Known (ApproveFor names))) holds));
+    withdraw = λ person. left_by (Spoken change person (Known Withdraw)) _ refl (λ holds. ended_followed without_approval (λ c. refl) (λ c. refl));
+    priority = λ person priority. left_by (Spoken change person (Known (Priority priority))) _ refl (λ holds. priority_by priority);
+    pushed = λ head. left_by (Pushed change head) _ refl (λ holds. pushed_by head);
+    closed = left_by (Closed change) _ refl (λ holds. ended_followed closed (λ c. refl) (λ c. refl));
+    labeled = λ label. left_by (Labeled change label) _ refl
+        (λ holds. kept_followed (labeled s.desk.settings label) (λ c. against_same _ s.desk.settings (with_label label c)) (λ c some. against_fewer _ s.desk.settings (with_label label c) some));
+    reviewed = λ person head approves. left_by (Review change person head approves) _ refl
+        (λ holds. kept_followed (reviewed s.desk.settings person approves) (λ c. against_same _ s.desk.settings (with_review person approves c)) (λ c some. against_fewer _ s.desk.settings (with_review person approves c) some));
+    retry = λ person holds. retry_means s change person holds;
+    ping = λ person. left_by (Spoken change person (Known Ping)) _ refl (λ holds. kept_quiet);
+    delegate_author = λ person. left_by (Spoken change person (Known DelegateAuthor)) _ refl (λ holds. quiet_by with_author_as_delegate (λ c. refl) (λ c. refl));
+    delegate_to = λ person names. left_by (Spoken change person (Known (DelegateTo names))) _ refl (λ holds. quiet_by (with_delegates names) (λ c. refl) (λ c. refl));
+    delegate_none = λ person. left_by (Spoken change person (Known DelegateNone)) _ refl (λ holds. quiet_by without_delegates (λ c. refl) (λ c. refl));
+    opened = λ author head. left_by (Opened change author head) _ refl
+        (λ holds. opened_by author head (not-true (is_open (look s.desk) change) (passed (not (is_open (look s.desk) change)) AlreadyOpen _ (holds_by (Opened change author head) holds)).0));
+    unlabeled = λ label. left_by (Unlabeled change label) _ refl (λ holds. unlabeled_by label);
   }
 
 pub queue_law : LawOfTheQueue

@@ -97,7 +97,7 @@ module _ (queue : Queue) where
   enqueued_grows : (size : Option ℕ) (priority : ℤ) (change : ℕ) → Grows 1 queue (specs.enqueued size priority change queue)
   enqueued_grows size priority change = lane_grows 1 queue _ _ (enqueue_new queue.next queue.staging size priority change) (none_or_one (is_some (joins size priority queue.staging.waiting)))
 
-  taken_out_grows : (stays : ℕ → Bool) → Grows 1 queue (specs.taken_out stays queue)
+  taken_out_grows : (stays : ℕ → Bool) → Grows 1 queue (specs.taken_out Staging stays queue)
   taken_out_grows stays = lane_grows 1 queue _ _ (take_out_new queue.next queue.staging stays) (few_taken_out stays queue.staging)
 
   restarted_grows : Grows 1 queue (specs.restarted Staging queue)
@@ -127,7 +127,7 @@ followed_grows false true moved size priority change queue = more_grows 2 (omega
 followed_grows true false moved size priority change queue = more_grows 2 (omega arith) (taken_out_grows queue (all_but change))
 followed_grows true true false size priority change queue = same_grows 2 queue
 followed_grows true true true size priority change queue =
-    both_grow (taken_out_grows queue (all_but change)) (enqueued_grows (specs.taken_out (all_but change) queue) size priority change)
+    both_grow (taken_out_grows queue (all_but change)) (enqueued_grows (specs.taken_out Staging (all_but change) queue) size priority change)
 
 pub about_grows : (s : State) (change : ℕ) (act : Act) → Grows 2 s.queue (about s change act).state.queue
 about_grows s change act = followed_grows _ _ _ _ _ change s.queue
@@ -137,7 +137,7 @@ accepted_grows s (Err fault) = same_grows 2 s.queue
 accepted_grows s (Ok settings) = by (are_present s.desk settings) where
   by : (b : Bool) → Grows 2 s.queue (cond b (quiet s) (under settings s)).state.queue
   by true = same_grows 2 s.queue
-  by false = both_grow (taken_out_grows s.queue _) (restarted_grows (specs.taken_out _ s.queue))
+  by false = both_grow (taken_out_grows s.queue _) (restarted_grows (specs.taken_out Staging _ s.queue))
 
 -- a status
 if_passed_grows : (s : State) (running : Option Batch) → Grows 0 s.queue (if_passed s running).state.queue

@@ -2,11 +2,11 @@
 use Rattle.std.proofs.Common.{◌≡◌, ◌≤◌, ℕ, ℤ, ◌+◌, eqb, ltb, Bool, true, false, List, [], ◌∷◌, if◌then◌else◌, Option, Some, None, ◌∙◌, ap, subst, arith}
 use Rattle.std.proofs.lemmas.Bool.Decides.{nat_tests}
 use Rattle.gate_queue.proofs.Counts.{sum-placed}
-use Rattle.gate_queue.proofs.Numbers.{has_number, all_uses, left_uses, enqueue_new, take_out_new, restart_new, stage_new, report_new, land_new, requeue_new, fail_new, start_new, drop_new}
+use Rattle.gate_queue.proofs.Numbers.{has_number, all_uses, left_uses, enqueue_new, try_new, take_out_new, restart_new, stage_new, report_new, land_new, requeue_new, fail_new, start_new, drop_new}
 use Rattle.gate_queue.proofs.Service.{behind_first, placed_in_service, left_in_service, joined_in_service}
 use Rattle.gate_queue.specs.Counts.{uses}
 use Rattle.gate_queue.specs.Lanes as lanes
-use Rattle.gate_queue.specs.Lanes.{batches_of, placed, fresh, retried, entered, joins, only, has_changes, back, left, stops_running, running_back, first_half, second_half, split_into}
+use Rattle.gate_queue.specs.Lanes.{batches_of, placed, fresh, try_of, retried, entered, joins, only, has_changes, back, left, stops_running, running_back, first_half, second_half, split_into}
 use Rattle.gate_queue.specs.Service.{IsInService, IsInOrder, OnlyNew, LawOfOrder}
 use Rattle.gate_queue.specs.declared.batch.Batch.{Batch}
 use Rattle.gate_queue.specs.declared.lane.Lane.{Lane}
@@ -65,6 +65,9 @@ module _ (next : ℕ) where
     entered_in_service priority change None = placed_in_service (fresh next priority change) lane.waiting h.service free
     entered_in_service priority change (Some place) = joined_in_service change lane.waiting place h.service
 
+    tried_in_service : (change : ℕ) → IsInService (placed (try_of next change) lane.waiting)
+    tried_in_service change = placed_in_service (try_of next change) lane.waiting h.service free
+
     taken_in_service : (stays : ℕ → Bool) (running : Option Batch) → IsServed (lanes.running_taken stays next running (left stays lane.waiting))
     taken_in_service stays None = left_in_service stays lane.waiting h.service
     taken_in_service stays (Some batch) =
@@ -96,6 +99,7 @@ order_law next lane h =
     record {
       enqueue = λ size priority change.
           in_order next lane h _ _ (enqueue_new next lane size priority change) (entered_in_service next lane h priority change (joins size priority lane.waiting));
+      enqueue_try = λ change. in_order next lane h _ _ (try_new next lane change) (tried_in_service next lane h change);
       take_out = λ stays. in_order next lane h _ _ (take_out_new next lane stays) (taken_in_service next lane h stays lane.running);
       restart = in_order next lane h _ _ (restart_new next lane) (restarted_in_service next lane h lane.running);
       requeue = λ stays. in_order next lane h _ _ (requeue_new next lane stays) (requeued_in_service next lane h stays lane.running);

@@ -14,7 +14,6 @@ use Rattle.gate_queue.specs.Counts.{occurs, held, held_by, in_running, in_landin
 use Rattle.gate_queue.specs.Lanes.{batches_of, has_several, is_landing, back, only, left, loses, stops_running, with_report, taken_out, restarted, requeued, failed, started, staged, reported, landing}
 use Rattle.gate_queue.specs.Machine.{approved_on, landing_on, priority_on, size_on, all_but, lone, followed, followed_on, is_required}
 use Rattle.gate_queue.specs.Queue as specs
-use Rattle.gate_queue.specs.Service.{IsInOrder}
 use Rattle.gate_queue.specs.State.{Marks, marks_on, IsRunning, IsQueue, is_not}
 use Rattle.gate_text.specs.Settings.{SettingsView}
 use Rattle.gate_queue.specs.declared.batch.Batch.{Batch}
@@ -24,9 +23,9 @@ use Rattle.gate_queue.specs.declared.batch.Stage.{Stage}
 use Rattle.gate_queue.specs.declared.batch.Stage.TheVariants.{Waiting, Ordered, Staged, Landing}
 use Rattle.gate_queue.specs.declared.lane.Lane.{Lane}
 use Rattle.gate_queue.specs.declared.queue.Queue.{Queue}
+use Rattle.gate_queue.proofs.Apart.{enqueued_order, taken_out_order, restarted_order, requeued_order, failed_order, started_order, staged_order, reported_order, landing_order}
 use Rattle.gate_queue.proofs.Batches.{IsLane, enqueued_lane, taken_out_lane, restarted_lane, requeued_lane, failed_lane, started_lane, later_lane, staged_lane, reported_lane, landing_lane}
 use Rattle.gate_queue.proofs.Counts.{held_is, enqueue_law, take_out_law, restart_law, requeue_law, start_law, stage_law, report_law, land_law, fail_law}
-use Rattle.gate_queue.proofs.InOrder.{order_law}
 
 abbrev once : Bool → ℕ
 once b = if b then 1 else 0
@@ -150,7 +149,7 @@ module _ (now : ℕ) (settings : Option SettingsView) (old new : Marks) (queue :
   enqueued_keeps size change wasnt is' others lands_as =
       let lane = enqueued_lane now settings queue.staging size queue.next (new.priority change) change lane_is in
       record {
-        order = (order_law queue.next queue.staging is.order).enqueue size (new.priority change) change;
+        order = enqueued_order queue is.order size (new.priority change) change;
         waiting = lane.waiting;
         running = lane.running;
         trying = is.trying;
@@ -187,11 +186,11 @@ module _ (now : ℕ) (settings : Option SettingsView) (old new : Marks) (queue :
       → ((change : ℕ) → stays change ≡ true → (new.approved change ≡ old.approved change) × (new.priority change ≡ old.priority change))
       → ((change : ℕ) → stays change ≡ false → new.approved change ≡ false)
       → ((change : ℕ) → (new.landing change ≡ old.landing change) × (old.landing change ≡ true → new.priority change ≡ old.priority change))
-      → IsQueue now settings new (specs.taken_out stays queue)
+      → IsQueue now settings new (specs.taken_out Staging stays queue)
   taken_out_keeps stays kept gone lands_as =
       let lane = taken_out_lane now settings queue.staging stays queue.next lane_is in
       record {
-        order = (order_law queue.next queue.staging is.order).take_out stays;
+        order = taken_out_order queue is.order Staging stays;
         waiting = lane.waiting;
         running = lane.running;
         trying = is.trying;
@@ -230,7 +229,7 @@ module _ (now : ℕ) (settings : Option SettingsView) (old new : Marks) (queue :
   requeued_keeps later others kept gone none =
       let lane = requeued_lane now later settings others queue.staging new.approved queue.next lane_is in
       record {
-        order = (order_law queue.next queue.staging is.order).requeue new.approved;
+        order = requeued_order queue is.order Staging new.approved;
         waiting = lane.waiting;
         running = lane.running;
         trying = is.trying;
@@ -283,7 +282,7 @@ module _ (now : ℕ) (settings : Option SettingsView) (marks : Marks) (queue : Q
   restarted_keeps later others =
       let lane = restarted_lane now later settings others queue.staging queue.next its_lane in
       record {
-        order = (order_law queue.next queue.staging is.order).restart;
+        order = restarted_order queue is.order Staging;
         waiting = lane.waiting;
         running = lane.running;
         trying = is.trying;
@@ -292,16 +291,11 @@ module _ (now : ℕ) (settings : Option SettingsView) (marks : Marks) (queue : Q
         landing = λ change. restarted_landing of_any_priority change queue.next queue.staging ∙ is.landing change;
       }
 
-  pub unused : (next : ℕ) (lane : Lane) → IsInOrder next lane → IsInOrder (next + 0) lane
-  unused next lane order = subst (λ n. IsInOrder n lane) (same next) order where
-    same : (n : ℕ) → n ≡ n + 0
-    same n = omega arith
-
   pub started_keeps : (later : ℕ) → now ≤ later → IsQueue later settings marks (specs.started Staging later queue)
   started_keeps later on =
       let lane = started_lane now later settings queue.staging on its_lane in
       record {
-        order = unused queue.next _ ((order_law queue.next queue.staging is.order).start later);
+        order = started_order queue is.order Staging later;
         waiting = lane.waiting;
         running = lane.running;
         trying = is.trying;
@@ -315,7 +309,7 @@ module _ (now : ℕ) (settings : Option SettingsView) (marks : Marks) (queue : Q
   staged_keeps commit not_so =
       let lane = staged_lane now settings queue.staging commit its_lane in
       record {
-        order = unused queue.next _ ((order_law queue.next queue.staging is.order).stage now commit);
+        order = staged_order queue is.order Staging now commit;
         waiting = lane.waiting;
         running = lane.running;
         trying = is.trying;
@@ -330,7 +324,7 @@ module _ (now : ℕ) (settings : Option SettingsView) (marks : Marks) (queue : Q
   reported_keeps name report required =
       let lane = reported_lane now settings queue.staging name report required its_lane in
       record {
-        order = unused queue.next _ ((order_law queue.next queue.staging is.order).report name report);
+        order = reported_order queue is.order Staging name report;
         waiting = lane.waiting;
         running = lane.running;
         trying = is.trying;
@@ -396,7 +390,7 @@ module _ (now : ℕ) (settings : Option SettingsView) (old new : Marks) (queue :
   landing_keeps same marked =
       let lane = landing_lane now settings queue.staging (record { waiting = is.waiting; running = is.running }) in
       record {
-        order = unused now settings old queue is queue.next _ (order_law queue.next queue.staging is.order).land;
+        order = landing_order queue is.order Staging;
         waiting = lane.waiting;
         running = lane.running;
         trying = is.trying;
@@ -463,7 +457,7 @@ module _ (now : ℕ) (settings : Option SettingsView) (old new : Marks) (queue :
   failed_keeps not_so ended same =
       let lane = failed_lane now settings queue.staging queue.next (record { waiting = is.waiting; running = is.running }) in
       record {
-        order = (order_law queue.next queue.staging is.order).fail;
+        order = failed_order queue is.order Staging;
         waiting = lane.waiting;
         running = lane.running;
         trying = is.trying;
@@ -598,7 +592,7 @@ follow_keeps old new change queue only is =
       by true true false lands_too was now at too =
           let free = moved lands_too too at in
           let without : Marks = record { approved = λ other. not (eqb other change) && approved_on old other; landing = landing_on old; priority = priority_on old } in
-          enqueued_keeps old.clock old.settings without (marks_on new) (specs.taken_out (all_but change) queue)
+          enqueued_keeps old.clock old.settings without (marks_on new) (specs.taken_out Staging (all_but change) queue)
           (taken_out_keeps old.clock old.settings (marks_on old) without queue is (all_but change)
           (λ other stay. (ap (λ (b : Bool). b && approved_on old other) stay, refl)) (λ other go. ap (λ (b : Bool). b && approved_on old other) go) (λ other. (refl, λ so. refl)))
           (size_on new) change

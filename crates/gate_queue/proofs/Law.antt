@@ -27,7 +27,7 @@ use Rattle.gate_queue.specs.Counts.{occurs, in_landing, held, held_by, of_any_pr
 use Rattle.gate_queue.specs.History.{Entry, Event, did, gave, given, happened, events_of, last_of, said_on, author_back, head_back, settings_back, phase_back, labels_back, reviews_back, approval_said, standing_back, approvers_back, landing_back, approvers_on, change_of, change_back, look_back, stages, IsStandingAt, IsRightOrder, Legal, EntryTells, entry_of, orders_in, denied_by}
 use Rattle.gate_queue.specs.Lanes as lanes
 use Rattle.gate_queue.specs.Lanes.{is_landing, ordered_at}
-use Rattle.gate_queue.specs.Machine.{broken, denial, missing, has_ordered, is_ordered, has_staged, is_staged_with, empty_state, answered, approved_on, landing_on, priority_on, quiet, about, with_desk, notices, are_present, under, accepted, lone, lone_notices, failing, is_required, goes_on, told_of, told, has_overdue, timed_out, head_on, stage_orders, starting, done, reply_to, unless_denied, after}
+use Rattle.gate_queue.specs.Machine.{broken, denial, meaning, acted, missing, has_ordered, is_ordered, has_staged, is_staged_with, empty_state, answered, approved_on, landing_on, priority_on, quiet, about, with_desk, notices, are_present, under, accepted, lone, lone_notices, failing, is_required, goes_on, told_of, told, has_overdue, timed_out, head_on, stage_orders, starting, done, reply_to, unless_denied, after}
 use Rattle.gate_queue.specs.State.{IsWaiting, IsState}
 use Rattle.gate_queue.specs.declared.act.Act.{Act}
 use Rattle.gate_queue.specs.declared.act.Act.TheVariants.{Spoken, Role, Settings, Base, Opened, Pushed, Closed, Labeled, Unlabeled, Review, Staged, Conflict, Status, Refused, Tick}
@@ -49,6 +49,7 @@ use Rattle.gate_queue.specs.declared.state.State.{State}
 use Rattle.gate_queue.proofs.After.{standing_fit}
 use Rattle.gate_queue.proofs.Doing.{about_are, accepted_are, fact_kept, clock_kept, done_kept}
 use Rattle.gate_queue.proofs.Fitness.{opened_so, passed, unless_so}
+use Rattle.gate_queue.proofs.Meaning.{meaning_allowed, meaning_right}
 use Rattle.gate_queue.proofs.States.{Holds, clock_holds, timed_out_holds, still_clock, queued_held}
 use Rattle.gate_queue.proofs.Steps.{Kept, AreNotices, given-append, first_based, starting_kept, timed_out_kept}
 use Rattle.gate_queue.proofs.Tested.{Tests, TestsAt, IsAt, Elsewhere, stage_tests, staged_tests, unasked}
@@ -383,17 +384,21 @@ moment_of s act later now at =
     let same : (done s act).state.desk.clock ≡ now = ap (λ (a : Act). (done s a).state.desk.clock) at ∙ still_clock (with_desk s (with_clock s.desk now)) now in
     subst IsMoment same later.desk.clock
 
-whole_by : (events : List Event) (old : State) (act : Act) → IsState old → Whole events old → (rule : Option Rule) → denial old act ≡ rule → IsState (unless_denied rule old (done old act).state)
-    → Whole (happened events act (answered rule (done old act).orders)) (unless_denied rule old (done old act).state)
-    × All (IsRightOrder (happened events act (answered rule (done old act).orders)) act) (orders_in (answered rule (done old act).orders))
-whole_by events old act is whole None holds later =
-    let both = none_both (missing old.queue act) (broken (look old.desk) act) holds in
-    let was : Holds old = record { desk = is.desk; queue = is.queue } in
-    let will : Holds (done old act).state = record { desk = later.desk; queue = later.queue } in
-    let kept = done_kept events old was whole.kept act (moment_of old act will) both.0 both.1 in
-    let then_is = done_then events old was whole act (moment_of old act will) both.0 both.1 will kept in
-    (record { kept = kept; tests = then_is.0 }, then_is.1)
+whole_by : (events : List Event) (old : State) (act : Act) → IsState old → Whole events old → (rule : Option Rule) → denial old act ≡ rule → IsState (unless_denied rule old (acted old act).state)
+    → Whole (happened events act (answered rule (acted old act).orders)) (unless_denied rule old (acted old act).state)
+    × All (IsRightOrder (happened events act (answered rule (acted old act).orders)) act) (orders_in (answered rule (acted old act).orders))
 whole_by events old act is whole (Some rule) denied later = (whole, All-nil (IsRightOrder events act))
+whole_by events old act is whole None holds later =
+    let means = meaning (look old.desk) act in
+    let both = none_both (missing old.queue means) (broken (look old.desk) means) (meaning_allowed old act holds) in
+    let was : Holds old = record { desk = is.desk; queue = is.queue } in
+    let will : Holds (done old means).state = record { desk = later.desk; queue = later.queue } in
+    let kept = done_kept events old was whole.kept means (moment_of old means will) both.0 both.1 in
+    let then_is = done_then events old was whole means (moment_of old means will) both.0 both.1 will kept in
+    subst (λ (l : Look). Whole (given (did (meaning l act) ∷ events) (acted old act).orders) (acted old act).state
+    × All (IsRightOrder (given (did (meaning l act) ∷ events) (acted old act).orders) act) (acted old act).orders)
+    whole.kept.same
+    (record { kept = kept; tests = then_is.0 }, meaning_right (given (did means ∷ events) (done old means).orders) (look old.desk) act (done old means).orders then_is.1)
 
 whole_next : (events : List Event) (old : State) (act : Act) → IsState old → IsState (after old act) → Whole events old
     → Whole (happened events act (reply_to old act)) (after old act) × All (IsRightOrder (happened events act (reply_to old act)) act) (orders_in (reply_to old act))
@@ -487,9 +492,9 @@ tells history old act is legal =
           omega (arith, kept.numbered.lands number, once (ltb number new.queue.next) (stages number now) (uses number new.queue.staging.waiting) (kept.numbered.once number));
       ordered_rightly = next.1;
       by_rule =
-          rule_answered (denial old act) (done old act).orders
+          rule_answered (denial old act) (acted old act).orders
           ∙ ap (λ (s : Look). option_or (missing old.queue act) (broken s act)) whole.kept.same;
-      denied = λ rule denied. unchanged old _ (done old act).orders (denial old act) rule denied;
+      denied = λ rule denied. unchanged old _ (acted old act).orders (denial old act) rule denied;
       legal = (old, legal, (refl, refl), is);
     } where
       once : (b : Bool) (staged waiting : ℕ) → staged + waiting ≤ (if b then 1 else 0) → staged ≤ 1

@@ -1,5 +1,7 @@
 pub mod Acting
 pub mod After
+pub mod Alone
+pub mod Apart
 pub mod Batches
 pub mod Changes
 pub mod Counts
@@ -15,6 +17,7 @@ pub mod Landing
 pub mod Lanes
 pub mod Law
 pub mod Limits
+pub mod Meaning
 pub mod Next
 pub mod Numbers
 pub mod Premises

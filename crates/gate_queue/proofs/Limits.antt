@@ -12,7 +12,7 @@ use Rattle.gate_text.specs.Settings.{SettingsView}
 use Rattle.gate_text.specs.declared.command.Command.{Command}
 use Rattle.gate_text.specs.declared.command.Command.TheVariants.{Ping, Approve, ApproveFor, Withdraw, Priority, Try, TryCancel, DelegateAuthor, DelegateTo, DelegateNone, Retry}
 use Rattle.gate_text.specs.declared.command.Spoken.TheVariants.{Known, Unknown}
-use Rattle.gate_rules.specs.Rules.{Look, first_failing, unless_landing, approval_rules, Texts, is_known, is_open, is_landing, is_open_phase, is_blocked, has_too_few_reviews, has_settings, has_base, permits, need}
+use Rattle.gate_rules.specs.Rules.{Look, first_failing, begins_with_rules, approval_rules, Texts, is_known, is_open, is_landing, is_open_phase, is_blocked, has_too_few_reviews, has_settings, has_base, permits, need}
 use Rattle.gate_rules.specs.View.{DeskView, empty_desk, with_role, with_base, with_clock, without_approval, look}
 use Rattle.gate_rules.specs.declared.change.Change.{Change}
 use Rattle.gate_rules.specs.declared.change.Repeat.TheVariants as repeat
@@ -168,7 +168,7 @@ role_keeps desk person role is = record { changes = is.changes; clock = is.clock
 
 -- an approval that no rule denies is of an open change, under settings and on a base
 approvable : (desk : DeskView) (person : List ℕ) (n : ℕ) (command : Command)
-    → first_failing (unless_landing (look desk) person n command (approval_rules (look desk) n)) ≡ None
+    → first_failing (begins_with_rules (look desk) person n command (approval_rules (look desk) n)) ≡ None
     → (change : Change) → finite.get desk.changes n ≡ Some change
     → (is_open_phase change.phase ≡ true) × ((is_some desk.settings ≡ true) × (is_some desk.base ≡ true))
 approvable desk person n command holds change here =

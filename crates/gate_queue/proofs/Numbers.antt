@@ -7,7 +7,7 @@ use Rattle.std.specs.Option.{option_map_or}
 use Rattle.gate_queue.proofs.Counts.{sum-placed, sum-back, sum-left, sum-split}
 use Rattle.gate_queue.specs.Counts.{uses}
 use Rattle.gate_queue.specs.Lanes as lanes
-use Rattle.gate_queue.specs.Lanes.{batches_of, fresh, with_change, with_joined, entered, joins, enqueued, enqueue_uses, has_changes, back, back_uses, only, left, stops_running, running_back, running_back_uses, taken_out, taken_out_uses, restarted, restarted_uses, requeued, requeued_uses, has_several, failed, failed_uses, ordered_at, started, staged, reported, landing, dropped}
+use Rattle.gate_queue.specs.Lanes.{batches_of, fresh, try_of, with_change, with_joined, entered, joins, enqueued, enqueue_uses, tried, has_changes, back, back_uses, only, left, stops_running, running_back, running_back_uses, taken_out, taken_out_uses, restarted, restarted_uses, requeued, requeued_uses, has_several, failed, failed_uses, ordered_at, started, staged, reported, landing, dropped}
 use Rattle.gate_queue.specs.Service.{is_new, OnlyNew, LawOfNumbers}
 use Rattle.gate_queue.specs.declared.batch.Batch.{Batch}
 use Rattle.gate_queue.specs.declared.batch.Report.{Report}
@@ -95,6 +95,11 @@ module _ (next : ℕ) (lane : Lane) where
   enqueue_new size priority change =
       only_new next _ lane (enqueued size next priority change lane) (λ number. omega arith)
       (λ number. entered_new next number priority change lane.waiting (joins size priority lane.waiting))
+
+  pub try_new : (change : ℕ) → OnlyNew next 1 lane (tried next change lane)
+  try_new change =
+      only_new next 1 lane (tried next change lane) (λ number. omega arith)
+      (λ number. omega (arith, sum-placed (has_number number) (try_of next change) lane.waiting, new_one next number))
 
   -- the running batch goes back, beside waiting ones that are no more than before
   running_back_new : (goes : Bool) (batch rest : Batch) (waiting : List Batch) → ((number : ℕ) → uses number waiting ≤ uses number lane.waiting)
@@ -184,6 +189,7 @@ pub numbers_law : LawOfNumbers
 numbers_law next lane =
     record {
       enqueue = enqueue_new next lane;
+      enqueue_try = try_new next lane;
       take_out = take_out_new next lane;
       restart = restart_new next lane;
       requeue = requeue_new next lane;

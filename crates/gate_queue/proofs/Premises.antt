@@ -3,7 +3,7 @@ use Rattle.std.proofs.Common.{◌≡◌, ℕ, Bool, true, false, not, List, [], 
 use Rattle.std.proofs.lemmas.Bool.{not-true}
 use Rattle.std.specs.Option.{option_map, option_map_or}
 use Rattle.gate_text.specs.declared.command.Command.{Command}
-use Rattle.gate_rules.specs.Rules.{first_failing, unless_landing, approval_rules, is_known, is_open, is_landing, is_landed, is_approved, is_open_phase, is_landed_phase, has_settings, has_base, permits, need, of_both, blocked_rule, too_few_rule}
+use Rattle.gate_rules.specs.Rules.{first_failing, begins_with_rules, approval_rules, is_known, is_open, is_landing, is_landed, is_approved, is_open_phase, is_landed_phase, has_settings, has_base, permits, need, of_both, blocked_rule, too_few_rule}
 use Rattle.gate_rules.specs.declared.change.Change.{Change}
 use Rattle.gate_rules.specs.declared.change.Phase.{Phase}
 use Rattle.gate_rules.specs.declared.rule.Rule.TheVariants.{UnknownChange, NotPermitted, NotOpen, Landing, NoSettings, NoBase, AlreadyApproved, AlreadyOpen, ChangeLanded}
@@ -16,7 +16,7 @@ use Rattle.gate_queue.proofs.Unseen.{Unseen, blank_phase, blank_landed}
 
 -- an approval that no rule denies is of a fit change
 fits_at : (events : List Event) (person : List ℕ) (n : ℕ) (command : Command)
-    → first_failing (unless_landing (look_back events) person n command (approval_rules (look_back events) n)) ≡ None
+    → first_failing (begins_with_rules (look_back events) person n command (approval_rules (look_back events) n)) ≡ None
     → (author : Option (List ℕ)) → author_back events n ≡ author → fit_back events n ≡ true
 fits_at events person n command holds author is =
     let s = look_back events in
@@ -39,7 +39,7 @@ fits_at events person n command holds author is =
       by (Some a) opened some blocked few = fit_by_rules (settings_back events) (change_of events n a) some opened blocked few
 
 pub fits : (events : List Event) (person : List ℕ) (n : ℕ) (command : Command)
-    → first_failing (unless_landing (look_back events) person n command (approval_rules (look_back events) n)) ≡ None
+    → first_failing (begins_with_rules (look_back events) person n command (approval_rules (look_back events) n)) ≡ None
     → (c : ℕ) → eqb c n ≡ true → fit_back events c ≡ true
 fits events person n command holds c same = subst (λ m. fit_back events m ≡ true) (sym (same_number c n same)) (fits_at events person n command holds (author_back events n) refl)
 

@@ -26,9 +26,10 @@ use Rattle.gate_rules.specs.declared.rule.Rule.{Rule}
 use Rattle.gate_rules.specs.declared.rule.Rule.TheVariants.{UnknownChange, NotPermitted, NotOpen, Landing as IsLandingRule, ClockBack, NoSuchBatch}
 use Rattle.gate_queue.specs.Acts.{ActKeepsLimits, IsMoment}
 use Rattle.gate_queue.specs.Counts.{occurs, held, held_by, in_landing, of_any_priority}
-use Rattle.gate_queue.specs.Lanes.{is_landing}
-use Rattle.gate_queue.specs.Machine.{empty_state, broken, denial, missing, has_ordered, is_ordered, has_staged, is_staged_with, effect, altered, all_altered, approved_by, with_priority, with_delegates, with_author_as_delegate, without_delegates, opened, closed, pushed, moved_to, with_label, without_label, with_review, unless_against, approved_on, landing_on, priority_on, quiet, with_desk, with_queue, about, with_settled, settled, loses_approval, are_present, with_new_settings, under, accepted, lone, without_lone, failing, is_required, has_passed, with_landing, to_land, if_passed, goes_on, told_of, told, landed, released, released_at, released_on, sent_back, is_overdue, has_overdue, timed_out, starting, done, unless_denied, after}
+use Rattle.gate_queue.specs.Lanes.{empty_lane, is_landing}
+use Rattle.gate_queue.specs.Machine.{empty_state, broken, denial, meaning, missing, has_ordered, is_ordered, has_staged, is_staged_with, effect, altered, all_altered, approved_by, with_priority, with_delegates, with_author_as_delegate, without_delegates, opened, closed, pushed, moved_to, with_label, without_label, with_review, unless_against, approved_on, landing_on, priority_on, quiet, with_desk, with_queue, about, with_settled, settled, loses_approval, are_present, with_new_settings, under, accepted, lone, without_lone, failing, is_required, has_passed, with_landing, to_land, if_passed, goes_on, told_of, told, landed, released, released_at, released_on, sent_back, is_overdue, has_overdue, timed_out, starting, done, unless_denied, after}
 use Rattle.gate_queue.specs.Queue as specs
+use Rattle.gate_queue.specs.Service.{IsInOrder}
 use Rattle.gate_queue.specs.State.{IsChange, IsDesk, IsRunning, IsQueue, IsState, marks_on}
 use Rattle.gate_queue.specs.declared.act.Act.{Act}
 use Rattle.gate_queue.specs.declared.act.Act.TheVariants.{Spoken, Role, Settings, Base, Opened, Pushed, Closed, Labeled, Unlabeled, Review, Staged as StagedAct, Conflict, Status, Refused, Tick}
@@ -49,6 +50,7 @@ use Rattle.gate_queue.proofs.Fitness.{passed, unless_so}
 use Rattle.gate_queue.proofs.Growing.{queue_grows}
 use Rattle.gate_queue.proofs.Keeping.{OnlyAt, lands, none_landing, some_there, none_there, follow_keeps, taken_out_keeps, restarted_keeps, requeued_keeps, later_keeps, started_keeps, staged_keeps, reported_keeps, landing_keeps, failed_keeps}
 use Rattle.gate_queue.proofs.Limits.{altered_keeps, all_keep, ended_keeps, marked_keeps, released_keeps, effect_keeps, settings_keep, base_keeps, clock_keeps, role_keeps, empty_is_desk}
+use Rattle.gate_queue.proofs.Meaning.{meaning_allowed, meaning_limits}
 use Rattle.gate_queue.proofs.Wording.{none_both}
 
 -- ACTS ABOUT ONE CHANGE leave all others, and leave final what is landing.
@@ -207,7 +209,7 @@ under_holds : (s : State) (settings : SettingsView) → Holds s → Holds (under
 under_holds s settings is = record {
   desk = settings_keep s.desk settings is.desk;
   queue =
-      restarted_keeps s.desk.clock s.desk.settings (marks_on new) (specs.taken_out (approved_on new) s.queue)
+      restarted_keeps s.desk.clock s.desk.settings (marks_on new) (specs.taken_out Staging (approved_on new) s.queue)
       (taken_out_keeps s.desk.clock s.desk.settings (marks_on s.desk) (marks_on new) s.queue is.queue (approved_on new) (λ change so. (kept change so)) (λ change none. none) (λ change. (lands_as change, λ so. priced_as change)))
       s.desk.clock (Some settings);
 } where
@@ -294,10 +296,6 @@ failing_holds s why is not_so =
     }
 
 -- A BATCH IS TO LAND, or goes back
-all_marks : (alter : Change → Change) → ((change : Change) → alter (alter change) ≡ alter change) → (changes : List ℕ) (desk : DeskView) (c : ℕ)
-    → finite.get (all_altered alter desk changes).changes c ≡ cond (list_any (eqb c) changes) (option_map alter (finite.get desk.changes c)) (finite.get desk.changes c)
-all_marks alter same changes desk c = ap (λ (l : Look). l.change c) (all_look alter same changes desk)
-
 -- a change that is in a batch is approved or landing
 pub queued_held : (s : State) → Holds s → (c : ℕ) → 1 ≤ held of_any_priority c s.queue.staging → (approved_on s.desk c || landing_on s.desk c) ≡ true
 queued_held s is c some = by (approved_on s.desk c || landing_on s.desk c) refl where
@@ -586,20 +584,27 @@ done_holds s (Tick now) is limits there holds = tick_holds s now limits (leb-tru
 
 pub still_state : (s : State) → IsState s → s.queue.next ≤ 8_999_999_999_999_996 → (act : Act) → ActKeepsLimits act → IsState (after s act)
 still_state s is room act limits = by (denial s act) refl where
-  by : (rule : Option Rule) → denial s act ≡ rule → IsState (unless_denied rule s (done s act).state)
+  means : Act
+  means = meaning (look s.desk) act
+
+  by : (rule : Option Rule) → denial s act ≡ rule → IsState (unless_denied rule s (done s means).state)
   by None holds =
-      let both = none_both (missing s.queue act) (broken (look s.desk) act) holds in
-      let next = done_holds s act (record { desk = is.desk; queue = is.queue }) limits both.0 both.1 in
-      record { desk = next.desk; next = omega (arith, (queue_grows s act).few, room); queue = next.queue }
+      let both = none_both (missing s.queue means) (broken (look s.desk) means) (meaning_allowed s act holds) in
+      let next = done_holds s means (record { desk = is.desk; queue = is.queue }) (meaning_limits s is act limits) both.0 both.1 in
+      record { desk = next.desk; low = omega (arith, (queue_grows s means).next, is.low); high = omega (arith, (queue_grows s means).few, room); queue = next.queue }
   by (Some rule) denied = is
 
 -- AN EMPTY STATE
-pub empty_is_state : (next : ℕ) → next ≤ 9_000_000_000_000_000 → IsState (empty_state next)
-empty_is_state next few = record {
+empty_in_order : (next : ℕ) → IsInOrder next empty_lane
+empty_in_order next = record { service = λ i j d below within. absurd (omega (arith, within)); numbers = λ number. omega arith }
+
+pub empty_is_state : (next : ℕ) → 1 ≤ next → next ≤ 9_000_000_000_000_000 → IsState (empty_state next)
+empty_is_state next low high = record {
   desk = empty_is_desk;
-  next = few;
+  low = low;
+  high = high;
   queue = record {
-    order = record { service = λ i j d below within. absurd (omega (arith, within)); numbers = λ number. omega arith };
+    order = record { staging = empty_in_order next; trying = empty_in_order next; apart = λ number. omega arith };
     waiting = All-nil _;
     running = tt;
     trying = refl;

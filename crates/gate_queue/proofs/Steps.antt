@@ -120,7 +120,7 @@ accepted_goes s (Ok settings) = by (are_present s.desk settings) where
   by true = same_goes s.queue.staging.running
   by false =
       goes_twice (taken_out_goes (approved_on (under settings s).state.desk) s.queue.next s.queue.staging)
-      (restarted_goes (specs.taken_out (approved_on (under settings s).state.desk) s.queue).next (specs.taken_out (approved_on (under settings s).state.desk) s.queue).staging)
+      (restarted_goes (specs.taken_out Staging (approved_on (under settings s).state.desk) s.queue).next (specs.taken_out Staging (approved_on (under settings s).state.desk) s.queue).staging)
 
 -- a batch whose stage changes, and is landing as before
 restaged_goes : (batch : Batch) (at : StageOf) → commit_of at ≡ commit_of batch.stage → is_landing at ≡ is_landing batch.stage → Goes (Some batch) (Some (record batch { stage = at }))

@@ -1,8 +1,8 @@
 -- COUNTS of what batches hold, and the laws of what is done to a lane in their words.
-use Rattle.std.specs.Prelude.{◌≡◌, ℕ, ◌+◌, ◌==◌, ℤ, Bool, true, ◌&&◌, List, Option, if◌then◌else◌}
+use Rattle.std.specs.Prelude.{◌≡◌, ℕ, ◌+◌, ◌==◌, ℤ, pos, Bool, true, ◌&&◌, List, Option, if◌then◌else◌}
 use Rattle.std.specs.List.{sum_by, count_by}
 use Rattle.std.specs.Option.{option_map_or}
-use Rattle.gate_queue.specs.Lanes.{batches_of, is_landing, has_several, enqueued, taken_out, restarted, requeued, failed, started, staged, reported, landing, dropped}
+use Rattle.gate_queue.specs.Lanes.{batches_of, is_landing, has_several, enqueued, tried, taken_out, restarted, requeued, failed, started, staged, reported, landing, dropped}
 use Rattle.gate_queue.specs.declared.batch.Batch.{Batch}
 use Rattle.gate_queue.specs.declared.batch.Report.{Report}
 use Rattle.gate_queue.specs.declared.lane.Lane.{Lane}
@@ -46,6 +46,11 @@ in_lone test change lane = of_running (λ batch. if has_several batch then 0 els
 abbrev pub LawOfEnqueue : Type 0
 LawOfEnqueue = (test : ℤ → Bool) (size : Option ℕ) (number : ℕ) (priority : ℤ) (change other : ℕ) (lane : Lane) →
     held test other (enqueued size number priority change lane) ≡ held test other lane + (if other == change && test priority then 1 else 0)
+
+-- What is tried is there once more, under priority 0, and each other change as often as before.
+abbrev pub LawOfTry : Type 0
+LawOfTry = (test : ℤ → Bool) (number change other : ℕ) (lane : Lane) →
+    held test other (tried number change lane) ≡ held test other lane + (if other == change && test (pos 0) then 1 else 0)
 
 -- What stays is there as often as before, and what is taken out only in a batch that is landing.
 abbrev pub LawOfTakeOut : Type 0

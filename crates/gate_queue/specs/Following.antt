@@ -5,10 +5,11 @@ use Rattle.std.specs.FinMap as finite
 use Rattle.std.specs.Option.{option_map_or}
 use Rattle.std.specs.Ordering.{int_eq}
 use Rattle.std.specs.Str.{bytes_eq}
-use Rattle.gate_queue.specs.Vocabulary.{Ping, Approve, ApproveFor, Withdraw, Priority, DelegateAuthor, DelegateTo, DelegateNone, Known, Change, State, Act, Spoken, Opened, Pushed, Closed, Labeled, Unlabeled, Review}
-use Rattle.gate_queue.specs.Machine.{denial, done, approved_on, priority_on, size_on, all_but, ends_approval, labeled, reviewed}
+use Rattle.gate_queue.specs.Vocabulary.{Ping, Approve, ApproveFor, Withdraw, Priority, DelegateAuthor, DelegateTo, DelegateNone, Retry, last_command, look, Known, Change, State, Act, Spoken, Opened, Pushed, Closed, Labeled, Unlabeled, Review}
+use Rattle.gate_queue.specs.Machine.{denial, repeated, after, approved_on, priority_on, size_on, all_but, ends_approval, labeled, reviewed}
 use Rattle.gate_queue.specs.Queue.{enqueued, taken_out}
 use Rattle.gate_queue.specs.State.{IsState}
+use Rattle.gate_queue.specs.declared.batch.Branch.TheVariants.{Staging}
 use Rattle.gate_queue.specs.declared.queue.Queue.{Queue}
 
 -- the queue with a change under its priority, and without it
@@ -16,7 +17,7 @@ abbrev pub with : State → ℕ → Queue
 with s change = enqueued (size_on s.desk) (priority_on s.desk change) change s.queue
 
 abbrev pub without : State → ℕ → Queue
-without s change = taken_out (all_but change) s.queue
+without s change = taken_out Staging (all_but change) s.queue
 
 -- whether the change has this head; whether it is altered so that its approval ends
 abbrev pub has_head : State → ℕ → List ℕ → Bool
@@ -26,7 +27,7 @@ abbrev pub is_ended : State → ℕ → (Change → Change) → Bool
 is_ended s change alter = option_map_or (ends_approval alter) (finite.get s.desk.changes change) false
 
 abbrev pub Leaves : State → Act → Queue → Type 0
-Leaves s act queue = denial s act ≡ None → (done s act).state.queue ≡ queue
+Leaves s act queue = denial s act ≡ None → (after s act).queue ≡ queue
 
 pub record ActByAct (s : State) (change : ℕ) : Type 0 where
   -- `r+` and `r=` queue the change, and `r-` takes it out
@@ -43,6 +44,9 @@ pub record ActByAct (s : State) (change : ℕ) : Type 0 where
   pub labeled : (label : List ℕ) → Leaves s (Labeled change label) (if is_ended s change (labeled s.desk.settings label) then without s change else s.queue)
   pub reviewed : (person head : List ℕ) (approves : Bool) →
       Leaves s (Review change person head approves) (if is_ended s change (reviewed s.desk.settings person approves) then without s change else s.queue)
+  -- `retry` does what the command that it repeats does
+  pub retry : (person : List ℕ) → denial s (Spoken change person (Known Retry)) ≡ None
+      → after s (Spoken change person (Known Retry)) ≡ after s (Spoken change person (Known (repeated (last_command (look s.desk) change))))
   -- all else leaves the queue
   pub ping : (person : List ℕ) → Leaves s (Spoken change person (Known Ping)) s.queue
   pub delegate_author : (person : List ℕ) → Leaves s (Spoken change person (Known DelegateAuthor)) s.queue

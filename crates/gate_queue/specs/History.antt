@@ -12,7 +12,7 @@ use Rattle.gate_rules.specs.declared.change.Phase.TheVariants as phase
 use Rattle.gate_rules.specs.declared.change.Repeat.TheVariants as repeat
 use Rattle.gate_queue.specs.Acts.{on}
 use Rattle.gate_queue.specs.Counts.{held, in_landing, of_any_priority}
-use Rattle.gate_queue.specs.Machine.{IsEmpty, broken, missing, Step}
+use Rattle.gate_queue.specs.Machine.{IsEmpty, broken, missing, meaning, Step}
 use Rattle.gate_queue.specs.State.{IsState}
 use Rattle.gate_queue.specs.declared.batch.Branch.TheVariants.{Staging}
 use Rattle.gate_queue.specs.declared.reply.Head.{Head}
@@ -23,23 +23,10 @@ pub record Entry : Type 0 where
   pub act : Act
   pub reply : Reply
 
--- What has happened: an entry that acted is its act and then its orders, and one that was denied is nothing. The newest
--- event stands first. So the moments of a history are those after each event: an order comes after its act.
+-- What has happened, in events. The newest stands first.
 pub data Event : Type 0 where
   did : Act → Event
   gave : Order → Event
-
-abbrev pub given : List Event → List Order → List Event
-given events [] = events
-given events (order ∷ orders) = given (gave order ∷ events) orders
-
-abbrev pub happened : List Event → Act → Reply → List Event
-happened events act (Done orders) = given (did act ∷ events) orders
-happened events act (Denied rule) = events
-
-abbrev pub events_of : List Entry → List Event
-events_of [] = []
-events_of (entry ∷ history) = happened (events_of history) entry.act entry.reply
 
 -- LOOKING BACK, by two words; each test is given an event and what happened before it
 -- what the last event says that says anything
@@ -302,7 +289,7 @@ standing_back events change = since
 abbrev pub approvers_back : List Event → ℕ → Option (List (List ℕ))
 approvers_back events change = if standing_back events change then last_of (said_on change approval_said) events else None
 
--- A CHANGE that was opened, with all that the history says of it
+-- A CHANGE that was opened, with all that the history says of it; none is tried yet
 abbrev pub change_of : List Event → ℕ → List ℕ → Change
 change_of events change author = record {
   author = author;
@@ -313,6 +300,7 @@ change_of events change author = record {
   reviews = reviews_back events change;
   delegates = delegates_back events change;
   approved = approvers_back events change;
+  trying = false;
   landing = landing_back events change;
   last = repeat_back events change;
 }
@@ -475,6 +463,20 @@ look_back events = record {
   base = base_back events;
   clock = clock_back events;
 }
+
+-- WHAT HAS HAPPENED: an entry that acted is what its act means, and then its orders; one that was denied is nothing. So the
+-- moments of a history are those after each event: an order comes after its act.
+abbrev pub given : List Event → List Order → List Event
+given events [] = events
+given events (order ∷ orders) = given (gave order ∷ events) orders
+
+abbrev pub happened : List Event → Act → Reply → List Event
+happened events act (Done orders) = given (did (meaning (look_back events) act) ∷ events) orders
+happened events act (Denied rule) = events
+
+abbrev pub events_of : List Entry → List Event
+events_of [] = []
+events_of (entry ∷ history) = happened (events_of history) entry.act entry.reply
 
 -- the rule that denies an act, read on the history
 abbrev pub rule_back : List Entry → Act → Option Rule

@@ -1,5 +1,5 @@
 -- LANES: the batches of a branch in order of service, and what is done to them.
-use Rattle.std.specs.Prelude.{ℕ, ◌+◌, ◌/◌, suc, nat_lt, int_lt, ℤ, Bool, true, false, not, ◌&&◌, ◌==◌, List, [], ◌∷◌, ◌++◌, length, map, take, drop, slice_get, slice_set, Option, Some, None, is_some, if◌then◌else◌}
+use Rattle.std.specs.Prelude.{ℕ, ◌+◌, ◌/◌, suc, nat_lt, int_lt, ℤ, pos, Bool, true, false, not, ◌&&◌, ◌==◌, List, [], ◌∷◌, ◌++◌, length, map, take, drop, slice_get, slice_set, Option, Some, None, is_some, if◌then◌else◌}
 use Rattle.std.proofs.Math.Bool.{beq}
 use Rattle.std.specs.FinMap as finite
 use Rattle.std.specs.Bool.{then_some}
@@ -7,7 +7,7 @@ use Rattle.std.specs.List.{filter, find, insert, list_all, position}
 use Rattle.std.specs.Option.{option_map, option_map_or, option_or, unwrap_or}
 use Rattle.std.specs.Ordering.{int_eq}
 use Rattle.gate_queue.specs.declared.batch.Batch.{Batch}
-use Rattle.gate_queue.specs.declared.batch.Branch.TheVariants.{Staging}
+use Rattle.gate_queue.specs.declared.batch.Branch.TheVariants.{Staging, Trying}
 use Rattle.gate_queue.specs.declared.batch.Report.{Report}
 use Rattle.gate_queue.specs.declared.batch.Stage.{Stage}
 use Rattle.gate_queue.specs.declared.batch.Stage.TheVariants as stage
@@ -45,6 +45,17 @@ fresh number priority change = record {
   number = number;
   branch = Staging;
   priority = priority;
+  again = false;
+  stage = stage.Waiting;
+  changes = change ∷ [];
+}
+
+-- a try: one change alone, on the other branch and under priority 0
+abbrev pub try_of : ℕ → ℕ → Batch
+try_of number change = record {
+  number = number;
+  branch = Trying;
+  priority = pos 0;
   again = false;
   stage = stage.Waiting;
   changes = change ∷ [];
@@ -92,6 +103,10 @@ enqueued size number priority change lane = record lane { waiting = entered numb
 
 abbrev pub enqueue_uses : Option ℕ → ℤ → Lane → ℕ
 enqueue_uses size priority lane = if is_some (joins size priority lane.waiting) then 0 else 1
+
+-- TRY: it is a batch of its own in any case
+abbrev pub tried : ℕ → ℕ → Lane → Lane
+tried number change lane = record lane { waiting = placed (try_of number change) lane.waiting }
 
 -- BACK: a batch that has changes waits again, under a number that is used then; an empty one is none
 abbrev pub has_changes : Batch → Bool

@@ -8,7 +8,7 @@ use Rattle.std.specs.List.{fold, filter_map, list_all, list_any}
 use Rattle.std.specs.Option.{option_map, option_map_or, option_and_then, option_or}
 use Rattle.std.specs.Ordering.{int_eq, nat_cmp}
 use Rattle.std.specs.Str.{bytes_eq}
-use Rattle.gate_queue.specs.Vocabulary.{SettingsView, settings_of, fault_number, same_settings, Command, Ping, Approve, ApproveFor, Withdraw, Priority, Try, TryCancel, DelegateAuthor, DelegateTo, DelegateNone, Retry, Known, Unknown, SettingsFault, Look, asks, is_known, is_open, is_landed, is_member, is_blocked, has_too_few_reviews, first_failing, DeskView, empty_desk, with_role, with_change, with_settings, with_base, with_clock, with_ended, numbers_where, ended_if, without_approval, look, Change, Repeat, Nobody, Rule, UnknownChange, NotOpen, AlreadyOpen, ChangeLanded, StaleHead, NotMember, OwnChange, BadSettings, ClockBack, NoSuchBatch, SameAsBase, Act, Spoken, Role, Settings, Base, Opened, Pushed, Closed, Labeled, Unlabeled, Review, Staged, Conflict, Status, Refused, Tick, StatusState, Success, Failure, Error, Pending, Order, Stage, Land, Notice, Reply, Done, Denied, Why, State, Outcome}
+use Rattle.gate_queue.specs.Vocabulary.{SettingsView, settings_of, fault_number, same_settings, Command, Ping, Approve, ApproveFor, Withdraw, Priority, Try, TryCancel, DelegateAuthor, DelegateTo, DelegateNone, Retry, Known, Unknown, SpokenOf, SettingsFault, Look, asks, last_command, is_known, is_open, is_landed, is_member, is_blocked, has_too_few_reviews, first_failing, DeskView, empty_desk, with_role, with_change, with_settings, with_base, with_clock, with_ended, numbers_where, ended_if, without_approval, look, Change, Repeat, Nobody, Rule, UnknownChange, NotOpen, AlreadyOpen, ChangeLanded, StaleHead, NotMember, OwnChange, BadSettings, ClockBack, NoSuchBatch, SameAsBase, Act, Spoken, Role, Settings, Base, Opened, Pushed, Closed, Labeled, Unlabeled, Review, Staged, Conflict, Status, Refused, Tick, StatusState, Success, Failure, Error, Pending, Order, Stage, Land, Notice, Reply, Done, Denied, Why, State, Outcome}
 use Rattle.gate_rules.specs.Rules as rules
 use Rattle.gate_rules.specs.declared.change.Phase.TheVariants as phase
 use Rattle.gate_rules.specs.declared.change.Repeat.TheVariants as repeat
@@ -62,9 +62,15 @@ review_row s change person head =
     ∷ asks (not (is_author s change person)) OwnChange
     ∷ [])
 
+-- `try` and `try-` are still to come: a line that says so counts as no command.
+abbrev pub understood : SpokenOf → SpokenOf
+understood (Known Try) = Unknown
+understood (Known TryCancel) = Unknown
+understood spoken = spoken
+
 -- what an act is judged by, in order
 abbrev pub row : Look → Act → List (Option Rule)
-row s (Spoken change person spoken) = rules.line_row s person change spoken
+row s (Spoken change person spoken) = rules.line_row s person change (understood spoken)
 row s (Role person role) = []
 row s (Settings text) = bad_settings (settings_of text) ∷ []
 row s (Base commit) = asks (not (is_base s commit)) SameAsBase ∷ []
@@ -125,6 +131,22 @@ abbrev pub RefusalMayWantMemory : Act → Option Rule → Type 0
 RefusalMayWantMemory (Settings text) rule = ⊤
 RefusalMayWantMemory act rule = rules.MayWantMemory rule
 
+-- WHAT AN ACT MEANS: `retry` is the command that it repeats, by the person who writes it. With nothing to repeat it never acts.
+-- A `try` is still to come, so no history has one to repeat.
+abbrev pub repeated : Option Repeat → Command
+repeated None = Retry
+repeated (Some repeat.Approve) = Approve
+repeated (Some (repeat.ApproveFor names)) = ApproveFor names
+repeated (Some repeat.Try) = Retry
+
+abbrev pub meant : Look → ℕ → Command → Command
+meant s change Retry = repeated (last_command s change)
+meant s change command = command
+
+abbrev pub meaning : Look → Act → Act
+meaning s (Spoken change person (Known command)) = Spoken change person (Known (meant s change command))
+meaning s act = act
+
 -- WHAT AN ACT DOES TO ITS CHANGE
 abbrev pub approved_by : List (List ℕ) → Repeat → Change → Change
 approved_by approvers last change = record change { approved = Some approvers; last = Some last }
@@ -151,6 +173,7 @@ just_opened author head = record {
   reviews = set.empty;
   delegates = set.empty;
   approved = None;
+  trying = false;
   landing = false;
   last = None;
 }
@@ -218,7 +241,7 @@ abbrev pub are_present : DeskView → SettingsView → Bool
 are_present desk settings = option_map_or (λ present. same_settings present settings) desk.settings false
 
 -- AN ACT ABOUT A CHANGE, on the desk and if no rule denies it
--- `ping` does nothing, and an unknown line or a command that is still to come never acts.
+-- `ping` does nothing. An unknown line never acts, and neither do `try` and `try-` yet; a `retry` acts as what it repeats.
 abbrev pub command_effect : DeskView → List ℕ → ℕ → Command → DeskView
 command_effect desk person change Approve = altered desk change (approved_by (person ∷ []) repeat.Approve)
 command_effect desk person change (ApproveFor names) = altered desk change (approved_by names (repeat.ApproveFor names))
@@ -281,9 +304,9 @@ all_but change other = not (other == change)
 abbrev pub followed : Bool → Bool → Bool → Option ℕ → ℤ → ℕ → Queue → Queue
 followed false false moved size priority change queue = queue
 followed false true moved size priority change queue = enqueued size priority change queue
-followed true false moved size priority change queue = taken_out (all_but change) queue
+followed true false moved size priority change queue = taken_out Staging (all_but change) queue
 followed true true false size priority change queue = queue
-followed true true true size priority change queue = enqueued size priority change (taken_out (all_but change) queue)
+followed true true true size priority change queue = enqueued size priority change (taken_out Staging (all_but change) queue)
 
 abbrev pub followed_on : DeskView → DeskView → ℕ → Queue → Queue
 followed_on old new change queue =
@@ -313,7 +336,7 @@ about s change act = record {
 -- NEW SETTINGS take the place of the present ones, and end the approvals that they are against. The queue loses what isn't
 -- approved any longer, and then the running batch waits again.
 abbrev pub resettled : DeskView → Queue → Queue
-resettled desk queue = restarted Staging (taken_out (approved_on desk) queue)
+resettled desk queue = restarted Staging (taken_out Staging (approved_on desk) queue)
 
 abbrev pub settings_notices : List ℕ → List Order
 settings_notices numbers = map (λ number. Notice number why.Settings) numbers
@@ -406,7 +429,8 @@ abbrev pub told : List ℕ → StatusState → State → Outcome
 told name state s = if is_required s.desk.settings name then told_of name state s else quiet s
 
 -- THE RUNNING BATCH GOES BACK: the base is new, or the host refuses to land it. If it was landing, its changes no longer are;
--- they have landed if the new base is the commit that was to land. Those of its changes that are approved then wait again.
+-- they have landed if the new base is the commit that was to land. Those of its changes that are approved then wait again, which
+-- is all of them if it wasn't landing.
 abbrev pub landed : Change → Change
 landed change = record change { phase = phase.Landed; approved = None; landing = false }
 
@@ -495,7 +519,7 @@ CommandTakesNoMemory DelegateAuthor = ⊥
 CommandTakesNoMemory (DelegateTo names) = ⊥
 CommandTakesNoMemory Try = ⊤
 CommandTakesNoMemory TryCancel = ⊤
-CommandTakesNoMemory Retry = ⊤
+CommandTakesNoMemory Retry = ⊥
 
 -- on the desk
 abbrev pub DeskTakesNoMemory : DeskView → Act → Type 0
@@ -534,20 +558,23 @@ QueueTakesNoMemory s (Refused batch) = is_none s.queue.staging.running ≡ true
 QueueTakesNoMemory s (Tick now) = (has_overdue now s ≡ false) × (stage_orders s.desk s.queue.staging.running s.queue.staging.waiting ≡ [])
 QueueTakesNoMemory s act = option_map_or (is_unmoved_on s.desk (effect s.desk act)) (subject act) true ≡ true
 
--- A STEP: an act that a rule denies is answered the first that does, and changes nothing.
+-- A STEP: an act that a rule denies is answered the first that does, and changes nothing. Any other does what it means.
+abbrev pub acted : State → Act → Outcome
+acted s act = done s (meaning (look s.desk) act)
+
 abbrev pub answered : Option Rule → List Order → Reply
 answered None orders = Done orders
 answered (Some rule) orders = Denied rule
 
 abbrev pub reply_to : State → Act → Reply
-reply_to s act = answered (denial s act) (done s act).orders
+reply_to s act = answered (denial s act) (acted s act).orders
 
 abbrev pub unless_denied : Option Rule → State → State → State
 unless_denied None before done = done
 unless_denied (Some rule) before done = before
 
 abbrev pub after : State → Act → State
-after s act = unless_denied (denial s act) s (done s act).state
+after s act = unless_denied (denial s act) s (acted s act).state
 
 abbrev pub Step : State → Act → Reply → State → Type 0
 Step s act reply t = (reply ≡ reply_to s act) × (t ≡ after s act)

@@ -41,13 +41,18 @@ abbrev pub with_lane : Branch → Lane → ℕ → Queue → Queue
 with_lane Staging lane used queue = record queue { staging = lane; next = queue.next + used }
 with_lane Trying lane used queue = record queue { trying = lane; next = queue.next + used }
 
--- WHAT IS DONE to a queue: the same to one lane, under the next number. What is approved is queued and taken out on `Staging`.
+-- WHAT IS DONE to a queue: the same to one lane, under the next number. What is approved is queued on `Staging`, and a try on
+-- `Trying`.
 abbrev pub enqueued : Option ℕ → ℤ → ℕ → Queue → Queue
 enqueued size priority change queue =
     with_lane Staging (lanes.enqueued size queue.next priority change queue.staging) (lanes.enqueue_uses size priority queue.staging) queue
 
-abbrev pub taken_out : (ℕ → Bool) → Queue → Queue
-taken_out stays queue = with_lane Staging (lanes.taken_out stays queue.next queue.staging) (lanes.taken_out_uses stays queue.staging) queue
+abbrev pub tried : ℕ → Queue → Queue
+tried change queue = with_lane Trying (lanes.tried queue.next change queue.trying) 1 queue
+
+abbrev pub taken_out : Branch → (ℕ → Bool) → Queue → Queue
+taken_out branch stays queue =
+    with_lane branch (lanes.taken_out stays queue.next (lane_of branch queue)) (lanes.taken_out_uses stays (lane_of branch queue)) queue
 
 abbrev pub restarted : Branch → Queue → Queue
 restarted branch queue = with_lane branch (lanes.restarted queue.next (lane_of branch queue)) (lanes.restarted_uses (lane_of branch queue)) queue

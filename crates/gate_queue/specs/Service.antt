@@ -1,11 +1,12 @@
 -- THE ORDER OF SERVICE of a lane, and the numbers of its batches, after all that is done to it.
-use Rattle.std.specs.Prelude.{◌≡◌, ◌≤◌, ℕ, ◌+◌, nat_lt, nat_le, ℤ, Bool, true, ◌&&◌, List, Option, if◌then◌else◌}
-use Rattle.std.specs.List.{AllPairs}
+use Rattle.std.specs.Prelude.{◌≡◌, ◌≤◌, ℕ, ◌+◌, nat_lt, nat_le, ℤ, Bool, true, false, ◌&&◌, List, length, Option, IfSome, if◌then◌else◌}
+use Rattle.std.specs.List.{All, AllPairs}
 use Rattle.gate_queue.specs.Counts.{uses}
-use Rattle.gate_queue.specs.Lanes.{batches_of, goes_before, placed, left, enqueued, enqueue_uses, taken_out, taken_out_uses, restarted, restarted_uses, requeued, requeued_uses, failed, failed_uses, started, staged, reported, landing, dropped}
+use Rattle.gate_queue.specs.Lanes.{batches_of, goes_before, placed, left, is_landing, enqueued, enqueue_uses, tried, taken_out, taken_out_uses, restarted, restarted_uses, requeued, requeued_uses, failed, failed_uses, started, staged, reported, landing, dropped}
 use Rattle.gate_queue.specs.declared.batch.Batch.{Batch}
 use Rattle.gate_queue.specs.declared.batch.Report.{Report}
 use Rattle.gate_queue.specs.declared.lane.Lane.{Lane}
+use Rattle.gate_queue.specs.declared.queue.Queue.{Queue}
 
 -- Each batch goes before all that are behind it.
 abbrev pub IsInService : List Batch → Type 0
@@ -28,6 +29,7 @@ pub record IsInOrder (next : ℕ) (lane : Lane) : Type 0 where
 -- It stays so, whatever is done to it.
 pub record StaysInOrder (next : ℕ) (lane : Lane) : Type 0 where
   pub enqueue : (size : Option ℕ) (priority : ℤ) (change : ℕ) → IsInOrder (next + enqueue_uses size priority lane) (enqueued size next priority change lane)
+  pub enqueue_try : (change : ℕ) → IsInOrder (next + 1) (tried next change lane)
   pub take_out : (stays : ℕ → Bool) → IsInOrder (next + taken_out_uses stays lane) (taken_out stays next lane)
   pub restart : IsInOrder (next + restarted_uses lane) (restarted next lane)
   pub requeue : (stays : ℕ → Bool) → IsInOrder (next + requeued_uses stays lane) (requeued stays next lane)
@@ -51,6 +53,7 @@ pub record OnlyNew (next count : ℕ) (lane after : Lane) : Type 0 where
 
 pub record UsesNewNumbers (next : ℕ) (lane : Lane) : Type 0 where
   pub enqueue : (size : Option ℕ) (priority : ℤ) (change : ℕ) → OnlyNew next (enqueue_uses size priority lane) lane (enqueued size next priority change lane)
+  pub enqueue_try : (change : ℕ) → OnlyNew next 1 lane (tried next change lane)
   pub take_out : (stays : ℕ → Bool) → OnlyNew next (taken_out_uses stays lane) lane (taken_out stays next lane)
   pub restart : OnlyNew next (restarted_uses lane) lane (restarted next lane)
   pub requeue : (stays : ℕ → Bool) → OnlyNew next (requeued_uses stays lane) lane (requeued stays next lane)
@@ -63,3 +66,31 @@ pub record UsesNewNumbers (next : ℕ) (lane : Lane) : Type 0 where
 
 abbrev pub LawOfNumbers : Type 0
 LawOfNumbers = (next : ℕ) (lane : Lane) → UsesNewNumbers next lane
+
+-- THE QUEUE IN ORDER: both lanes are, and no batch of one has the number of a batch of the other.
+pub record QueueIsInOrder (queue : Queue) : Type 0 where
+  pub staging : IsInOrder queue.next queue.staging
+  pub trying : IsInOrder queue.next queue.trying
+  pub apart : (number : ℕ) → uses number (batches_of queue.staging) + uses number (batches_of queue.trying) ≤ (if nat_lt number queue.next then 1 else 0)
+
+-- A LANE OF SINGLE CHANGES: each batch has exactly one, and none is landing.
+abbrev pub IsAlone : Batch → Type 0
+IsAlone batch = length batch.changes ≡ 1
+
+pub record AreAlone (lane : Lane) : Type 0 where
+  pub waiting : All IsAlone lane.waiting
+  pub running : IfSome lane.running (λ batch. IsAlone batch × (is_landing batch.stage ≡ false))
+
+-- It stays so, whatever may be done to tries. A batch that loses its change or fails is gone, and no number is used for it.
+pub record StaysAlone (number : ℕ) (lane : Lane) : Type 0 where
+  pub enqueue_try : (change : ℕ) → AreAlone (tried number change lane)
+  pub take_out : (stays : ℕ → Bool) → AreAlone (taken_out stays number lane) × (taken_out_uses stays lane ≡ 0)
+  pub restart : AreAlone (restarted number lane)
+  pub fail : (failed number lane ≡ dropped lane) × (failed_uses lane ≡ 0)
+  pub start : (now : ℕ) → AreAlone (started now lane)
+  pub stage : (now : ℕ) (commit : List ℕ) → AreAlone (staged now commit lane)
+  pub report : (name : List ℕ) (report : Report) → AreAlone (reported name report lane)
+  pub drop : AreAlone (dropped lane)
+
+abbrev pub LawOfSingles : Type 0
+LawOfSingles = (number : ℕ) (lane : Lane) → AreAlone lane → StaysAlone number lane

@@ -12,11 +12,12 @@ use Rattle.gate_rules.specs.View.{DeskView, look}
 use Rattle.gate_rules.specs.declared.change.Change.{Change}
 use Rattle.gate_rules.specs.declared.change.Repeat.{Repeat}
 use Rattle.gate_rules.specs.declared.change.Repeat.TheVariants.{Approve, ApproveFor, Try}
-use Rattle.gate_queue.specs.Acts.{IsMoment}
+use Rattle.gate_queue.specs.Acts.{ActKeepsLimits, IsMoment}
 use Rattle.gate_queue.specs.Counts.{held, in_landing, of_any_priority}
 use Rattle.gate_queue.specs.Lanes.{empty_lane, has_changes}
-use Rattle.gate_queue.specs.Machine.{approved_on, landing_on, priority_on, is_required}
-use Rattle.gate_queue.specs.Service.{IsInOrder}
+use Rattle.gate_queue.specs.Machine.{approved_on, landing_on, priority_on, is_required, after}
+use Rattle.gate_queue.specs.Service.{QueueIsInOrder}
+use Rattle.gate_queue.specs.declared.act.Act.{Act}
 use Rattle.gate_queue.specs.declared.batch.Batch.{Batch}
 use Rattle.gate_queue.specs.declared.batch.Branch.TheVariants.{Staging}
 use Rattle.gate_queue.specs.declared.batch.Report.{Report}
@@ -36,7 +37,7 @@ pub record IsChange (settings : Option SettingsView) (base : Option (List ℕ)) 
   pub priority : IsPriority change.priority
   -- only an open change has approvers; they are one or more people, no two the same
   pub opened : is_some change.approved ≡ true → is_open_phase change.phase ≡ true
-  -- a change in a batch has settings that it was approved under, and a base
+  -- if it is approved or landing, there are settings and a base
   pub ready : (is_some change.approved || change.landing) ≡ true → (is_some settings ≡ true) × (is_some base ≡ true)
   pub approvers : IfSome change.approved AreNames
   pub last : RepeatKeepsLimits change.last
@@ -82,8 +83,8 @@ marks_on desk = record { approved = approved_on desk; landing = landing_on desk;
 
 -- THE QUEUE, by the clock, the settings and these marks
 pub record IsQueue (now : ℕ) (settings : Option SettingsView) (marks : Marks) (queue : Queue) : Type 0 where
-  -- the batches on staging are in order, under different numbers below the next one; none is on trying yet
-  pub order : IsInOrder queue.next queue.staging
+  -- the batches of each branch are in order, under different numbers below the next one; none is on trying yet
+  pub order : QueueIsInOrder queue
   pub waiting : All IsWaiting queue.staging.waiting
   pub running : IfSome queue.staging.running (IsRunning now settings)
   pub trying : queue.trying ≡ empty_lane
@@ -96,5 +97,10 @@ pub record IsQueue (now : ℕ) (settings : Option SettingsView) (marks : Marks) 
 -- A STATE
 pub record IsState (s : State) : Type 0 where
   pub desk : IsDesk (look s.desk)
-  pub next : s.queue.next ≤ 9_000_000_000_000_000
+  pub low : 1 ≤ s.queue.next
+  pub high : s.queue.next ≤ 9_000_000_000_000_000
   pub queue : IsQueue s.desk.clock s.desk.settings (marks_on s.desk) s.queue
+
+-- EVERY STATE LEADS TO STATES: if the next number leaves room, an act that keeps its limits leaves a state.
+abbrev pub LawOfStates : Type 0
+LawOfStates = (s : State) (act : Act) → IsState s → s.queue.next ≤ 8_999_999_999_999_996 → ActKeepsLimits act → IsState (after s act)

@@ -125,6 +125,6 @@ pub struct Batch {
     pub again: bool,
     /// Where it stands.
     pub stage: Stage,
-    /// Its changes, in the order in which they are merged.
+    /// Its changes, in the order in which they are merged; one alone on `Trying`.
     pub changes: Changes,
 }

@@ -20,11 +20,20 @@ pub fn no_orders(alloc: Global) -> Orders
     Orders::from(Vec::new(alloc))
 }
 
-/// One notice.
+/// One order. `AllocError` if there is no memory for it.
+pub fn one_order(alloc: Global, order: Order) -> Result<Orders, AllocError>
+    ensures { IfOk result (λ orders. orders ≡ order ∷ []) }
+{
+    let mut orders = no_orders(alloc);
+    orders.push(order)?;
+    Ok(orders)
+}
+
+/// One notice. `AllocError` if there is no memory for it.
 pub fn one_notice(alloc: Global, change: ChangeNo, why: Why) -> Result<Orders, AllocError>
     ensures { IfOk result (λ orders. orders ≡ Notice change why ∷ []) }
 {
-    Ok(Orders::from(vec![in alloc; Order::Notice { change, why }]?))
+    one_order(alloc, Order::Notice { change, why })
 }
 
 // A notice, if an approval has ended.
@@ -205,6 +214,7 @@ fn just_opened(alloc: Global, author: Name, head: Commit) -> Change
         reviews: NameSet::new(alloc),
         delegates: NameSet::new(alloc),
         approved: None,
+        trying: false,
         landing: false,
         last: None,
     }

@@ -6,7 +6,7 @@ ghost use Rattle.gate_queue.specs.Acts.{ActKeepsLimits, IsMoment};
 ghost use Rattle.gate_queue.specs.History.{Entry, Legal, EntryTells, entry_of};
 ghost use Rattle.gate_queue.specs.Machine.{DeskTakesNoMemory, QueueTakesNoMemory, RefusalMayWantMemory, Step, denial, empty_state};
 ghost use Rattle.gate_queue.specs.Queue as queue_specs;
-ghost use Rattle.gate_queue.specs.Service.{IsInOrder};
+ghost use Rattle.gate_queue.specs.Service.{QueueIsInOrder};
 ghost use Rattle.gate_queue.specs.State.{IsState};
 ghost use Rattle.gate_queue.specs.declared.reply.Reply.TheVariants.{Denied};
 
@@ -131,7 +131,7 @@ impl Gate {
     /// priority, then retried before fresh, then smaller number. `AllocError` if there is no memory for them.
     pub fn queue(&self, alloc: Global) -> Result<Vec<u64>, AllocError>
         ensures value { IfOk result (λ numbers. numbers.items ≡ queue_specs.numbers_of self.now.queue) }
-        ensures order { IsInOrder self.now.queue.next self.now.queue.staging }
+        ensures order { QueueIsInOrder self.now.queue }
     {
         self.state.queue.numbers(alloc)
     }
@@ -146,14 +146,15 @@ impl Gate {
     /// The number of the next batch.
     pub fn next(&self) -> u64
         ensures value { result ≡ self.now.queue.next }
-        ensures limit { result ≤ 9_000_000_000_000_000 }
+        ensures low { 1 ≤ result }
+        ensures high { result ≤ 9_000_000_000_000_000 }
     {
         self.state.queue.next
     }
 }
 
-/// The law of the first history: the one without entries is legal to an empty state with a next number up to
+/// The law of the first history: the one without entries is legal to an empty state with a next number from 1 to
 /// 9,000,000,000,000,000, as `Gate::new` and `Gate::starting_at` show one.
 pub fn empty_history_is_legal()
-    ensures { (next : ℕ) → next ≤ 9_000_000_000_000_000 → Legal [] (empty_state next) }
+    ensures { (next : ℕ) → 1 ≤ next → next ≤ 9_000_000_000_000_000 → Legal [] (empty_state next) }
 {}

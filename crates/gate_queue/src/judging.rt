@@ -1,6 +1,6 @@
 ghost use Rattle.std.specs.Prelude.{◌≡◌, [], IfOk, IfErr, IsOk};
 ghost use Rattle.gate_text.specs.Settings.{settings_of};
-ghost use Rattle.gate_rules.specs.Rules.{first_failing};
+ghost use Rattle.gate_rules.specs.Rules.{MayWantMemory, first_failing};
 ghost use Rattle.gate_rules.specs.View.{look};
 ghost use Rattle.gate_queue.specs.Machine as machine;
 ghost use Rattle.gate_queue.specs.Machine.{RefusalMayWantMemory, DeskTakesNoMemory, denial, bad_settings, is_ordered, is_staged_with, of_open_change, opening_row, review_row, row};
@@ -11,7 +11,7 @@ use crate::batch::Stage;
 use crate::queue::Queue;
 use crate::waiting::is_landing;
 use gate_rules::{Desk, Rule};
-use gate_text::{ChangeNo, Commit, Name, SettingsFault, Text, read_settings};
+use gate_text::{ChangeNo, Command, Commit, Name, SettingsFault, Spoken, Text, read_settings};
 use std::alloc::{AllocError, Global};
 
 /// The rule that denies an act: the first of its row that fails, and nothing if all hold. `AllocError` if there is
@@ -31,7 +31,7 @@ pub fn rule_of(
             change,
             person,
             spoken,
-        } => desk.rule(alloc, person, *change, spoken),
+        } => line_rule(desk, alloc, person, *change, spoken),
         Act::Role { .. } => Ok(None),
         Act::Settings { text } => settings_rule(alloc, text),
         Act::Base { commit } => Ok(base_rule(desk, *commit)),
@@ -56,6 +56,25 @@ pub fn rule_of(
         Act::Status { .. } | Act::Refused { .. } => Ok(None),
         Act::Tick { now } if *now < desk.clock() => Ok(Some(Rule::ClockBack)),
         Act::Tick { .. } => Ok(None),
+    }
+}
+
+// The rule on what a person says; `try` and `try-` are still to come.
+fn line_rule(
+    desk: &Desk,
+    alloc: Global,
+    person: &Name,
+    change: ChangeNo,
+    spoken: &Spoken,
+) -> Result<Option<Rule>, AllocError>
+    ensures value { IfOk result (λ rule. rule ≡ first_failing (row (look desk.now) (act.Spoken change person.now spoken.now))) }
+    ensures cause { IfErr result (λ _. MayWantMemory (first_failing (row (look desk.now) (act.Spoken change person.now spoken.now)))) }
+{
+    match spoken {
+        Spoken::Known(Command::Try | Command::TryCancel) => {
+            desk.rule(alloc, person, change, &Spoken::Unknown)
+        }
+        _ => desk.rule(alloc, person, change, spoken),
     }
 }
 

@@ -6,7 +6,8 @@ ghost use Rattle.gate_queue.specs.Lanes as lanes;
 use crate::batch::{Batch, Report, Reports, Stage};
 use crate::choice::Choice;
 use crate::waiting::{
-    MAX_NUMBER, enter, has_all, has_several, is_landing, keep, left, put_back, split_into,
+    MAX_NUMBER, enter, enter_alone, has_all, has_several, is_landing, keep, left, put_back,
+    split_into,
 };
 use gate_text::{ChangeNo, Commit, Context, List};
 use std::alloc::{AllocError, Global};
@@ -64,6 +65,22 @@ impl Lane {
         let used = enter(&mut waiting, alloc, number, priority, change, size)?;
         let waiting = Batches::from(waiting);
         Ok((Lane { running, waiting }, used))
+    }
+
+    /// Queues a change as a batch of its own on `Trying`, under `number`. `AllocError` if there is no memory for it.
+    pub fn enqueue_try(
+        self,
+        alloc: Global,
+        number: u64,
+        change: ChangeNo,
+    ) -> Result<Lane, AllocError>
+        ensures value { IfOk result (λ lane. lane ≡ lanes.tried number change self) }
+    {
+        let Lane { running, waiting } = self;
+        let mut waiting = waiting.into_vec();
+        enter_alone(&mut waiting, alloc, number, change)?;
+        let waiting = Batches::from(waiting);
+        Ok(Lane { running, waiting })
     }
 
     /// Lets only the chosen changes stay. A waiting batch keeps its number, and one that is left empty is dropped. A running

@@ -3,7 +3,9 @@ ghost use Rattle.std.specs.Ordering.{int_eq};
 ghost use Rattle.gate_queue.specs.Machine as machine;
 ghost use Rattle.gate_queue.specs.Machine.{approved_on, followed, is_unmoved, priority_on};
 ghost use Rattle.gate_queue.specs.Queue as queue_specs;
+ghost use Rattle.gate_queue.specs.declared.batch.Branch.TheVariants.{Staging};
 
+use crate::batch::Branch;
 use crate::choice::AllBut;
 use crate::queue::Queue;
 use gate_rules::Desk;
@@ -63,7 +65,7 @@ pub fn follow(
             Ok(queue)
         }
     } else if !now.approved {
-        queue.take_out(alloc, &AllBut { change })
+        queue.take_out(alloc, Branch::Staging, &AllBut { change })
     } else if before.priority == now.priority {
         Ok(queue)
     } else {
@@ -80,9 +82,9 @@ fn enqueue_anew(
     priority: i32,
 ) -> Result<Queue, AllocError>
     requires { queue.next ≤ 8_999_999_999_999_996 }
-    ensures { IfOk result (λ after. after ≡ queue_specs.enqueued (machine.size_on desk.now) priority change (queue_specs.taken_out (machine.all_but change) queue)) }
+    ensures { IfOk result (λ after. after ≡ queue_specs.enqueued (machine.size_on desk.now) priority change (queue_specs.taken_out Staging (machine.all_but change) queue)) }
 {
     queue
-        .take_out(alloc, &AllBut { change })?
+        .take_out(alloc, Branch::Staging, &AllBut { change })?
         .enqueue(alloc, change, priority, size_on(desk))
 }

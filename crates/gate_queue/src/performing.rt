@@ -68,7 +68,8 @@ fn perform_command(
 {
     match command {
         Command::Approve => {
-            let approvers = Names::from(vec![in alloc; person.copy(alloc)?]?);
+            let mut approvers = Names::from(Vec::new(alloc));
+            approvers.push(person.copy(alloc)?)?;
             changing::approve(desk, change, approvers, Repeat::Approve);
         }
         Command::ApproveFor(names) => {
@@ -80,7 +81,7 @@ fn perform_command(
         Command::DelegateAuthor => changing::delegate_author(desk, alloc, change)?,
         Command::DelegateTo(names) => changing::delegate_to(desk, alloc, change, names)?,
         Command::DelegateNone => changing::delegate_none(desk, alloc, change),
-        // `ping` does nothing, and the others can't act yet.
+        // `ping` does nothing. A `retry` that acts comes as what it repeats, and the others can't act yet.
         Command::Ping | Command::Try | Command::TryCancel | Command::Retry => {}
     }
     Ok(())

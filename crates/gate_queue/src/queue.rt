@@ -79,22 +79,38 @@ impl Queue {
         })
     }
 
-    /// Lets only the chosen changes stay on `Staging`. `AllocError` if there is no memory for it.
-    pub fn take_out<C: Choice>(self, alloc: Global, choice: &C) -> Result<Queue, AllocError>
+    /// Queues a change as a batch of its own on `Trying`, of priority 0. `AllocError` if there is no memory for it.
+    pub fn enqueue_try(self, alloc: Global, change: ChangeNo) -> Result<Queue, AllocError>
         requires { self.next < MAX_NUMBER }
-        ensures value { IfOk result (λ queue. queue ≡ specs.taken_out (λ change. C.chooses change choice.now) self) }
+        ensures value { IfOk result (λ queue. queue ≡ specs.tried change self) }
     {
         let Queue {
             staging,
             trying,
             next,
         } = self;
-        let (staging, used) = staging.take_out(alloc, next, choice)?;
+        let trying = trying.enqueue_try(alloc, next, change)?;
         Ok(Queue {
             staging,
             trying,
-            next: next + used,
+            next: next + 1,
         })
+    }
+
+    /// Lets only the chosen changes stay on a branch. `AllocError` if there is no memory for it.
+    pub fn take_out<C: Choice>(
+        self,
+        alloc: Global,
+        branch: Branch,
+        choice: &C,
+    ) -> Result<Queue, AllocError>
+        requires { self.next < MAX_NUMBER }
+        ensures value { IfOk result (λ queue. queue ≡ specs.taken_out branch (λ change. C.chooses change choice.now) self) }
+    {
+        let next = self.next;
+        let (lane, other) = lanes_of(self, branch);
+        let (lane, used) = lane.take_out(alloc, next, choice)?;
+        Ok(of_lanes(branch, lane, other, next + used))
     }
 
     /// Lets the running batch of a branch wait again, unless it is landing. `AllocError` if there is no memory for it; if no batch

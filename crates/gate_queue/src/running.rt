@@ -7,7 +7,7 @@ ghost use Rattle.gate_queue.specs.declared.batch.Branch.TheVariants.{Staging};
 use crate::act::StatusState;
 use crate::batch::{Batch, Branch, Report, Reports, Stage};
 use crate::changing;
-use crate::changing::{no_orders, one_notice};
+use crate::changing::{no_orders, one_notice, one_order};
 use crate::choice::Approved;
 use crate::reply::{Order, Orders, Why};
 use crate::state::{Outcome, State, quiet};
@@ -150,7 +150,7 @@ fn land_orders(desk: &Desk, alloc: Global, batch: &Batch) -> Result<Orders, Allo
         base,
         commit: *commit,
     };
-    Ok(Orders::from(vec![in alloc; order]?))
+    one_order(alloc, order)
 }
 
 // Has the running batch land.

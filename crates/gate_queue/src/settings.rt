@@ -4,6 +4,8 @@ ghost use Rattle.gate_queue.specs.Machine as machine;
 ghost use Rattle.gate_queue.specs.Machine.{settings_notices};
 ghost use Rattle.gate_queue.specs.Queue as queue_specs;
 ghost use Rattle.gate_queue.specs.declared.batch.Branch.TheVariants.{Staging};
+ghost use Rattle.gate_queue.specs.declared.reply.Order.TheVariants.{Notice};
+ghost use Rattle.gate_queue.specs.declared.reply.Why.TheVariants as why;
 
 use crate::batch::Branch;
 use crate::choice::Approved;
@@ -75,10 +77,10 @@ fn take_settings(state: State, alloc: Global, settings: Settings) -> Result<Outc
 // Takes out what isn't approved any longer, and lets the running batch wait again.
 fn resettle(queue: Queue, alloc: Global, desk: &Desk) -> Result<Queue, AllocError>
     requires { queue.next ≤ 8_999_999_999_999_996 }
-    ensures { IfOk result (λ after. after ≡ queue_specs.restarted Staging (queue_specs.taken_out (machine.approved_on desk.now) queue)) }
+    ensures { IfOk result (λ after. after ≡ queue_specs.restarted Staging (queue_specs.taken_out Staging (machine.approved_on desk.now) queue)) }
 {
     queue
-        .take_out(alloc, &Approved { desk })?
+        .take_out(alloc, Branch::Staging, &Approved { desk })?
         .restart(Branch::Staging)
 }
 
@@ -88,10 +90,16 @@ fn notices_to(alloc: Global, numbers: &[ChangeNo]) -> Result<Orders, AllocError>
 {
     let mut notices = Vec::new(alloc);
     for number in numbers {
-        notices.push(Order::Notice {
-            change: *number,
-            why: Why::Settings,
-        })?;
+        notices.push(settings_notice(*number))?;
     }
     Ok(Orders::from(notices))
+}
+
+fn settings_notice(change: ChangeNo) -> Order
+    ensures { result ≡ Notice change why.Settings }
+{
+    Order::Notice {
+        change,
+        why: Why::Settings,
+    }
 }

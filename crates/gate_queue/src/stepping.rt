@@ -12,6 +12,7 @@ use crate::batch::Branch;
 use crate::judging::rule_of;
 use crate::marks::{follow, mark_on};
 use crate::performing::perform;
+use crate::repeating::repeated_act;
 use crate::reply::{Reply, Why};
 use crate::running::{give_up, send_back, take_status};
 use crate::settings::accept_settings;
@@ -30,11 +31,24 @@ pub fn step(state: State, alloc: Global, act: &Act) -> Result<(State, Reply), Al
     if let Some(rule) = rule_of(&state.desk, &state.queue, alloc, act)? {
         return Ok((state, Reply::Denied(rule)));
     }
-    let outcome = act_on(state, alloc, act)?;
+    let outcome = act_as_meant(state, alloc, act)?;
     Ok((outcome.state, Reply::Done(outcome.orders)))
 }
 
-// What an act comes to that no rule denies.
+// What an act that no rule denies comes to. A `retry` comes to what the repeated command does.
+fn act_as_meant(state: State, alloc: Global, act: &Act) -> Result<Outcome, AllocError>
+    requires room { state.queue.next ≤ 8_999_999_999_999_996 }
+    requires holds { IsNone (denial state act.now) }
+    ensures value { IfOk result (λ outcome. outcome ≡ machine.acted state act.now) }
+    ensures no_memory { DeskTakesNoMemory state.desk act.now → QueueTakesNoMemory state act.now → IsOk result }
+{
+    match repeated_act(&state.desk, alloc, act)? {
+        Some(repeated) => act_on(state, alloc, &repeated),
+        None => act_on(state, alloc, act),
+    }
+}
+
+// What an act comes to that no rule denies and that means itself.
 fn act_on(state: State, alloc: Global, act: &Act) -> Result<Outcome, AllocError>
     requires room { state.queue.next ≤ 8_999_999_999_999_996 }
     requires holds { IsNone (denial state act.now) }

@@ -4,7 +4,7 @@ ghost use Rattle.gate_rules.specs.View.{with_clock};
 ghost use Rattle.gate_queue.specs.Machine as machine;
 
 use crate::batch::{Batch, Branch, Stage};
-use crate::changing::no_orders;
+use crate::changing::{no_orders, one_order};
 use crate::lane::Lane;
 use crate::reply::{Head, Heads, Order, Orders, Why};
 use crate::running::give_up;
@@ -122,7 +122,7 @@ fn stage_order(desk: &Desk, alloc: Global, batch: &Batch) -> Result<Orders, Allo
         base,
         heads,
     };
-    Ok(Orders::from(vec![in alloc; order]?))
+    one_order(alloc, order)
 }
 
 // The known ones of these changes, with their heads.

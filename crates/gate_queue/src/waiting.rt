@@ -125,6 +125,32 @@ pub(crate) fn enter(
     }
 }
 
+// A batch of this change alone, on `Trying`.
+fn try_of(alloc: Global, number: u64, change: ChangeNo) -> Result<Batch, AllocError>
+    ensures { IfOk result (λ batch. batch ≡ lanes.try_of number change) }
+{
+    Ok(Batch {
+        number,
+        branch: Branch::Trying,
+        priority: 0,
+        again: false,
+        stage: Stage::Waiting,
+        changes: Changes::from(vec![in alloc; change]?),
+    })
+}
+
+// Puts a change among the waiting batches, as a batch of its own on `Trying`.
+pub(crate) fn enter_alone(
+    waiting: &mut Vec<Batch>,
+    alloc: Global,
+    number: u64,
+    change: ChangeNo,
+) -> Result<(), AllocError>
+    ensures { OnOk result (waiting.new.items ≡ lanes.placed (lanes.try_of number change) waiting.old.items) }
+{
+    place(waiting, try_of(alloc, number, change)?)
+}
+
 fn has_changes(batch: &Batch) -> bool
     ensures { result ≡ lanes.has_changes batch.now }
 {

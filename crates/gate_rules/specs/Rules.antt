@@ -21,7 +21,7 @@ use Rattle.gate_rules.specs.declared.role.Role.TheVariants as role
 use Rattle.gate_rules.specs.declared.role.Level.{Level}
 use Rattle.gate_rules.specs.declared.role.Level.TheVariants as level
 use Rattle.gate_rules.specs.declared.rule.Rule.{Rule}
-use Rattle.gate_rules.specs.declared.rule.Rule.TheVariants.{UnknownChange, NotACommand, NotPermitted, NotOpen, Landing, NoSettings, NoBase, AlreadyApproved, NotApproved, Blocked, TooFewReviews}
+use Rattle.gate_rules.specs.declared.rule.Rule.TheVariants.{UnknownChange, NotACommand, NotPermitted, NotOpen, NothingToRetry, Landing, NoSettings, NoBase, AlreadyApproved, NotApproved, AlreadyTrying, NotTrying, Blocked, TooFewReviews}
 
 -- WHAT THE RULES READ: roles, the changes that were opened, the settings and the base, if there are any, and the clock
 pub record Look : Type 0 where
@@ -50,6 +50,10 @@ admits level.MemberOrDelegate role delegate = is_member role || delegate
 admits level.ReviewerOrDelegate role delegate = is_reviewer role || delegate
 admits level.Reviewer role delegate = is_reviewer role
 
+-- what `retry` repeats on a change: the last command that it may repeat, if there was one
+abbrev pub last_command : Look → ℕ → Option Repeat
+last_command s change = option_and_then (λ c. c.last) (s.change change)
+
 -- the level that `retry` needs: that of the command which it repeats
 abbrev pub need_of_retry : Option Repeat → Level
 need_of_retry None = level.Member
@@ -69,7 +73,7 @@ need s change TryCancel = level.MemberOrDelegate
 need s change DelegateAuthor = level.Reviewer
 need s change (DelegateTo names) = level.Reviewer
 need s change DelegateNone = level.Reviewer
-need s change Retry = need_of_retry (option_and_then (λ c. c.last) (s.change change))
+need s change Retry = need_of_retry (last_command s change)
 
 abbrev pub is_delegate : Look → ℕ → List ℕ → Bool
 is_delegate s change person = option_map_or (λ c. set.contains c.delegates person) (s.change change) false
@@ -91,6 +95,9 @@ is_open s change = option_map_or (λ c. is_open_phase c.phase) (s.change change)
 
 abbrev pub is_approved : Look → ℕ → Bool
 is_approved s change = option_map_or (λ c. is_some c.approved) (s.change change) false
+
+abbrev pub is_trying : Look → ℕ → Bool
+is_trying s change = option_map_or (λ c. c.trying) (s.change change) false
 
 abbrev pub is_landing : Look → ℕ → Bool
 is_landing s change = option_map_or (λ c. c.landing) (s.change change) false
@@ -155,37 +162,53 @@ begins_with_rules s person change command others =
     ∷ asks (is_open s change) NotOpen
     ∷ others
 
--- and those that alter an approval or a priority: an order to land makes both final
+-- and those of a command that ends an approval or alters a priority: an order to land makes both final
 abbrev pub unless_landing : Look → List ℕ → ℕ → Command → List (Option Rule) → List (Option Rule)
 unless_landing s person change command others = begins_with_rules s person change command (asks (not (is_landing s change)) Landing ∷ others)
 
--- the rules of an approval, behind these
+-- the rules of an approval, behind those that it begins with
 abbrev pub approval_rules : Look → ℕ → List (Option Rule)
 approval_rules s change =
-    asks (has_settings s) NoSettings
+    asks (not (is_landing s change)) Landing
+    ∷ asks (has_settings s) NoSettings
     ∷ asks (has_base s) NoBase
     ∷ asks (not (is_approved s change)) AlreadyApproved
     ∷ of_both blocked_rule s.settings (s.change change)
     ∷ of_both too_few_rule s.settings (s.change change)
     ∷ []
 
+-- the rules of a try, behind those that it begins with
+abbrev pub try_rules : Look → ℕ → List (Option Rule)
+try_rules s change =
+    asks (has_settings s) NoSettings
+    ∷ asks (has_base s) NoBase
+    ∷ asks (not (is_trying s change)) AlreadyTrying
+    ∷ []
+
+-- the rules of `retry`, behind those that it begins with: the rules of what it repeats, or `NothingToRetry`
+abbrev pub repeated_rules : Look → ℕ → Option Repeat → List (Option Rule)
+repeated_rules s change None = Some NothingToRetry ∷ []
+repeated_rules s change (Some repeat.Approve) = approval_rules s change
+repeated_rules s change (Some (repeat.ApproveFor names)) = approval_rules s change
+repeated_rules s change (Some repeat.Try) = try_rules s change
+
 -- the rules of a line that is no command
 abbrev pub no_command : Look → ℕ → List (Option Rule)
 no_command s change = asks (is_known s change) UnknownChange ∷ Some NotACommand ∷ []
 
--- what a command on a change is judged by, in order; a command whose rules are still to come counts as no command
+-- what a command on a change is judged by, in order. `retry` begins with rules of its own, whose person is who writes `retry`.
 abbrev pub command_row : Look → List ℕ → ℕ → Command → List (Option Rule)
 command_row s person change Ping = asks (is_known s change) UnknownChange ∷ []
-command_row s person change Approve = unless_landing s person change Approve (approval_rules s change)
-command_row s person change (ApproveFor names) = unless_landing s person change (ApproveFor names) (approval_rules s change)
+command_row s person change Approve = begins_with_rules s person change Approve (approval_rules s change)
+command_row s person change (ApproveFor names) = begins_with_rules s person change (ApproveFor names) (approval_rules s change)
 command_row s person change Withdraw = unless_landing s person change Withdraw (asks (is_approved s change) NotApproved ∷ [])
 command_row s person change (Priority priority) = unless_landing s person change (Priority priority) []
+command_row s person change Try = begins_with_rules s person change Try (try_rules s change)
+command_row s person change TryCancel = begins_with_rules s person change TryCancel (asks (is_trying s change) NotTrying ∷ [])
 command_row s person change DelegateAuthor = begins_with_rules s person change DelegateAuthor []
 command_row s person change (DelegateTo names) = begins_with_rules s person change (DelegateTo names) []
 command_row s person change DelegateNone = begins_with_rules s person change DelegateNone []
-command_row s person change Try = no_command s change
-command_row s person change TryCancel = no_command s change
-command_row s person change Retry = no_command s change
+command_row s person change Retry = begins_with_rules s person change Retry (repeated_rules s change (last_command s change))
 
 -- what a person's line about a change is judged by
 abbrev pub line_row : Look → List ℕ → ℕ → Spoken → List (Option Rule)

@@ -3,18 +3,21 @@ use Rattle.std.specs.Prelude.{ℕ, List, codes}
 use Rattle.gate_rules.specs.declared.role.Level.{Level}
 use Rattle.gate_rules.specs.declared.role.Level.TheVariants.{Anyone, Member, MemberOrDelegate, ReviewerOrDelegate, Reviewer}
 use Rattle.gate_rules.specs.declared.rule.Rule.{Rule}
-use Rattle.gate_rules.specs.declared.rule.Rule.TheVariants.{UnknownChange, NotACommand, NotPermitted, NotOpen, Landing, NoSettings, NoBase, AlreadyApproved, NotApproved, Blocked, TooFewReviews, AlreadyOpen, ChangeLanded, StaleHead, NotMember, OwnChange, BadSettings, ClockBack, NoSuchBatch, SameAsBase}
+use Rattle.gate_rules.specs.declared.rule.Rule.TheVariants.{UnknownChange, NotACommand, NotPermitted, NotOpen, NothingToRetry, Landing, NoSettings, NoBase, AlreadyApproved, NotApproved, AlreadyTrying, NotTrying, Blocked, TooFewReviews, AlreadyOpen, ChangeLanded, StaleHead, NotMember, OwnChange, BadSettings, ClockBack, NoSuchBatch, SameAsBase}
 
 abbrev pub number_of : Rule → ℕ
 number_of UnknownChange = 1
 number_of NotACommand = 2
 number_of (NotPermitted level) = 3
 number_of NotOpen = 4
+number_of NothingToRetry = 5
 number_of Landing = 6
 number_of NoSettings = 7
 number_of NoBase = 8
 number_of AlreadyApproved = 9
 number_of NotApproved = 9
+number_of AlreadyTrying = 9
+number_of NotTrying = 9
 number_of (Blocked label) = 10
 number_of (TooFewReviews have need) = 11
 number_of AlreadyOpen = 12
@@ -32,11 +35,14 @@ word_of UnknownChange = codes "UnknownChange"
 word_of NotACommand = codes "NotACommand"
 word_of (NotPermitted level) = codes "NotPermitted"
 word_of NotOpen = codes "NotOpen"
+word_of NothingToRetry = codes "NothingToRetry"
 word_of Landing = codes "Landing"
 word_of NoSettings = codes "NoSettings"
 word_of NoBase = codes "NoBase"
 word_of AlreadyApproved = codes "AlreadyApproved"
 word_of NotApproved = codes "NotApproved"
+word_of AlreadyTrying = codes "AlreadyTrying"
+word_of NotTrying = codes "NotTrying"
 word_of (Blocked label) = codes "Blocked"
 word_of (TooFewReviews have need) = codes "TooFewReviews"
 word_of AlreadyOpen = codes "AlreadyOpen"

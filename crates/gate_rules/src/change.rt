@@ -57,6 +57,8 @@ pub struct Change {
     pub delegates: NameSet,
     /// The approvers, if the change is approved.
     pub approved: Option<Names>,
+    /// Whether it is being tried: it has a batch on the branch `trying`.
+    pub trying: bool,
     /// Whether the host was ordered to land it, and hasn't answered yet.
     pub landing: bool,
     /// The last command that `retry` would repeat, if there was one.
@@ -85,6 +87,7 @@ impl Change {
             reviews: self.reviews.copy(alloc)?,
             delegates: self.delegates.copy(alloc)?,
             approved,
+            trying: self.trying,
             landing: self.landing,
             last,
         })

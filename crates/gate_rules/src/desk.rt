@@ -204,13 +204,20 @@ impl Desk {
         }
     }
 
+    /// What `retry` repeats on this change: the last command that it may repeat, if there was one.
+    pub fn last_command(&self, change: ChangeNo) -> Option<&Repeat>
+        ensures value { option_copied result ≡ rules.last_command (look self.now) change }
+    {
+        match self.change(change) {
+            Some(change) => change.last.as_ref(),
+            None => None,
+        }
+    }
+
     fn need_of_retry(&self, change: ChangeNo) -> Level
         ensures { result ≡ rules.need (look self.now) change Command.Retry }
     {
-        let Some(change) = self.change(change) else {
-            return Level::Member;
-        };
-        match &change.last {
+        match self.last_command(change) {
             Some(Repeat::Approve | Repeat::ApproveFor(_)) => Level::ReviewerOrDelegate,
             Some(Repeat::Try) => Level::MemberOrDelegate,
             None => Level::Member,

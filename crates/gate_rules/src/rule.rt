@@ -15,6 +15,8 @@ pub enum Rule {
     NotPermitted(Level),
     /// The change is closed or landed.
     NotOpen,
+    /// No `r+`, `r=` or `try` has acted on the change yet, so there is nothing to repeat.
+    NothingToRetry,
     /// The change is landing: its approval and its priority are final.
     Landing,
     /// No settings are accepted yet.
@@ -25,6 +27,10 @@ pub enum Rule {
     AlreadyApproved,
     /// The change isn't approved.
     NotApproved,
+    /// The change is being tried already.
+    AlreadyTrying,
+    /// The change isn't being tried.
+    NotTrying,
     /// The change has this label, the first of those that the settings block.
     Blocked(Label),
     /// The change has fewer reviews, the first number, than the settings ask for, the second, which is 1 to 100.
@@ -59,10 +65,12 @@ impl Rule {
             Rule::NotACommand => 2,
             Rule::NotPermitted(_) => 3,
             Rule::NotOpen => 4,
+            Rule::NothingToRetry => 5,
             Rule::Landing => 6,
             Rule::NoSettings => 7,
             Rule::NoBase => 8,
             Rule::AlreadyApproved | Rule::NotApproved => 9,
+            Rule::AlreadyTrying | Rule::NotTrying => 9,
             Rule::Blocked(_) => 10,
             Rule::TooFewReviews(..) => 11,
             Rule::AlreadyOpen => 12,
@@ -86,11 +94,14 @@ impl Rule {
             Rule::NotACommand => "NotACommand",
             Rule::NotPermitted(_) => "NotPermitted",
             Rule::NotOpen => "NotOpen",
+            Rule::NothingToRetry => "NothingToRetry",
             Rule::Landing => "Landing",
             Rule::NoSettings => "NoSettings",
             Rule::NoBase => "NoBase",
             Rule::AlreadyApproved => "AlreadyApproved",
             Rule::NotApproved => "NotApproved",
+            Rule::AlreadyTrying => "AlreadyTrying",
+            Rule::NotTrying => "NotTrying",
             Rule::Blocked(_) => "Blocked",
             Rule::TooFewReviews(..) => "TooFewReviews",
             Rule::AlreadyOpen => "AlreadyOpen",

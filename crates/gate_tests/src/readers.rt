@@ -117,9 +117,9 @@ pub(crate) fn role(word: &str) -> Role {
 
 fn phase(word: &str) -> Phase {
     match word {
-        "opened" | "landing" => Phase::Opened,
-        "closed" | "closed-landing" => Phase::Closed,
-        _ => Phase::Landed,
+        "closed" | "closed-trying" | "closed-landing" => Phase::Closed,
+        "landed" => Phase::Landed,
+        _ => Phase::Opened,
     }
 }
 
@@ -146,8 +146,8 @@ fn last(rt: &impl Abort, alloc: Global, word: &str) -> Option<Repeat> {
 }
 
 // The change of a text: author, head, phase, priority, labels, reviews, delegates, approvers and last command, with `-` for
-// none. The phase is `opened`, `closed` or `landed`; an open change that is landing has `landing`, and a closed one
-// `closed-landing`.
+// none. The phase is `opened`, `closed` or `landed`; an open change that is trying or landing has `trying`, `landing` or
+// `trying-landing`, and a closed one `closed-trying` or `closed-landing`.
 pub(crate) fn change(rt: &impl Abort, alloc: Global, text: &str) -> Change {
     let (author, rest) = cut(text);
     let (head, rest) = cut(rest);
@@ -166,6 +166,7 @@ pub(crate) fn change(rt: &impl Abort, alloc: Global, text: &str) -> Change {
         reviews: name_set(rt, alloc, reviews),
         delegates: name_set(rt, alloc, delegates),
         approved: approvers(rt, alloc, approver_list),
+        trying: phase_word.contains("trying"),
         landing: phase_word.ends_with("landing"),
         last: last(rt, alloc, last_word),
     }

@@ -3,7 +3,7 @@ ghost use Rattle.gate_rules.specs.Rules as rules;
 ghost use Rattle.gate_rules.specs.View.{look};
 
 use super::Desk;
-use crate::change::{Change, Phase};
+use crate::change::{Change, Phase, Repeat};
 use crate::fitness::blocking_label;
 use crate::rule::Rule;
 use gate_text::{ChangeNo, Command, Name, Settings, Spoken};
@@ -26,6 +26,16 @@ impl Desk {
     {
         match self.change(change) {
             Some(change) => change.approved.is_some(),
+            None => false,
+        }
+    }
+
+    /// Whether the change of this number is on the desk and being tried.
+    pub fn is_trying(&self, change: ChangeNo) -> bool
+        ensures value { result ≡ rules.is_trying (look self.now) change }
+    {
+        match self.change(change) {
+            Some(change) => change.trying,
             None => false,
         }
     }
@@ -97,11 +107,12 @@ impl Desk {
             }
             Command::Withdraw => Ok(self.withdraw_rule(person, change)),
             Command::Priority(_) => Ok(self.rules_unless_landing(person, change, command)),
+            Command::Try => Ok(self.try_rule(person, change)),
+            Command::TryCancel => Ok(self.try_cancel_rule(person, change)),
             Command::DelegateAuthor | Command::DelegateTo(_) | Command::DelegateNone => {
                 Ok(self.first_rules(person, change, command))
             }
-            // The rules of these are still to come.
-            Command::Try | Command::TryCancel | Command::Retry => Ok(Some(Rule::NotACommand)),
+            Command::Retry => self.retry_rule(alloc, person, change),
         }
     }
 
@@ -121,7 +132,7 @@ impl Desk {
         None
     }
 
-    // The same of a command that alters an approval or a priority, which mustn't be landing.
+    // The same of a command that ends an approval or alters a priority: the change mustn't be landing.
     fn rules_unless_landing(
         &self,
         person: &Name,
@@ -149,10 +160,10 @@ impl Desk {
         command: &Command,
     ) -> Result<Option<Rule>, AllocError>
         requires { IsTrue (rules.is_known (look self.now) change) }
-        ensures value { IfOk result (λ rule. rule ≡ rules.first_failing (rules.unless_landing (look self.now) person.now change command.now (rules.approval_rules (look self.now) change))) }
-        ensures cause { IfErr result (λ _. rules.MayWantMemory (rules.first_failing (rules.unless_landing (look self.now) person.now change command.now (rules.approval_rules (look self.now) change)))) }
+        ensures value { IfOk result (λ rule. rule ≡ rules.first_failing (rules.begins_with_rules (look self.now) person.now change command.now (rules.approval_rules (look self.now) change))) }
+        ensures cause { IfErr result (λ _. rules.MayWantMemory (rules.first_failing (rules.begins_with_rules (look self.now) person.now change command.now (rules.approval_rules (look self.now) change)))) }
     {
-        match self.rules_unless_landing(person, change, command) {
+        match self.first_rules(person, change, command) {
             Some(rule) => Ok(Some(rule)),
             None => self.approval_rule(alloc, change),
         }
@@ -170,11 +181,83 @@ impl Desk {
         }
     }
 
-    // The first that fails of the rules of an approval, behind those.
+    // The first rule that fails of a try of a known change.
+    fn try_rule(&self, person: &Name, change: ChangeNo) -> Option<Rule>
+        requires { IsTrue (rules.is_known (look self.now) change) }
+        ensures { result ≡ rules.first_failing (rules.command_row (look self.now) person.now change Command.Try) }
+    {
+        match self.first_rules(person, change, &Command::Try) {
+            Some(rule) => Some(rule),
+            None => self.new_try_rule(change),
+        }
+    }
+
+    // The first rule that fails of the end of a try of a known change.
+    fn try_cancel_rule(&self, person: &Name, change: ChangeNo) -> Option<Rule>
+        requires { IsTrue (rules.is_known (look self.now) change) }
+        ensures { result ≡ rules.first_failing (rules.command_row (look self.now) person.now change Command.TryCancel) }
+    {
+        match self.first_rules(person, change, &Command::TryCancel) {
+            Some(rule) => Some(rule),
+            None if self.is_trying(change) => None,
+            None => Some(Rule::NotTrying),
+        }
+    }
+
+    // The first rule that fails of a `retry` on a known change. Its level is asked of who writes it, and not of who wrote
+    // the command that it repeats.
+    fn retry_rule(
+        &self,
+        alloc: Global,
+        person: &Name,
+        change: ChangeNo,
+    ) -> Result<Option<Rule>, AllocError>
+        requires { IsTrue (rules.is_known (look self.now) change) }
+        ensures value { IfOk result (λ rule. rule ≡ rules.first_failing (rules.command_row (look self.now) person.now change Command.Retry)) }
+        ensures cause { IfErr result (λ _. rules.MayWantMemory (rules.first_failing (rules.command_row (look self.now) person.now change Command.Retry))) }
+    {
+        match self.first_rules(person, change, &Command::Retry) {
+            Some(rule) => Ok(Some(rule)),
+            None => self.repeated_rule(alloc, change),
+        }
+    }
+
+    // The first that fails of the rules of what `retry` repeats, behind those that `retry` begins with.
+    fn repeated_rule(&self, alloc: Global, change: ChangeNo) -> Result<Option<Rule>, AllocError>
+        ensures value { IfOk result (λ rule. rule ≡ rules.first_failing (rules.repeated_rules (look self.now) change (rules.last_command (look self.now) change))) }
+        ensures cause { IfErr result (λ _. rules.MayWantMemory (rules.first_failing (rules.repeated_rules (look self.now) change (rules.last_command (look self.now) change)))) }
+    {
+        match self.last_command(change) {
+            Some(Repeat::Approve | Repeat::ApproveFor(_)) => self.approval_rule(alloc, change),
+            Some(Repeat::Try) => Ok(self.new_try_rule(change)),
+            None => Ok(Some(Rule::NothingToRetry)),
+        }
+    }
+
+    // The first that fails of the rules of a try, behind those that it begins with.
+    fn new_try_rule(&self, change: ChangeNo) -> Option<Rule>
+        ensures { result ≡ rules.first_failing (rules.try_rules (look self.now) change) }
+    {
+        if self.settings.is_none() {
+            return Some(Rule::NoSettings);
+        }
+        if self.base.is_none() {
+            return Some(Rule::NoBase);
+        }
+        if self.is_trying(change) {
+            return Some(Rule::AlreadyTrying);
+        }
+        None
+    }
+
+    // The first that fails of the rules of an approval, behind those that it begins with.
     fn approval_rule(&self, alloc: Global, change: ChangeNo) -> Result<Option<Rule>, AllocError>
         ensures value { IfOk result (λ rule. rule ≡ rules.first_failing (rules.approval_rules (look self.now) change)) }
         ensures cause { IfErr result (λ _. rules.MayWantMemory (rules.first_failing (rules.approval_rules (look self.now) change))) }
     {
+        if self.is_landing(change) {
+            return Ok(Some(Rule::Landing));
+        }
         let Some(settings) = self.settings() else {
             return Ok(Some(Rule::NoSettings));
         };

@@ -45,6 +45,16 @@ fn lane_words(rt: &impl Abort, alloc: Global, lane: &Lane) -> String {
     words
 }
 
+// The batches of staging, and behind a stroke those of trying, if there are any.
+fn queue_words(rt: &impl Abort, alloc: Global, queue: &Queue) -> String {
+    let mut words = lane_words(rt, alloc, &queue.staging);
+    let tries = lane_words(rt, alloc, &queue.trying);
+    if !tries.is_empty() {
+        write!(words, "/ {tries}").expect(rt, "memory");
+    }
+    words
+}
+
 // The number of a word, and 0 for another word.
 fn whole(word: &str) -> u32 {
     word.parse::<u32>().unwrap_or(0)
@@ -77,71 +87,87 @@ fn size_of(word: &str) -> Option<u32> {
     }
 }
 
-// The queue without a change.
-fn without(rt: &impl Abort, alloc: Global, queue: Queue, word: &str) -> Queue {
+// The queue with a try of a change.
+fn with_try(rt: &impl Abort, alloc: Global, queue: Queue, word: &str) -> Queue {
+    let change = number(rt, word);
+    check_numbers(rt, queue.next);
+    queue.enqueue_try(alloc, change).expect(rt, "memory")
+}
+
+// The queue without a change on a branch.
+fn without(rt: &impl Abort, alloc: Global, queue: Queue, branch: Branch, word: &str) -> Queue {
     let but = AllBut {
         change: number(rt, word),
     };
     check_numbers(rt, queue.next);
-    queue.take_out(alloc, &but).expect(rt, "memory")
+    queue.take_out(alloc, branch, &but).expect(rt, "memory")
 }
 
-// The queue with its running batch waiting again, but for one change.
-fn requeued(rt: &impl Abort, queue: Queue, word: &str) -> Queue {
+// The queue with the running batch of a branch waiting again, but for one change.
+fn requeued(rt: &impl Abort, queue: Queue, branch: Branch, word: &str) -> Queue {
     let but = AllBut {
         change: number(rt, word),
     };
     check_numbers(rt, queue.next);
-    queue.requeue(Branch::Staging, &but).expect(rt, "memory")
+    queue.requeue(branch, &but).expect(rt, "memory")
 }
 
-fn failed(rt: &impl Abort, alloc: Global, queue: Queue) -> Queue {
+fn failed(rt: &impl Abort, alloc: Global, queue: Queue, branch: Branch) -> Queue {
     check_numbers(rt, queue.next);
-    queue.fail(alloc, Branch::Staging).expect(rt, "memory")
+    queue.fail(alloc, branch).expect(rt, "memory")
 }
 
-fn restarted(rt: &impl Abort, queue: Queue) -> Queue {
+fn restarted(rt: &impl Abort, queue: Queue, branch: Branch) -> Queue {
     check_numbers(rt, queue.next);
-    queue.restart(Branch::Staging).expect(rt, "memory")
+    queue.restart(branch).expect(rt, "memory")
 }
 
-fn staged(rt: &impl Abort, alloc: Global, queue: Queue) -> Queue {
-    queue.stage(alloc, Branch::Staging, 100, commit(rt, alloc, "d"))
+fn staged(rt: &impl Abort, alloc: Global, queue: Queue, branch: Branch) -> Queue {
+    queue.stage(alloc, branch, 100, commit(rt, alloc, "d"))
 }
 
-// The queue with a report of its running batch: `ci success` or `ci pending`.
-fn reported(rt: &impl Abort, alloc: Global, queue: Queue, text: &str) -> Queue {
+// The queue with a report of the running batch of a branch: `ci success` or `ci pending`.
+fn reported(rt: &impl Abort, alloc: Global, queue: Queue, branch: Branch, text: &str) -> Queue {
     let (name, word) = cut(text);
     let report = match word {
         "success" => Report::Success,
         _ => Report::Pending,
     };
     let name = context(rt, alloc, name);
-    queue
-        .report(Branch::Staging, name, report)
-        .expect(rt, "memory")
+    queue.report(branch, name, report).expect(rt, "memory")
 }
 
-// The queue after what a line says of staging: `add CHANGE PRIORITY SIZE`, `out CHANGE`, `requeue CHANGE` (all but
-// this one), `start`, `stage`, `report NAME STATE`, `restart`, `fail`, `drop` or `land`.
+// The queue after what a line says of a branch: `out CHANGE`, `requeue CHANGE` (all but this one), `start`, `stage`,
+// `report NAME STATE`, `restart`, `fail`, `drop` or `land`.
+fn stepped_on(rt: &impl Abort, alloc: Global, queue: Queue, branch: Branch, line: &str) -> Queue {
+    let (word, rest) = cut(line);
+    match word {
+        "out" => without(rt, alloc, queue, branch, rest),
+        "requeue" => requeued(rt, queue, branch, rest),
+        "fail" => failed(rt, alloc, queue, branch),
+        "restart" => restarted(rt, queue, branch),
+        "start" => queue.start(branch, 100),
+        "stage" => staged(rt, alloc, queue, branch),
+        "report" => reported(rt, alloc, queue, branch, rest),
+        "drop" => queue.drop_running(branch),
+        _ => queue.land(branch),
+    }
+}
+
+// The queue after what a line says: `add CHANGE PRIORITY SIZE`, `try CHANGE`, or what is done on staging; behind the word
+// `trying` what is done there.
 fn stepped(rt: &impl Abort, alloc: Global, queue: Queue, line: &str) -> Queue {
     let (word, rest) = cut(line);
     match word {
         "add" => with_added(rt, alloc, queue, rest),
-        "out" => without(rt, alloc, queue, rest),
-        "requeue" => requeued(rt, queue, rest),
-        "fail" => failed(rt, alloc, queue),
-        "restart" => restarted(rt, queue),
-        "start" => queue.start(Branch::Staging, 100),
-        "stage" => staged(rt, alloc, queue),
-        "report" => reported(rt, alloc, queue, rest),
-        "drop" => queue.drop_running(Branch::Staging),
-        _ => queue.land(Branch::Staging),
+        "try" => with_try(rt, alloc, queue, rest),
+        "trying" => stepped_on(rt, alloc, queue, Branch::Trying, rest),
+        _ => stepped_on(rt, alloc, queue, Branch::Staging, line),
     }
 }
 
-// Each row says what is done to the queue of the row before, and what is on staging then. A line `-` begins with an empty
-// queue.
+// Each row says what is done to the queue of the row before, and what is on the branches then. A line `-` begins with an
+// empty queue.
 fn check(rt: &impl Abort, alloc: Global, table: &str) {
     let mut queue = Queue::new(alloc, 1);
     for row in table.lines() {
@@ -150,7 +176,7 @@ fn check(rt: &impl Abort, alloc: Global, table: &str) {
                 "-" => Queue::new(alloc, 1),
                 line => stepped(rt, alloc, queue, line),
             };
-            let found = lane_words(rt, alloc, &queue.staging);
+            let found = queue_words(rt, alloc, &queue);
             check_words(rt, row, found.as_str().trim_end(), words);
         }
     }
@@ -254,6 +280,46 @@ fn lanes_of_batches(rt: HostRuntime) {
         add 2 3 0 => *1: 1; 2: 2;
         add 3 4 0 => *1: 1; 3: 3; 2: 2;
         restart => 3: 3; 4 again: 1; 2: 2;
+    ";
+    check(&rt, rt.alloc(), table);
+}
+
+#[test]
+fn lanes_of_tries(rt: HostRuntime) {
+    let table = "
+        // A try is a batch of its own, behind those before it. It takes the next number, as a batch on staging does.
+        try 1 => / 1: 1;
+        try 2 => / 1: 1; 2: 2;
+        add 2 5 0 => 3: 2; / 1: 1; 2: 2;
+        try 3 => 3: 2; / 1: 1; 2: 2; 4: 3;
+        add 3 5 0 => 3: 2 3; / 1: 1; 2: 2; 4: 3;
+        try 4 => 3: 2 3; / 1: 1; 2: 2; 4: 3; 5: 4;
+        // What is taken out of one branch stays on the other. A try that is taken out uses no number.
+        trying out 2 => 3: 2 3; / 1: 1; 4: 3; 5: 4;
+        out 3 => 3: 2; / 1: 1; 4: 3; 5: 4;
+        start => *3: 2; / 1: 1; 4: 3; 5: 4;
+        trying start => *3: 2; / *1: 1; 4: 3; 5: 4;
+        trying out 2 => *3: 2; / *1: 1; 4: 3; 5: 4;
+        trying out 1 => *3: 2; / 4: 3; 5: 4;
+        trying start => *3: 2; / *4: 3; 5: 4;
+        trying stage => *3: 2; / +4: 3; 5: 4;
+        trying report ci success => *3: 2; / ++4: 3; 5: 4;
+        trying out 4 => *3: 2; / ++4: 3;
+        trying out 3 => *3: 2;
+        // Whatever waits again does so on its branch, before what is fresh, and a try that fails is dropped.
+        try 5 => *3: 2; / 6: 5;
+        try 6 => *3: 2; / 6: 5; 7: 6;
+        trying start => *3: 2; / *6: 5; 7: 6;
+        trying restart => *3: 2; / 8 again: 5; 7: 6;
+        restart => 9 again: 2; / 8 again: 5; 7: 6;
+        trying start => 9 again: 2; / *8 again: 5; 7: 6;
+        trying fail => 9 again: 2; / 7: 6;
+        out 2 => / 7: 6;
+        trying start => / *7: 6;
+        trying drop =>
+        trying drop =>
+        trying out 6 =>
+        try 6 => / 10: 6;
     ";
     check(&rt, rt.alloc(), table);
 }

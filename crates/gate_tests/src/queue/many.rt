@@ -53,5 +53,7 @@ fn a_change_with_much_to_copy(rt: HostRuntime) {
     let gate = each(&rt, rt.alloc(), gate, 100..200, "review 1 p# a yes");
     let gate = each(&rt, rt.alloc(), gate, 100..164, "labeled 1 l#");
     let gate = for_people(&rt, rt.alloc(), gate, "d=");
-    for_people(&rt, rt.alloc(), gate, "r=");
+    let gate = for_people(&rt, rt.alloc(), gate, "r=");
+    let gate = stepped(&rt, rt.alloc(), gate, "1 alice bors r-", "done");
+    stepped(&rt, rt.alloc(), gate, "1 alice bors retry", "done");
 }

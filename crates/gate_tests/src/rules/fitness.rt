@@ -53,17 +53,20 @@ fn is_copied(rt: &impl Abort, alloc: Global, change: &Change) -> bool {
     change.copy(alloc).expect(rt, "memory") == *change
 }
 
-// Whether a change on the desk, by its number, is open, is approved, is landing, has landed, is the one of this text, and
-// equals its copy.
+// Whether a change on the desk, by its number, is open, is approved, is trying, is landing, has landed, is the one of this
+// text, and equals its copy.
 pub(crate) fn flags(rt: &impl Abort, alloc: Global, desk: &Desk, row: &str) -> String {
     let (number_word, text) = cut(row);
     let number = number(rt, number_word);
     let (open, approved) = (desk.is_open(number), desk.is_approved(number));
-    let (landing, landed) = (desk.is_landing(number), desk.is_landed(number));
+    let (trying, landing) = (desk.is_trying(number), desk.is_landing(number));
+    let landed = desk.is_landed(number);
     let kept = desk.change(number);
     let is_same = is_change(rt, alloc, kept, text);
     let is_copied = is_copied(rt, alloc, kept.expect(rt, "it was put"));
-    let words = format!(in alloc; "{open} {approved} {landing} {landed} {is_same} {is_copied}");
+    let words = format!(in alloc;
+        "{open} {approved} {trying} {landing} {landed} {is_same} {is_copied}"
+    );
     words.expect(rt, "memory")
 }
 
@@ -79,6 +82,9 @@ fn approvals_that_settings_are_against(rt: HostRuntime) {
         "9 carol a landed 0 bug mia,zoe zoe alice,mia r+",
         "11 carol a landing 0 bug mia,zoe - - r+",
         "13 carol a closed-landing 0 bug mia,zoe - - r+",
+        "14 carol a trying 0 hold - - - try",
+        "15 carol a trying-landing 0 bug mia,zoe - - r+",
+        "16 carol a closed-trying 0 bug - - - try",
     ];
     let mut desk = desk(&rt, rt.alloc(), changes.as_slice());
     let before = losing(&rt, rt.alloc(), &desk);
@@ -90,24 +96,30 @@ fn approvals_that_settings_are_against(rt: HostRuntime) {
     let after = losing(&rt, rt.alloc(), &desk);
     check_words(&rt, "after", after.as_str(), "");
     let table = "
-        100 carol a opened 0 bug mia - - r+ => true false false false true true
-        30 carol a opened 0 hold mia,zoe - - r+ => true false false false true true
-        4 carol a opened 0 - - - - r=alice => true false false false true true
-        12 carol a opened 0 bug mia,zoe zoe alice r+ => true true false false true true
-        7 carol a opened 0 hold - - - try => true false false false true true
-        8 carol a closed 0 wip,hold mia - - r+ => false false false false true true
-        9 carol a landed 0 bug mia,zoe zoe alice,mia r+ => false true false true true true
-        11 carol a landing 0 bug mia,zoe - - r+ => true false true false true true
-        13 carol a closed-landing 0 bug mia,zoe - - r+ => false false true false true true
+        100 carol a opened 0 bug mia - - r+ => true false false false false true true
+        30 carol a opened 0 hold mia,zoe - - r+ => true false false false false true true
+        4 carol a opened 0 - - - - r=alice => true false false false false true true
+        12 carol a opened 0 bug mia,zoe zoe alice r+ => true true false false false true true
+        7 carol a opened 0 hold - - - try => true false false false false true true
+        8 carol a closed 0 wip,hold mia - - r+ => false false false false false true true
+        9 carol a landed 0 bug mia,zoe zoe alice,mia r+ => false true false false true true true
+        11 carol a landing 0 bug mia,zoe - - r+ => true false false true false true true
+        13 carol a closed-landing 0 bug mia,zoe - - r+ => false false false true false true true
+        14 carol a trying 0 hold - - - try => true false true false false true true
+        15 carol a trying-landing 0 bug mia,zoe - - r+ => true false true true false true true
+        16 carol a closed-trying 0 bug - - - try => false false true false false true true
         // What is another change in one part alone.
-        12 carol a landing 0 bug mia,zoe zoe alice r+ => true true false false false true
-        11 carol a opened 0 bug mia,zoe - - r+ => true false true false false true
-        12 carol a closed 0 bug mia,zoe zoe alice r+ => true true false false false true
-        12 carol a opened 0 wip mia,zoe zoe alice r+ => true true false false false true
-        12 carol a opened 0 bug mia zoe alice r+ => true true false false false true
-        12 carol a opened 0 bug mia,zoe al alice r+ => true true false false false true
-        12 carol a opened 0 bug mia,zoe zoe zoe r+ => true true false false false true
-        12 carol a opened 0 bug mia,zoe zoe alice try => true true false false false true
+        12 carol a landing 0 bug mia,zoe zoe alice r+ => true true false false false false true
+        11 carol a opened 0 bug mia,zoe - - r+ => true false false true false false true
+        12 carol a closed 0 bug mia,zoe zoe alice r+ => true true false false false false true
+        12 carol a opened 0 wip mia,zoe zoe alice r+ => true true false false false false true
+        12 carol a opened 0 bug mia zoe alice r+ => true true false false false false true
+        12 carol a opened 0 bug mia,zoe al alice r+ => true true false false false false true
+        12 carol a opened 0 bug mia,zoe zoe zoe r+ => true true false false false false true
+        12 carol a opened 0 bug mia,zoe zoe alice try => true true false false false false true
+        14 carol a opened 0 hold - - - try => true false true false false false true
+        7 carol a trying 0 hold - - - try => true false false false false false true
+        15 carol a landing 0 bug mia,zoe - - r+ => true false true true false false true
     ";
     check_table(&rt, rt.alloc(), &desk, "change", table);
 }
@@ -115,9 +127,9 @@ fn approvals_that_settings_are_against(rt: HostRuntime) {
 // Whether a desk knows nothing of a change, and has no settings, no base and no time.
 fn is_empty(desk: &Desk, nine: ChangeNo) -> bool {
     let is_known = desk.is_known(nine) || desk.is_open(nine) || desk.is_approved(nine);
-    let lands = desk.is_landing(nine) || desk.is_landed(nine);
+    let is_under_way = desk.is_trying(nine) || desk.is_landing(nine) || desk.is_landed(nine);
     let has_settings = desk.settings().is_some() || desk.base().is_some();
-    desk.change(nine).is_none() && !is_known && !lands && !has_settings && desk.clock() == 0
+    desk.change(nine).is_none() && !is_known && !is_under_way && !has_settings && desk.clock() == 0
 }
 
 fn settings(rt: &impl Abort, alloc: Global, text: &str) -> Settings {

@@ -43,7 +43,7 @@ fn levels_of_commands(rt: HostRuntime) {
     check_table(&rt, rt.alloc(), &desk, "permission", table);
 }
 
-// `retry` needs what the command needs that it repeats, on its own change.
+// `retry` needs what the command needs that it repeats, of who writes `retry`, and on its own change.
 #[test]
 fn levels_of_retry(rt: HostRuntime) {
     let changes = [
@@ -51,17 +51,31 @@ fn levels_of_retry(rt: HostRuntime) {
         "2 carol a opened 0 - - zoe - r+",
         "3 carol a opened 0 - - zoe - r=vera,al",
         "4 carol a opened 0 - - zoe - try",
+        "5 carol a opened 0 - - - alice r+",
+        "6 carol a opened 0 - - - - try",
     ];
     let desk = desk(&rt, rt.alloc(), changes.as_slice());
     let table = "
+        eve 1 bors retry => Member false
         mia 1 bors retry => Member true
+        alice 1 bors retry => Member true
         zoe 1 bors retry => Member false
+        eve 2 bors retry => ReviewerOrDelegate false
+        alice 2 bors retry => ReviewerOrDelegate true
         mia 2 bors retry => ReviewerOrDelegate false
         zoe 2 bors retry => ReviewerOrDelegate true
         mia 3 bors retry => ReviewerOrDelegate false
         zoe 3 bors retry => ReviewerOrDelegate true
+        // Vera was named as an approver, which lets her repeat nothing.
+        vera 3 bors retry => ReviewerOrDelegate false
+        eve 4 bors retry => MemberOrDelegate false
         mia 4 bors retry => MemberOrDelegate true
         zoe 4 bors retry => MemberOrDelegate true
+        alice 4 bors retry => MemberOrDelegate true
+        zoe 5 bors retry => ReviewerOrDelegate false
+        alice 5 bors retry => ReviewerOrDelegate true
+        zoe 6 bors retry => MemberOrDelegate false
+        mia 6 bors retry => MemberOrDelegate true
     ";
     check_table(&rt, rt.alloc(), &desk, "permission", table);
 }

@@ -51,11 +51,6 @@ fn rows_without_settings(rt: HostRuntime) {
         alice 5 bors d- => done
         eve 5 bors ping => done
         alice 5 bors dance => 2 NotACommand
-        // Commands that are still to come.
-        alice 1 bors try => 2 NotACommand
-        alice 3 bors try- => 2 NotACommand
-        eve 1 bors retry => 2 NotACommand
-        alice 9 bors try => 1 UnknownChange
     ";
     check_table(&rt, rt.alloc(), &desk, "rule", table);
 }
@@ -127,6 +122,170 @@ fn rows_with_settings_and_a_base(rt: HostRuntime) {
         alice 10 bors d=zoe => done
         eve 7 bors ping => done
         alice 7 bors dance => 2 NotACommand
+    ";
+    check_table(&rt, rt.alloc(), &desk, "rule", table);
+}
+
+// Zoe is a delegate of all. Nothing was said on 1 and 2 that `retry` may repeat. The next repeat a try: 3 is open, 4 trying,
+// 5 closed and trying, 6 landed. The others repeat an approval: 7 is open, 8 trying, 10 landing, 11 landing without its
+// approval, 12 trying and landing, 13 closed and landing.
+const REPEATING: &[&str] = &[
+    "1 carol a opened 0 hold - zoe - -",
+    "2 carol a closed 0 - - zoe - -",
+    "3 carol a opened 0 hold - zoe - try",
+    "4 carol a trying 0 hold - zoe - try",
+    "5 carol a closed-trying 0 - - zoe - try",
+    "6 carol a landed 0 - - zoe - try",
+    "7 carol a opened 0 - - zoe - r+",
+    "8 carol a trying 0 - - zoe alice r=mia,al",
+    "10 carol a landing 0 - - zoe alice r+",
+    "11 carol a landing 0 - - zoe - r=mia",
+    "12 carol a trying-landing 0 - - zoe alice r+",
+    "13 carol a closed-landing 0 - - zoe - r+",
+];
+
+#[test]
+fn tries_and_retry_without_settings(rt: HostRuntime) {
+    let desk = desk(&rt, rt.alloc(), REPEATING);
+    let table = "
+        eve 9 bors try => 1 UnknownChange
+        eve 4 bors try => 3 NotPermitted MemberOrDelegate
+        eve 5 bors try => 3 NotPermitted MemberOrDelegate
+        carol 1 bors try => 3 NotPermitted MemberOrDelegate
+        mia 2 bors try => 4 NotOpen
+        zoe 5 bors try => 4 NotOpen
+        mia 6 bors try => 4 NotOpen
+        mia 1 bors try => 7 NoSettings
+        zoe 4 bors try => 7 NoSettings
+        alice 10 bors try => 7 NoSettings
+        // The end of a try needs no settings and no base, and landing is nothing to it.
+        eve 9 bors try- => 1 UnknownChange
+        eve 4 bors try- => 3 NotPermitted MemberOrDelegate
+        eve 2 bors try- => 3 NotPermitted MemberOrDelegate
+        mia 2 bors try- => 4 NotOpen
+        mia 5 bors try- => 4 NotOpen
+        alice 6 bors try- => 4 NotOpen
+        mia 1 bors try- => 9 NotTrying
+        zoe 3 bors try- => 9 NotTrying
+        alice 10 bors try- => 9 NotTrying
+        mia 4 bors try- => done
+        zoe 8 bors try- => done
+        alice 12 bors try- => done
+        // Rules that `retry` is judged by whatever it repeats.
+        eve 9 bors retry => 1 UnknownChange
+        eve 1 bors retry => 3 NotPermitted Member
+        zoe 1 bors retry => 3 NotPermitted Member
+        zoe 2 bors retry => 3 NotPermitted Member
+        mia 2 bors retry => 4 NotOpen
+        mia 1 bors retry => 5 NothingToRetry
+        alice 1 bors retry => 5 NothingToRetry
+        // It repeats a try.
+        eve 4 bors retry => 3 NotPermitted MemberOrDelegate
+        eve 5 bors retry => 3 NotPermitted MemberOrDelegate
+        mia 5 bors retry => 4 NotOpen
+        mia 6 bors retry => 4 NotOpen
+        mia 3 bors retry => 7 NoSettings
+        zoe 4 bors retry => 7 NoSettings
+        // It repeats an approval.
+        eve 7 bors retry => 3 NotPermitted ReviewerOrDelegate
+        mia 8 bors retry => 3 NotPermitted ReviewerOrDelegate
+        mia 10 bors retry => 3 NotPermitted ReviewerOrDelegate
+        mia 13 bors retry => 3 NotPermitted ReviewerOrDelegate
+        alice 13 bors retry => 4 NotOpen
+        alice 10 bors retry => 6 Landing
+        zoe 11 bors retry => 6 Landing
+        alice 12 bors retry => 6 Landing
+        alice 7 bors retry => 7 NoSettings
+        zoe 8 bors retry => 7 NoSettings
+    ";
+    check_table(&rt, rt.alloc(), &desk, "rule", table);
+}
+
+#[test]
+fn tries_and_retry_without_a_base(rt: HostRuntime) {
+    let mut desk = desk(&rt, rt.alloc(), REPEATING);
+    desk.set_settings(strict(&rt, rt.alloc()));
+    let table = "
+        mia 1 bors try => 8 NoBase
+        zoe 4 bors try => 8 NoBase
+        alice 10 bors try => 8 NoBase
+        mia 5 bors try => 4 NotOpen
+        mia 3 bors try- => 9 NotTrying
+        mia 4 bors try- => done
+        mia 1 bors retry => 5 NothingToRetry
+        mia 3 bors retry => 8 NoBase
+        zoe 4 bors retry => 8 NoBase
+        alice 10 bors retry => 6 Landing
+        alice 7 bors retry => 8 NoBase
+        zoe 8 bors retry => 8 NoBase
+    ";
+    check_table(&rt, rt.alloc(), &desk, "rule", table);
+}
+
+#[test]
+fn tries_and_retry_with_settings_and_a_base(rt: HostRuntime) {
+    let mut desk = desk(&rt, rt.alloc(), REPEATING);
+    desk.set_settings(strict(&rt, rt.alloc()));
+    desk.set_base(commit(&rt, rt.alloc(), "0"));
+    let table = "
+        // Labels, reviews, an approval and landing are nothing to a try.
+        mia 1 bors try => done
+        zoe 3 bors try => done
+        alice 10 bors try => done
+        mia 4 bors try => 9 AlreadyTrying
+        zoe 8 bors try => 9 AlreadyTrying
+        alice 12 bors try => 9 AlreadyTrying
+        eve 4 bors try => 3 NotPermitted MemberOrDelegate
+        mia 5 bors try => 4 NotOpen
+        zoe 3 bors try- => 9 NotTrying
+        zoe 4 bors try- => done
+        mia 1 bors retry => 5 NothingToRetry
+        mia 3 bors retry => done
+        zoe 3 bors retry => done
+        mia 4 bors retry => 9 AlreadyTrying
+        alice 10 bors retry => 6 Landing
+        alice 12 bors retry => 6 Landing
+        alice 8 bors retry => 9 AlreadyApproved
+        alice 7 bors retry => 11 TooFewReviews 0 2
+    ";
+    check_table(&rt, rt.alloc(), &desk, "rule", table);
+}
+
+// Under strict settings an approval of 1, 2 or 3 may be repeated.
+const APPROVED_BEFORE: &[&str] = &[
+    "1 carol a opened 0 bug mia,zoe - - r+",
+    "2 carol a opened 0 - mia,zoe zoe - r=mia,al",
+    "3 carol a trying 0 - mia,zoe - - r+",
+    "4 carol a opened 0 - mia,zoe - alice r+",
+    "5 carol a opened 0 wip,hold - - - r+",
+    "6 carol a opened 0 bug,wip mia,zoe - - r=mia",
+    "7 carol a opened 0 Hold - - - r+",
+    "8 carol a opened 0 - mia - - r=mia",
+    "10 carol a opened 0 hold - - alice r=mia",
+    "11 carol a landing 0 hold - - alice r=mia",
+];
+
+#[test]
+fn retry_of_approvals(rt: HostRuntime) {
+    let mut desk = desk(&rt, rt.alloc(), APPROVED_BEFORE);
+    desk.set_settings(strict(&rt, rt.alloc()));
+    desk.set_base(commit(&rt, rt.alloc(), "0"));
+    let table = "
+        alice 1 bors retry => done
+        alice 2 bors retry => done
+        zoe 2 bors retry => done
+        alice 3 bors retry => done
+        eve 1 bors retry => 3 NotPermitted ReviewerOrDelegate
+        mia 2 bors retry => 3 NotPermitted ReviewerOrDelegate
+        zoe 1 bors retry => 3 NotPermitted ReviewerOrDelegate
+        mia 10 bors retry => 3 NotPermitted ReviewerOrDelegate
+        alice 11 bors retry => 6 Landing
+        alice 4 bors retry => 9 AlreadyApproved
+        alice 10 bors retry => 9 AlreadyApproved
+        alice 5 bors retry => 10 Blocked hold
+        alice 6 bors retry => 10 Blocked wip
+        alice 7 bors retry => 11 TooFewReviews 0 2
+        alice 8 bors retry => 11 TooFewReviews 1 2
     ";
     check_table(&rt, rt.alloc(), &desk, "rule", table);
 }

@@ -1,8 +1,11 @@
-use Rattle.gate_queue.proofs.Counts.{enqueue_law, take_out_law, restart_law, start_law, stage_law, report_law, land_law, requeue_law, fail_law, drop_law}
+use Rattle.gate_queue.proofs.Counts.{enqueue_law, try_law, take_out_law, restart_law, start_law, stage_law, report_law, land_law, requeue_law, fail_law, drop_law}
 use Rattle.gate_queue.proofs.laws.law_of_changes.Goals as goal
 
 pub returns-clause-enqueue : goal.returns-clause-enqueue
 returns-clause-enqueue c = enqueue_law
+
+pub returns-clause-enqueue_try : goal.returns-clause-enqueue_try
+returns-clause-enqueue_try c = try_law
 
 pub returns-clause-take_out : goal.returns-clause-take_out
 returns-clause-take_out c = take_out_law

@@ -1,3 +1,4 @@
+use Rattle.gate_queue.proofs.Alone.{singles_law}
 use Rattle.gate_queue.proofs.InOrder.{order_law}
 use Rattle.gate_queue.proofs.Numbers.{numbers_law}
 use Rattle.gate_queue.proofs.Service.{placed_in_service, left_in_service}
@@ -14,3 +15,6 @@ returns-clause-order c = order_law
 
 pub returns-clause-numbers : goal.returns-clause-numbers
 returns-clause-numbers c = numbers_law
+
+pub returns-clause-singles : goal.returns-clause-singles
+returns-clause-singles c = singles_law

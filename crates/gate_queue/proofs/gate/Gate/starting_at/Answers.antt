@@ -9,4 +9,4 @@ pub invariant_of-result : goal.invariant_of-result
 invariant_of-result c =
     let made : State = record { desk = c.new.result; queue = c.new-2.result } in
     let same : made ≡ empty_state c.args.next = search rules in
-    subst IsState (sym same) (empty_is_state c.args.next c.requires.high)
+    subst IsState (sym same) (empty_is_state c.args.next c.requires.low c.requires.high)

@@ -1,0 +1,125 @@
+-- What an act means: no rule denies it if none denies the act, and it keeps the limits.
+use Rattle.std.proofs.Common.{◌≡◌, ℕ, List, ◌∷◌, Option, Some, None, IfSome, refl, sym, ◌∙◌, ap, subst}
+use Rattle.std.specs.FinMap as finite
+use Rattle.std.specs.List.{All}
+use Rattle.std.specs.Option.{option_and_then, option_or}
+use Rattle.gate_text.specs.declared.command.Command.{Command}
+use Rattle.gate_text.specs.declared.command.Command.TheVariants.{Ping, Approve, ApproveFor, Withdraw, Priority, Try, TryCancel, DelegateAuthor, DelegateTo, DelegateNone, Retry}
+use Rattle.gate_text.specs.declared.command.Spoken.TheVariants.{Known, Unknown}
+use Rattle.gate_rules.specs.Rules.{Look, first_failing, asks, admits, need_of_retry, is_delegate, is_known, is_open, repeated_rules, last_command}
+use Rattle.gate_rules.specs.View.{look}
+use Rattle.gate_rules.specs.declared.change.Change.{Change}
+use Rattle.gate_rules.specs.declared.change.Repeat.{Repeat}
+use Rattle.gate_rules.specs.declared.change.Repeat.TheVariants as repeat
+use Rattle.gate_rules.specs.declared.rule.Rule.{Rule}
+use Rattle.gate_rules.specs.declared.rule.Rule.TheVariants.{UnknownChange, NotPermitted, NotOpen}
+use Rattle.gate_queue.specs.Acts.{ActKeepsLimits}
+use Rattle.gate_queue.specs.History.{Event, IsRightOrder}
+use Rattle.gate_queue.specs.Machine.{broken, missing, denial, repeated, meaning, done, unless_denied, after}
+use Rattle.gate_queue.specs.State.{IsChange, RepeatKeepsLimits, IsState}
+use Rattle.gate_queue.specs.declared.act.Act.{Act}
+use Rattle.gate_queue.specs.declared.act.Act.TheVariants.{Spoken, Role, Settings, Base, Opened, Pushed, Closed, Labeled, Unlabeled, Review, Staged, Conflict, Status, Refused, Tick}
+use Rattle.gate_queue.specs.declared.queue.Queue.{Queue}
+use Rattle.gate_queue.specs.declared.reply.Order.{Order}
+use Rattle.gate_queue.specs.declared.reply.Order.TheVariants.{Stage, Land, Notice}
+use Rattle.gate_queue.specs.declared.state.State.{State}
+use Rattle.gate_queue.proofs.Wording.{none_both}
+
+-- An act means itself, but for a `retry`.
+means : (P : Act → Type 0) (s : Look) (act : Act) → P act → ((n : ℕ) (person : List ℕ) → act ≡ Spoken n person (Known Retry) → P (Spoken n person (Known (repeated (last_command s n))))) → P (meaning s act)
+means P s (Spoken n person (Known Retry)) itself repeats = repeats n person refl
+means P s (Spoken n person (Known Ping)) itself repeats = itself
+means P s (Spoken n person (Known Approve)) itself repeats = itself
+means P s (Spoken n person (Known (ApproveFor names))) itself repeats = itself
+means P s (Spoken n person (Known Withdraw)) itself repeats = itself
+means P s (Spoken n person (Known (Priority priority))) itself repeats = itself
+means P s (Spoken n person (Known Try)) itself repeats = itself
+means P s (Spoken n person (Known TryCancel)) itself repeats = itself
+means P s (Spoken n person (Known DelegateAuthor)) itself repeats = itself
+means P s (Spoken n person (Known (DelegateTo names))) itself repeats = itself
+means P s (Spoken n person (Known DelegateNone)) itself repeats = itself
+means P s (Spoken n person Unknown) itself repeats = itself
+means P s (Role person role) itself repeats = itself
+means P s (Settings text) itself repeats = itself
+means P s (Base commit) itself repeats = itself
+means P s (Opened n author head) itself repeats = itself
+means P s (Pushed n head) itself repeats = itself
+means P s (Closed n) itself repeats = itself
+means P s (Labeled n label) itself repeats = itself
+means P s (Unlabeled n label) itself repeats = itself
+means P s (Review n person head approves) itself repeats = itself
+means P s (Staged batch commit) itself repeats = itself
+means P s (Conflict batch) itself repeats = itself
+means P s (Status commit name state) itself repeats = itself
+means P s (Refused batch) itself repeats = itself
+means P s (Tick now) itself repeats = itself
+
+-- NO RULE DENIES what a `retry` repeats, if none denies the `retry`.
+abbrev retry_row : Look → List ℕ → ℕ → Option Repeat → List (Option Rule)
+retry_row s person n last =
+    asks (is_known s n) UnknownChange
+    ∷ asks (admits (need_of_retry last) (s.role person) (is_delegate s n person)) (NotPermitted (need_of_retry last))
+    ∷ asks (is_open s n) NotOpen
+    ∷ repeated_rules s n last
+
+repeated_holds : (s : Look) (person : List ℕ) (n : ℕ) (last : Option Repeat) → last_command s n ≡ last → first_failing (retry_row s person n last) ≡ None
+    → broken s (Spoken n person (Known (repeated last))) ≡ None
+repeated_holds s person n None is holds = subst (λ l. first_failing (retry_row s person n l) ≡ None) (sym is) holds
+repeated_holds s person n (Some repeat.Approve) is holds = holds
+repeated_holds s person n (Some (repeat.ApproveFor names)) is holds = holds
+repeated_holds s person n (Some repeat.Try) is holds = subst (λ l. first_failing (retry_row s person n l) ≡ None) (sym is) holds
+
+meaning_holds : (s : Look) (act : Act) → broken s act ≡ None → broken s (meaning s act) ≡ None
+meaning_holds s act holds =
+    means (λ a. broken s a ≡ None) s act holds (λ n person is. repeated_holds s person n (last_command s n) refl (subst (λ a. broken s a ≡ None) is holds))
+
+meaning_there : (s : Look) (queue : Queue) (act : Act) → missing queue (meaning s act) ≡ missing queue act
+meaning_there s queue act = means (λ a. missing queue a ≡ missing queue act) s act refl (λ n person is. ap (missing queue) (sym is))
+
+pub meaning_allowed : (s : State) (act : Act) → denial s act ≡ None → denial s (meaning (look s.desk) act) ≡ None
+meaning_allowed s act holds =
+    let both = none_both (missing s.queue act) (broken (look s.desk) act) holds in
+    λ i. option_or ((meaning_there (look s.desk) s.queue act ∙ both.0) i) (meaning_holds (look s.desk) act both.1 i)
+
+-- What an act means, means itself.
+meaning_repeated : (s : Look) (n : ℕ) (person : List ℕ) (last : Option Repeat) → last_command s n ≡ last → meaning s (Spoken n person (Known (repeated last))) ≡ Spoken n person (Known (repeated last))
+meaning_repeated s n person None is = ap (λ (l : Option Repeat). Spoken n person (Known (repeated l))) is
+meaning_repeated s n person (Some repeat.Approve) is = refl
+meaning_repeated s n person (Some (repeat.ApproveFor names)) is = refl
+meaning_repeated s n person (Some repeat.Try) is = ap (λ (l : Option Repeat). Spoken n person (Known (repeated l))) is
+
+pub retry_means : (s : State) (n : ℕ) (person : List ℕ) → denial s (Spoken n person (Known Retry)) ≡ None
+    → after s (Spoken n person (Known Retry)) ≡ after s (Spoken n person (Known (repeated (last_command (look s.desk) n))))
+retry_means s n person holds =
+    let last = last_command (look s.desk) n in
+    let same = meaning_repeated (look s.desk) n person last refl in
+    (λ i. unless_denied (holds i) s (done s (Spoken n person (Known (repeated last)))).state)
+    ∙ sym (λ i. unless_denied (meaning_allowed s (Spoken n person (Known Retry)) holds i) s (done s (same i)).state)
+
+-- THE LIMITS: what a change keeps for a `retry` is within them.
+repeated_limits : (n : ℕ) (person : List ℕ) (last : Option Repeat) → RepeatKeepsLimits last → ActKeepsLimits (Spoken n person (Known (repeated last)))
+repeated_limits n person None keeps = tt
+repeated_limits n person (Some repeat.Approve) keeps = tt
+repeated_limits n person (Some (repeat.ApproveFor names)) keeps = keeps
+repeated_limits n person (Some repeat.Try) keeps = tt
+
+kept_limits : (s : State) → IsState s → (n : ℕ) → RepeatKeepsLimits (last_command (look s.desk) n)
+kept_limits s is n = by (finite.get s.desk.changes n) (is.desk.changes n) where
+  by : (had : Option Change) → IfSome had (IsChange s.desk.settings s.desk.base) → RepeatKeepsLimits (option_and_then (λ (c : Change). c.last) had)
+  by None was = tt
+  by (Some c) was = was.last
+
+pub meaning_limits : (s : State) → IsState s → (act : Act) → ActKeepsLimits act → ActKeepsLimits (meaning (look s.desk) act)
+meaning_limits s is act limits =
+    means ActKeepsLimits (look s.desk) act limits (λ n person at. repeated_limits n person (last_command (look s.desk) n) (kept_limits s is n))
+
+-- AN ORDER is right by the act if it is by what the act means: no command orders a landing.
+spoken_right : (events : List Event) (n : ℕ) (person : List ℕ) (command : Command) (act : Act) (order : Order) → IsRightOrder events (Spoken n person (Known command)) order → IsRightOrder events act order
+spoken_right events n person command act (Stage batch branch base heads) right = right
+spoken_right events n person command act (Land batch base commit) right = cc right.success
+spoken_right events n person command act (Notice change why) right = tt
+
+pub meaning_right : (events : List Event) (s : Look) (act : Act) (orders : List Order) → All (IsRightOrder events (meaning s act)) orders → All (IsRightOrder events act) orders
+meaning_right events s act orders =
+    means (λ a. All (IsRightOrder events a) orders → All (IsRightOrder events act) orders) s act (λ all. all)
+    (λ n person is all place order at. spoken_right events n person (repeated (last_command s n)) act _ (all place order at))

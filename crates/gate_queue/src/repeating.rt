@@ -1,0 +1,60 @@
+ghost use Rattle.std.specs.Prelude.{◌≡◌, IfOk, Ok, Some, None};
+ghost use Rattle.std.specs.Option.{unwrap_or};
+ghost use Rattle.gate_rules.specs.View.{look};
+ghost use Rattle.gate_text.specs.declared.command.Command.TheVariants as command;
+ghost use Rattle.gate_text.specs.declared.command.Spoken.TheVariants.{Known};
+ghost use Rattle.gate_queue.specs.Machine as machine;
+ghost use Rattle.gate_queue.specs.declared.act.Act.TheVariants as acts;
+
+use crate::act::Act;
+use gate_rules::{Desk, Repeat};
+use gate_text::{ChangeNo, Command, Name, Spoken};
+use std::alloc::{AllocError, Global};
+
+/// What a `retry` means: the command that it repeats, by the person who writes it. `None` for any other act, since it means
+/// itself, and if there is nothing to repeat. `AllocError` if there is no memory for it; any other act takes none.
+pub fn repeated_act(desk: &Desk, alloc: Global, act: &Act) -> Result<Option<Act>, AllocError>
+    ensures value { IfOk result (λ repeated. unwrap_or repeated act.now ≡ machine.meaning (look desk.now) act.now) }
+    ensures no_memory { machine.DeskTakesNoMemory desk.now act.now → result ≡ Ok None }
+{
+    match act {
+        Act::Spoken {
+            change,
+            person,
+            spoken: Spoken::Known(Command::Retry),
+        } => repeated_line(desk, alloc, *change, person),
+        _ => Ok(None),
+    }
+}
+
+fn repeated_line(
+    desk: &Desk,
+    alloc: Global,
+    change: ChangeNo,
+    person: &Name,
+) -> Result<Option<Act>, AllocError>
+    ensures value { IfOk result (λ repeated. unwrap_or repeated (acts.Spoken change person.now (Known command.Retry)) ≡ machine.meaning (look desk.now) (acts.Spoken change person.now (Known command.Retry))) }
+{
+    let Some(repeat) = desk.last_command(change) else {
+        return Ok(None);
+    };
+    let Some(command) = command_of(alloc, repeat)? else {
+        return Ok(None);
+    };
+    Ok(Some(Act::Spoken {
+        change,
+        person: person.copy(alloc)?,
+        spoken: Spoken::Known(command),
+    }))
+}
+
+// The command that is repeated, if it is one that can act: a `try` can't yet.
+fn command_of(alloc: Global, repeat: &Repeat) -> Result<Option<Command>, AllocError>
+    ensures { IfOk result (λ repeated. unwrap_or repeated command.Retry ≡ machine.repeated (Some repeat.now)) }
+{
+    Ok(match repeat {
+        Repeat::Approve => Some(Command::Approve),
+        Repeat::ApproveFor(names) => Some(Command::ApproveFor(names.copy(alloc)?)),
+        Repeat::Try => None,
+    })
+}
