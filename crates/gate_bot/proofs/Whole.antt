@@ -30,6 +30,8 @@ orders_whole (Notice change why.Closed ∷ orders) = orders_whole orders
 orders_whole (Notice change why.Labeled ∷ orders) = orders_whole orders
 orders_whole (Notice change why.Reviews ∷ orders) = orders_whole orders
 orders_whole (Notice change why.Settings ∷ orders) = orders_whole orders
+orders_whole (Notice change why.TryPassed ∷ orders) = orders_whole orders
+orders_whole (Notice change why.TryFailed ∷ orders) = orders_whole orders
 
 reply_whole : (reply : Reply) → has_float (reply_data reply) ≡ false
 reply_whole (Done orders) = rw (orders_whole orders) refl

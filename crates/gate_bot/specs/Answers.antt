@@ -61,6 +61,8 @@ why_word_of why.Closed = codes "Closed"
 why_word_of why.Labeled = codes "Labeled"
 why_word_of why.Reviews = codes "Reviews"
 why_word_of why.Settings = codes "Settings"
+why_word_of why.TryPassed = codes "TryPassed"
+why_word_of why.TryFailed = codes "TryFailed"
 
 -- the status that has failed, which its notice names beside the word
 abbrev pub with_name : Why → Members → Members
@@ -72,6 +74,8 @@ with_name why.Closed members = members
 with_name why.Labeled members = members
 with_name why.Reviews members = members
 with_name why.Settings members = members
+with_name why.TryPassed members = members
+with_name why.TryFailed members = members
 
 abbrev pub branch_word_of : Branch → List ℕ
 branch_word_of Staging = codes "staging"

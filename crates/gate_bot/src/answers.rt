@@ -56,6 +56,8 @@ fn why_word(why: &Why) -> &'static str
         Why::Labeled => "Labeled",
         Why::Reviews => "Reviews",
         Why::Settings => "Settings",
+        Why::TryPassed => "TryPassed",
+        Why::TryFailed => "TryFailed",
     }
 }
 

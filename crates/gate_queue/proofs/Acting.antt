@@ -1,5 +1,6 @@
 -- What the rules read after an act that no rule denies: on the desk, and on the history with the act and its orders.
 use Rattle.std.proofs.Common.{◌≡◌, ◌≤◌, ◌&&◌, ◌||◌, ℕ, Bool, true, false, cond, if◌then◌else◌, List, [], ◌∷◌, Option, Some, None, Result, Ok, Err, eqb, refl, sym, ◌∙◌, ap, arith}
+use Rattle.std.proofs.lemmas.Bool.{and_right}
 use Rattle.std.proofs.lemmas.Bool.Decides.{Decides-eqb}
 use Rattle.std.proofs.lemmas.List.Sums.{sum_by-cons}
 use Rattle.std.specs.Bool.{⊤}
@@ -28,26 +29,28 @@ use Rattle.gate_rules.specs.declared.rule.Rule.{Rule}
 use Rattle.gate_rules.specs.declared.change.Phase.TheVariants as phase
 use Rattle.gate_queue.specs.Acts.{subject, on}
 use Rattle.gate_queue.specs.Counts.{uses}
-use Rattle.gate_queue.specs.History.{ends_why, order_ends, Event, did, gave, given, last_of, said_by, role_said, settings_back, labels_back, reviews_back, author_back, approvers_back, landing_back, landed_back, landings, change_of, change_back, look_back}
-use Rattle.gate_queue.specs.Machine.{broken, bad_settings, effect, notices, notice_if, settings_notices, are_present, losing_on, quiet, under, accepted, lone, without_lone, lone_notices, failing, head_on, stage_orders, starting, with_landing, to_land, landed, released, released_at, released_on, all_altered, altered, approved_by, with_priority, with_delegates, with_author_as_delegate, without_delegates, opened, closed, pushed, labeled, without_label, reviewed, with_settled, settled}
+use Rattle.gate_queue.specs.History.{ends_why, order_ends, tells_of_try, order_ends_try, tried_back, Event, did, gave, given, last_of, said_by, role_said, settings_back, labels_back, reviews_back, author_back, approvers_back, landing_back, landed_back, landings, change_of, change_back, look_back}
+use Rattle.gate_queue.specs.Machine.{broken, bad_settings, effect, notices, notice_if, settings_notices, are_present, losing_on, quiet, under, accepted, lone, lone_altered, lone_notices, failing, try_ended, head_on, first_order, starting, with_landing, to_land, landed, released, released_at, released_on, all_altered, altered, approved_by, with_try, without_try, with_priority, with_delegates, with_author_as_delegate, without_delegates, opened, closed, pushed, labeled, without_label, reviewed, with_settled, settled}
 use Rattle.gate_queue.specs.declared.act.Act.{Act}
 use Rattle.gate_queue.specs.declared.act.Act.TheVariants.{Spoken, Role, Settings, Base, Opened, Pushed, Closed, Labeled, Unlabeled, Review, Staged, Conflict, Status, Refused, Tick}
 use Rattle.gate_queue.specs.declared.batch.Batch.{Batch}
+use Rattle.gate_queue.specs.declared.batch.Branch.{Branch}
 use Rattle.gate_queue.specs.declared.batch.Stage.{Stage as StageOf}
 use Rattle.gate_queue.specs.declared.batch.Stage.TheVariants as stage
 use Rattle.gate_queue.specs.Lanes.{is_landing}
+use Rattle.gate_queue.specs.Queue.{lane_of}
 use Rattle.gate_queue.specs.declared.reply.Order.{Order}
 use Rattle.gate_queue.specs.declared.reply.Order.TheVariants.{Stage, Land, Notice}
 use Rattle.gate_queue.specs.declared.reply.Why.{Why}
 use Rattle.gate_queue.specs.declared.reply.Why.TheVariants as why
 use Rattle.gate_queue.specs.declared.state.State.{State}
-use Rattle.gate_queue.proofs.After.{rest_back, change_after, change_of_after, altered_as, untouched, unaltered, unless_unfit, by_number, elsewhere, order_elsewhere, order_ended, quiet_line, stays}
+use Rattle.gate_queue.proofs.After.{rest_back, change_after, change_of_after, altered_as, untouched, unaltered, unless_unfit, by_number, elsewhere, order_elsewhere, order_ended, order_ended_try, quiet_line, stays}
 use Rattle.gate_queue.proofs.Changes.{altered_look, all_look, opened_at}
 use Rattle.gate_queue.proofs.Facts.{closed_next, labeled_next, reviewed_next, unlabeled_next, pushed_next, opened_next, settled_next, unsettled_next, taken_settings}
 use Rattle.gate_queue.proofs.Keeping.{lands}
 use Rattle.gate_queue.proofs.Landing.{Lands, Members, none_lands, stage_rest, land_rest, not_landing_back, landing_members, base_ends, base_rest, base_landed, refused_ends}
-use Rattle.gate_queue.proofs.Next.{priority_next, author_next, names_next, none_next, withdraw_next, approve_next, approve_for_next}
-use Rattle.gate_queue.proofs.Premises.{fits, shut, fresh, still_here}
+use Rattle.gate_queue.proofs.Next.{priority_next, author_next, names_next, none_next, withdraw_next, try_next, try_cancel_next, approve_next, approve_for_next}
+use Rattle.gate_queue.proofs.Premises.{fits, shut, fresh, still_here, tried_here}
 use Rattle.gate_queue.proofs.States.{released_twice}
 use Rattle.gate_queue.proofs.Unseen.{Unseen}
 
@@ -162,24 +165,26 @@ tick_next desk events now same =
     ap (λ (s : Look). record s { clock = now }) same
     ∙ (λ i. record (look_back events) { change = λ c. (sym (elsewhere events c (Tick now) refl refl)) i; clock = now })
 
--- ORDERS that end no approval, and leave what is landing and has landed, leave all that the rules read.
+-- ORDERS that end no approval and no try, and leave what is landing and has landed, leave all that the rules read.
 abbrev pub AreMild : List Event → List Order → Type 0
 AreMild events [] = ⊤
-AreMild events (order ∷ orders) = ((c : ℕ) → (order_ends c order ≡ false) × (rest_back (gave order ∷ events) c ≡ rest_back events c)) × AreMild (gave order ∷ events) orders
+AreMild events (order ∷ orders) =
+    ((c : ℕ) → (order_ends c order ≡ false) × (order_ends_try c order ≡ false) × (rest_back (gave order ∷ events) c ≡ rest_back events c))
+    × AreMild (gave order ∷ events) orders
 
 look_given : (events : List Event) (orders : List Order) → AreMild events orders → look_back (given events orders) ≡ look_back events
 look_given events [] mild = refl
 look_given events (order ∷ orders) mild =
     look_given (gave order ∷ events) orders mild.1
-    ∙ (λ i. record (look_back events) { change = λ c. order_elsewhere events c order (mild.0 c).0 (mild.0 c).1 i })
+    ∙ (λ i. record (look_back events) { change = λ c. order_elsewhere events c order (mild.0 c).0 (mild.0 c).1 (mild.0 c).2 i })
 
-notice_mild : (events : List Event) (b : Bool) (n : ℕ) (why : Why) → ends_why why ≡ false → AreMild events (notice_if b n why)
-notice_mild events true n why goes = ((λ c. (ap (λ (b : Bool). b && eqb c n) goes, refl)), tt)
-notice_mild events false n why goes = tt
+notice_mild : (events : List Event) (b : Bool) (n : ℕ) (why : Why) → ends_why why ≡ false → tells_of_try why ≡ false → AreMild events (notice_if b n why)
+notice_mild events true n why goes tries = ((λ c. (ap (λ (b : Bool). b && eqb c n) goes, ap (λ (b : Bool). b && eqb c n) tries, refl)), tt)
+notice_mild events false n why goes tries = tt
 
 numbers_mild : (events : List Event) (numbers : List ℕ) → AreMild events (settings_notices numbers)
 numbers_mild events [] = tt
-numbers_mild events (number ∷ numbers) = ((λ c. (refl, refl)), numbers_mild (gave (Notice number why.Settings) ∷ events) numbers)
+numbers_mild events (number ∷ numbers) = ((λ c. (refl, refl, refl)), numbers_mild (gave (Notice number why.Settings) ∷ events) numbers)
 
 pub settings_mild : (events : List Event) (s : State) (read : Result SettingsView SettingsFault) → AreMild events (accepted s read).orders
 settings_mild events s (Err fault) = tt
@@ -190,7 +195,7 @@ settings_mild events s (Ok settings) = by (are_present s.desk settings) where
 
 -- A batch is ordered that was never to land.
 stage_mild : (events : List Event) (desk : DeskView) (running : Option Batch) (waiting : List Batch) → ((number : ℕ) → 1 ≤ uses number waiting → landings number events ≡ 0)
-    → AreMild events (stage_orders desk running waiting)
+    → AreMild events (first_order desk running waiting)
 stage_mild events desk (Some batch) waiting never = tt
 stage_mild events desk None [] never = tt
 stage_mild events desk None (batch ∷ waiting) never = by desk.base where
@@ -199,25 +204,62 @@ stage_mild events desk None (batch ∷ waiting) never = by desk.base where
 
   by : (base : Option (List ℕ)) → AreMild events (option_map_or (λ b. Stage batch.number batch.branch b (filter_map (head_on desk) batch.changes) ∷ []) base [])
   by None = tt
-  by (Some base) = ((λ c. (refl, stage_rest events batch.number batch.branch base (filter_map (head_on desk) batch.changes) c (never batch.number first))), tt)
+  by (Some base) = ((λ c. (refl, refl, stage_rest events batch.number batch.branch base (filter_map (head_on desk) batch.changes) c (never batch.number first))), tt)
 
-pub starting_look : (s : State) (events : List Event) (now : ℕ) → look s.desk ≡ look_back events → ((number : ℕ) → 1 ≤ uses number s.queue.staging.waiting → landings number events ≡ 0)
-    → look (starting now s).state.desk ≡ look_back (given events (starting now s).orders)
-starting_look s events now same never = same ∙ sym (look_given events (starting now s).orders (stage_mild events s.desk s.queue.staging.running s.queue.staging.waiting never))
+pub starting_look : (branch : Branch) (s : State) (events : List Event) (now : ℕ) → look s.desk ≡ look_back events
+    → ((number : ℕ) → 1 ≤ uses number (lane_of branch s.queue).waiting → landings number events ≡ 0)
+    → look (starting branch now s).state.desk ≡ look_back (given events (starting branch now s).orders)
+starting_look branch s events now same never =
+    same ∙ sym (look_given events (starting branch now s).orders (stage_mild events s.desk (lane_of branch s.queue).running (lane_of branch s.queue).waiting never))
 
--- A BATCH FAILS: the notice ends the approval of its one change.
+-- A BATCH FAILS, OR A TRY ENDS: the notice to its one change, if it has one, alters the change as it is altered on the desk.
+lone_look : (alter : Change → Change) (why : Why) (desk : DeskView) (events : List Event) (one : Option ℕ) → look desk ≡ look_back events
+    → ((n c : ℕ) (b : Bool) → eqb c n ≡ b → cond b (option_map alter (change_back events c)) (change_back events c) ≡ change_back (gave (Notice n why) ∷ events) c)
+    → look (lone_altered alter desk one) ≡ look_back (given events (lone_notices why one))
+lone_look alter why desk events None same each = same
+lone_look alter why desk events (Some n) same each =
+    altered_look desk n alter
+    ∙ ap (λ (l : Look). record l { change = λ c. cond (eqb c n) (option_map alter (l.change c)) (l.change c) }) same
+    ∙ (λ i. record (look_back events) { change = λ c. each n c (eqb c n) refl i })
+
+-- No notice ends both.
+not_of_try : (why : Why) → ends_why why ≡ true → tells_of_try why ≡ false
+not_of_try why.Conflict ends = refl
+not_of_try (why.Failed name) ends = refl
+not_of_try why.TimedOut ends = refl
+not_of_try why.Pushed ends = refl
+not_of_try why.Closed ends = refl
+not_of_try why.Labeled ends = refl
+not_of_try why.Reviews ends = refl
+not_of_try why.Settings ends = refl
+not_of_try why.TryPassed ends = cc ends
+not_of_try why.TryFailed ends = cc ends
+
+only_of_try : (why : Why) → tells_of_try why ≡ true → ends_why why ≡ false
+only_of_try why tells = by (ends_why why) refl where
+  by : (b : Bool) → ends_why why ≡ b → b ≡ false
+  by true is = sym tells ∙ not_of_try why is
+  by false is = refl
+
 pub failing_look : (s : State) (events : List Event) (why : Why) → ends_why why ≡ true → look s.desk ≡ look_back events
     → look (failing why s).state.desk ≡ look_back (given events (failing why s).orders)
-failing_look s events why ends same = by (lone s.queue.staging.running) where
-  by : (one : Option ℕ) → look (without_lone s.desk one) ≡ look_back (given events (lone_notices why one))
-  by None = same
-  by (Some n) =
-      altered_look s.desk n without_approval
-      ∙ ap (λ (l : Look). record l { change = λ c. cond (eqb c n) (option_map without_approval (l.change c)) (l.change c) }) same
-      ∙ (λ i. record (look_back events) { change = λ c. ended_at c (eqb c n) refl i }) where
-        ended_at : (c : ℕ) (b : Bool) → eqb c n ≡ b → cond b (option_map without_approval (change_back events c)) (change_back events c) ≡ change_back (gave (Notice n why) ∷ events) c
-        ended_at c true is = sym (order_ended events c (Notice n why) ((λ i. ends i && eqb c n) ∙ is) refl)
-        ended_at c false is = sym (order_elsewhere events c (Notice n why) ((λ i. ends i && eqb c n) ∙ is) refl)
+failing_look s events why ends same = lone_look without_approval why s.desk events (lone s.queue.staging.running) same at where
+  no_try : (n c : ℕ) → order_ends_try c (Notice n why) ≡ false
+  no_try n c = λ i. not_of_try why ends i && eqb c n
+
+  at : (n c : ℕ) (b : Bool) → eqb c n ≡ b → cond b (option_map without_approval (change_back events c)) (change_back events c) ≡ change_back (gave (Notice n why) ∷ events) c
+  at n c true is = sym (order_ended events c (Notice n why) ((λ i. ends i && eqb c n) ∙ is) (no_try n c) refl)
+  at n c false is = sym (order_elsewhere events c (Notice n why) ((λ i. ends i && eqb c n) ∙ is) (no_try n c) refl)
+
+pub try_ended_look : (s : State) (events : List Event) (why : Why) → tells_of_try why ≡ true → look s.desk ≡ look_back events
+    → look (try_ended why s).state.desk ≡ look_back (given events (try_ended why s).orders)
+try_ended_look s events why tells same = lone_look without_try why s.desk events (lone s.queue.trying.running) same at where
+  no_end : (n c : ℕ) → order_ends c (Notice n why) ≡ false
+  no_end n c = λ i. only_of_try why tells i && eqb c n
+
+  at : (n c : ℕ) (b : Bool) → eqb c n ≡ b → cond b (option_map without_try (change_back events c)) (change_back events c) ≡ change_back (gave (Notice n why) ∷ events) c
+  at n c true is = sym (order_ended_try events c (Notice n why) ((λ i. tells i && eqb c n) ∙ is) (no_end n c) refl)
+  at n c false is = sym (order_elsewhere events c (Notice n why) (no_end n c) ((λ i. tells i && eqb c n) ∙ is) refl)
 
 -- A BATCH IS TO LAND
 pub land_look : (s : State) (events : List Event) (batch : Batch) (base commit : List ℕ) → look s.desk ≡ look_back events → Lands events None → Members events (Some batch)
@@ -258,6 +300,7 @@ module _ (desk : DeskView) (events : List Event) (same : look desk ≡ look_back
         (λ author is. λ i. record (landed (change_of events c author)) {
           approved = (sym (unless_unfit events c (record (rest_back events c) { landed = true; landing = false })
               ∙ ap (λ (b : Bool). cond b (approvers_back events c) None) (landed_unfit (settings_back events) (labels_back events c) (reviews_back events c)))) i;
+          trying = (sym (and_right (tried_back events c) false refl)) i;
         })
 
     outside : landing_back events c ≡ false → change_back events c ≡ change_after events c (record (rest_back events c) { landing = false }) None
@@ -337,8 +380,9 @@ about_look desk events (Spoken n p (Known DelegateAuthor)) m at same unseen hold
 about_look desk events (Spoken n p (Known (DelegateTo names))) m at same unseen holds = altered_next desk events n (with_delegates names) (Spoken n p (Known (DelegateTo names))) same refl (λ c. (refl, refl)) (λ c is. names_next events c n p names)
 about_look desk events (Spoken n p (Known DelegateNone)) m at same unseen holds = altered_next desk events n without_delegates (Spoken n p (Known DelegateNone)) same refl (λ c. (refl, refl)) (λ c is. none_next events c n p)
 about_look desk events (Spoken n p (Known Ping)) m at same unseen holds = quiet_next desk events n (Spoken n p (Known Ping)) same refl (λ c. (refl, refl)) (λ c is. quiet_line events c (Spoken n p (Known Ping)) refl (λ author. refl) (stays events c (Spoken n p (Known Ping)) refl refl (λ fit. fit)))
-about_look desk events (Spoken n p (Known Try)) m at same unseen holds = quiet_next desk events n (Spoken n p (Known Try)) same refl (λ c. (refl, refl)) (λ c is. quiet_line events c (Spoken n p (Known Try)) refl (λ author. refl) (stays events c (Spoken n p (Known Try)) refl refl (λ fit. fit)))
-about_look desk events (Spoken n p (Known TryCancel)) m at same unseen holds = quiet_next desk events n (Spoken n p (Known TryCancel)) same refl (λ c. (refl, refl)) (λ c is. quiet_line events c (Spoken n p (Known TryCancel)) refl (λ author. refl) (stays events c (Spoken n p (Known TryCancel)) refl refl (λ fit. fit)))
+about_look desk events (Spoken n p (Known Try)) m at same unseen holds =
+    altered_next desk events n with_try (Spoken n p (Known Try)) same refl (λ c. (refl, refl)) (λ c is. try_next events c n p (tried_here events p n Try holds c is))
+about_look desk events (Spoken n p (Known TryCancel)) m at same unseen holds = altered_next desk events n without_try (Spoken n p (Known TryCancel)) same refl (λ c. (refl, refl)) (λ c is. try_cancel_next events c n p)
 about_look desk events (Spoken n p (Known Retry)) m at same unseen holds = quiet_next desk events n (Spoken n p (Known Retry)) same refl (λ c. (refl, refl)) (λ c is. quiet_line events c (Spoken n p (Known Retry)) refl (λ author. refl) (stays events c (Spoken n p (Known Retry)) refl refl (λ fit. fit)))
 about_look desk events (Spoken n p Unknown) m at same unseen holds = quiet_next desk events n (Spoken n p Unknown) same refl (λ c. (refl, refl)) (λ c is. quiet_line events c (Spoken n p Unknown) refl (λ author. refl) (stays events c (Spoken n p Unknown) refl refl (λ fit. fit)))
 about_look desk events (Opened n author head) m at same unseen holds =
@@ -365,10 +409,10 @@ about_look desk events (Tick now) m at same unseen holds = cc at
 
 -- and its notices
 pub about_mild : (desk : DeskView) (events : List Event) (act : Act) → AreMild events (notices desk act)
-about_mild desk events (Pushed n head) = notice_mild events _ n why.Pushed refl
-about_mild desk events (Closed n) = notice_mild events _ n why.Closed refl
-about_mild desk events (Labeled n label) = notice_mild events _ n why.Labeled refl
-about_mild desk events (Review n person head approves) = notice_mild events _ n why.Reviews refl
+about_mild desk events (Pushed n head) = notice_mild events _ n why.Pushed refl refl
+about_mild desk events (Closed n) = notice_mild events _ n why.Closed refl refl
+about_mild desk events (Labeled n label) = notice_mild events _ n why.Labeled refl refl
+about_mild desk events (Review n person head approves) = notice_mild events _ n why.Reviews refl refl
 about_mild desk events (Spoken n person spoken) = tt
 about_mild desk events (Role person role) = tt
 about_mild desk events (Settings text) = tt

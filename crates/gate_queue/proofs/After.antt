@@ -1,5 +1,5 @@
 -- What the history says of a change after one more event: by the act that the event did to the change, if it did one, and by
--- whether the event ends its approval.
+-- whether the event ends its approval, or its try.
 use Rattle.std.proofs.Common.{◌≡◌, ℕ, ℤ, pos, Bool, true, false, cond, not, ◌&&◌, ◌||◌, List, [], ◌∷◌, Option, Some, None, is_some, eqb, refl, sym, ◌∙◌, ap}
 use Rattle.std.specs.FinSet as set
 use Rattle.std.specs.Option.{option_and_then, option_map, option_map_or, option_or, unwrap_or}
@@ -10,7 +10,8 @@ use Rattle.gate_rules.specs.declared.change.Phase.{Phase}
 use Rattle.gate_rules.specs.declared.change.Repeat.{Repeat}
 use Rattle.gate_rules.specs.View.{without_approval}
 use Rattle.gate_queue.specs.Acts.{on}
-use Rattle.gate_queue.specs.History.{Event, did, gave, last_of, said_on, author_said, author_back, head_said, moves_head, phase_said, phase_by, landing_back, landed_back, priority_said, repeat_said, marked, label_said, labels_back, review_said, reviews_back, delegation_said, delegated, delegates_back, settings_back, fit_back, approval_said, ends_it, order_ends, ends, standing_back, approvers_back, change_of, change_back}
+use Rattle.gate_queue.specs.History.{Event, did, gave, last_of, said_on, author_said, author_back, head_said, moves_head, phase_said, phase_by, landing_back, landed_back, priority_said, repeat_said, marked, label_said, labels_back, review_said, reviews_back, delegation_said, delegated, delegates_back, settings_back, fit_back, approval_said, ends_it, order_ends, ends, standing_back, approvers_back, try_said, ends_its_try, order_ends_try, tried_back, change_of, change_back}
+use Rattle.gate_queue.specs.Machine.{without_try}
 use Rattle.gate_queue.specs.declared.act.Act.{Act}
 use Rattle.gate_queue.specs.declared.reply.Order.{Order}
 
@@ -82,8 +83,8 @@ module _ (events : List Event) (c : ℕ) (rest : Rest) (done : Option Act) where
   abbrev pub fit_after : Bool
   fit_after = is_fit rest.settings phase_after labels_after reviews_after
 
--- if it ends the approval, or doesn't
-module _ (events : List Event) (c : ℕ) (rest : Rest) (done : Option Act) (ending : Bool) where
+-- if it ends the approval and the try, or doesn't
+module _ (events : List Event) (c : ℕ) (rest : Rest) (done : Option Act) (ending ending_try : Bool) where
   abbrev fit_now : Bool
   fit_now = fit_after events c rest done
 
@@ -92,6 +93,9 @@ module _ (events : List Event) (c : ℕ) (rest : Rest) (done : Option Act) (endi
 
   abbrev approvers_by : Option (List (List ℕ))
   approvers_by = cond standing_by (option_or (option_and_then approval_said done) (last_of (said_on c approval_said) events)) None
+
+  abbrev trying_by : Bool
+  trying_by = (option_map_or try_said done false || (not ending_try && tried_back events c)) && not rest.landed
 
   abbrev change_of_by : List ℕ → Change
   change_of_by author = record {
@@ -103,7 +107,7 @@ module _ (events : List Event) (c : ℕ) (rest : Rest) (done : Option Act) (endi
     reviews = reviews_after events c rest done;
     delegates = delegates_after events c rest done;
     approved = approvers_by;
-    trying = false;
+    trying = trying_by;
     landing = rest.landing;
     last = repeat_after events c rest done;
   }
@@ -111,22 +115,25 @@ module _ (events : List Event) (c : ℕ) (rest : Rest) (done : Option Act) (endi
   abbrev change_by : Option Change
   change_by = option_map change_of_by (author_after events c rest done)
 
--- an act ends it by what it is
+-- an act ends them by what it is
 module _ (events : List Event) (c : ℕ) (rest : Rest) (done : Option Act) where
   abbrev ending_by : Bool
   ending_by = option_map_or (ends_it c events) done false
 
+  abbrev ending_try_by : Bool
+  ending_try_by = option_map_or (ends_its_try c events) done false
+
   abbrev pub approvers_after : Option (List (List ℕ))
-  approvers_after = approvers_by events c rest done ending_by
+  approvers_after = approvers_by events c rest done ending_by ending_try_by
 
   abbrev pub change_of_after : List ℕ → Change
-  change_of_after = change_of_by events c rest done ending_by
+  change_of_after = change_of_by events c rest done ending_by ending_try_by
 
   abbrev pub change_after : Option Change
-  change_after = change_by events c rest done ending_by
+  change_after = change_by events c rest done ending_by ending_try_by
 
 module _ (events : List Event) (c : ℕ) where
-  -- AN EVENT THAT DID NOTHING TO THE CHANGE: an act elsewhere, and an order that ends no approval of it
+  -- AN EVENT THAT DID NOTHING TO THE CHANGE: an act elsewhere, and an order that ends no approval and no try of it
   pub untouched : approvers_after events c (rest_back events c) None ≡ approvers_back events c
   untouched =
       goes_on true (fit_back events c) (standing_back events c) (last_of (said_on c approval_said) events)
@@ -138,16 +145,24 @@ module _ (events : List Event) (c : ℕ) where
   pub elsewhere : (act : Act) → on c act ≡ None → rest_back (did act ∷ events) c ≡ rest_back events c → change_back (did act ∷ events) c ≡ change_back events c
   elsewhere act none same = (λ i. change_after events c (same i) (none i)) ∙ unaltered
 
-  pub order_elsewhere : (order : Order) → order_ends c order ≡ false → rest_back (gave order ∷ events) c ≡ rest_back events c → change_back (gave order ∷ events) c ≡ change_back events c
-  order_elsewhere order goes same = (λ i. change_by events c (same i) None (goes i)) ∙ unaltered
+  pub order_elsewhere : (order : Order) → order_ends c order ≡ false → order_ends_try c order ≡ false → rest_back (gave order ∷ events) c ≡ rest_back events c
+      → change_back (gave order ∷ events) c ≡ change_back events c
+  order_elsewhere order goes tries same = (λ i. change_by events c (same i) None (goes i) (tries i)) ∙ unaltered
 
-  -- and one that ends it
-  pub order_ended : (order : Order) → order_ends c order ≡ true → rest_back (gave order ∷ events) c ≡ rest_back events c
+  -- and one that ends its approval, or its try
+  pub order_ended : (order : Order) → order_ends c order ≡ true → order_ends_try c order ≡ false → rest_back (gave order ∷ events) c ≡ rest_back events c
       → change_back (gave order ∷ events) c ≡ option_map without_approval (change_back events c)
-  order_ended order ending same = (λ i. change_by events c (same i) None (ending i)) ∙ by (author_back events c) where
-    by : (author : Option (List ℕ)) → option_map (change_of_by events c (rest_back events c) None true) author ≡ option_map without_approval (option_map (change_of events c) author)
+  order_ended order ending tries same = (λ i. change_by events c (same i) None (ending i) (tries i)) ∙ by (author_back events c) where
+    by : (author : Option (List ℕ)) → option_map (change_of_by events c (rest_back events c) None true false) author ≡ option_map without_approval (option_map (change_of events c) author)
     by None = refl
     by (Some author) = refl
+
+  pub order_ended_try : (order : Order) → order_ends_try c order ≡ true → order_ends c order ≡ false → rest_back (gave order ∷ events) c ≡ rest_back events c
+      → change_back (gave order ∷ events) c ≡ option_map without_try (change_back events c)
+  order_ended_try order ending goes same = (λ i. change_by events c (same i) None (goes i) (ending i)) ∙ by (author_back events c) where
+    by : (author : Option (List ℕ)) → option_map (change_of_by events c (rest_back events c) None false true) author ≡ option_map without_try (option_map (change_of events c) author)
+    by None = refl
+    by (Some author) = λ i. Some (record (change_of events c author) { approved = untouched i; trying = false })
 
   -- new settings, or one that has landed: the approval goes on if the change is fit then
   pub unless_unfit : (rest : Rest) → approvers_after events c rest None ≡ cond (fit_after events c rest None) (approvers_back events c) None

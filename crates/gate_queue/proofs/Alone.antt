@@ -1,4 +1,4 @@
--- A lane of single changes stays one, whatever is done to it. What loses its change is gone, and all else is as it was.
+-- A lane of single changes stays one, whatever may be done to tries. What loses its change is gone, and all else is as it was.
 use Rattle.std.proofs.Common.{◌≡◌, ℕ, eqb, Bool, true, false, not, ◌&&◌, cond, if◌then◌else◌, List, [], ◌∷◌, length, take, drop, Option, Some, None, IfSome, refl, sym, ◌∙◌, ap, subst, arith}
 use Rattle.std.proofs.lemmas.Bool.Decides.{nat_tests}
 use Rattle.std.proofs.lemmas.List.Elements.{All-cons, All-head, All-tail, All-append, All-take, All-drop, All-filter}

@@ -1,15 +1,15 @@
 -- The changes of a desk after one of them was altered, or many.
-use Rattle.std.proofs.Common.{◌≡◌, ℕ, Bool, true, false, cond, ◌||◌, List, [], ◌∷◌, Option, Some, None, eqb, refl, sym, ◌∙◌, ap}
+use Rattle.std.proofs.Common.{◌≡◌, ℕ, Bool, true, false, cond, not, ◌&&◌, ◌||◌, List, [], ◌∷◌, Option, Some, None, eqb, refl, sym, ◌∙◌, ap}
 use Rattle.std.proofs.lemmas.Bool.Decides.{Decides-eqb}
 use Rattle.std.specs.Cmp.{nat_cmp_total, unsigned_ties}
 use Rattle.std.specs.FinMap as finite
 use Rattle.std.specs.FinMap.{get-insert}
 use Rattle.std.specs.List.{list_any}
-use Rattle.std.specs.Option.{option_map}
+use Rattle.std.specs.Option.{option_map, option_map_or}
 use Rattle.gate_rules.specs.Rules.{Look}
 use Rattle.gate_rules.specs.View.{DeskView, with_change, look}
 use Rattle.gate_rules.specs.declared.change.Change.{Change}
-use Rattle.gate_queue.specs.Machine.{with_altered, altered, all_altered, opened}
+use Rattle.gate_queue.specs.Machine.{with_altered, altered, lone_altered, all_altered, opened}
 
 pub same_number : (c number : ℕ) → eqb c number ≡ true → c ≡ number
 same_number c number is = (Decides-eqb c number).0 is
@@ -77,3 +77,38 @@ all_look alter same (n ∷ changes) desk =
       step true true had = twice alter same had
       step true false had = refl
       step false rest had = refl
+
+-- THE ONE CHANGE of a batch that has no other is altered.
+module _ (alter : Change → Change) (desk : DeskView) (one : Option ℕ) where
+  abbrev is_one : ℕ → Bool
+  is_one c = option_map_or (λ n. eqb c n) one false
+
+  pub lone_at : (c : ℕ) → finite.get (lone_altered alter desk one).changes c ≡ cond (is_one c) (option_map alter (finite.get desk.changes c)) (finite.get desk.changes c)
+  lone_at c = by one where
+    by : (o : Option ℕ) → finite.get (lone_altered alter desk o).changes c ≡ cond (option_map_or (λ n. eqb c n) o false) (option_map alter (finite.get desk.changes c)) (finite.get desk.changes c)
+    by None = refl
+    by (Some n) = ap (λ (l : Look). l.change c) (altered_look desk n alter)
+
+  pub lone_rest : ((lone_altered alter desk one).settings ≡ desk.settings) × ((lone_altered alter desk one).clock ≡ desk.clock)
+  lone_rest = by one where
+    by : (o : Option ℕ) → ((lone_altered alter desk o).settings ≡ desk.settings) × ((lone_altered alter desk o).clock ≡ desk.clock)
+    by None = (refl, refl)
+    by (Some n) = (ap (λ (l : Look). l.settings) (altered_look desk n alter), ap (λ (l : Look). l.clock) (altered_look desk n alter))
+
+  -- what the alteration leaves of each change stays
+  pub lone_same : {X : Type 0} (of : Change → X) (none : X) → ((change : Change) → of (alter change) ≡ of change) → (c : ℕ)
+      → option_map_or of (finite.get (lone_altered alter desk one).changes c) none ≡ option_map_or of (finite.get desk.changes c) none
+  lone_same of none same c = ap (λ (o : Option Change). option_map_or of o none) (lone_at c) ∙ by (is_one c) (finite.get desk.changes c) where
+    by : (b : Bool) (had : Option Change) → option_map_or of (cond b (option_map alter had) had) none ≡ option_map_or of had none
+    by true None = refl
+    by true (Some change) = same change
+    by false had = refl
+
+  -- and what it ends, it ends of the one change
+  pub lone_ends : (of : Change → Bool) → ((change : Change) → of (alter change) ≡ false) → (c : ℕ)
+      → option_map_or of (finite.get (lone_altered alter desk one).changes c) false ≡ (not (is_one c) && option_map_or of (finite.get desk.changes c) false)
+  lone_ends of ended c = ap (λ (o : Option Change). option_map_or of o false) (lone_at c) ∙ by (is_one c) (finite.get desk.changes c) where
+    by : (b : Bool) (had : Option Change) → option_map_or of (cond b (option_map alter had) had) false ≡ (not b && option_map_or of had false)
+    by true None = refl
+    by true (Some change) = ended change
+    by false had = refl

@@ -1,5 +1,5 @@
 -- What the history says of a change after one more fact: the change as it was said before, altered.
-use Rattle.std.proofs.Common.{◌≡◌, ℕ, Bool, true, false, cond, not, List, ◌∷◌, Option, Some, None, Result, Ok, refl, sym, ◌∙◌, ap}
+use Rattle.std.proofs.Common.{◌≡◌, ℕ, Bool, true, false, cond, not, ◌&&◌, List, ◌∷◌, Option, Some, None, Result, Ok, refl, sym, ◌∙◌, ap}
 use Rattle.std.proofs.lemmas.Slice.Eq.{bytes_eq-Decides}
 use Rattle.std.specs.FinSet as set
 use Rattle.std.specs.Option.{option_map, option_or}
@@ -8,7 +8,7 @@ use Rattle.std.specs.Str.{bytes_eq}
 use Rattle.gate_text.specs.Settings.{SettingsView, settings_of}
 use Rattle.gate_rules.specs.Rules.{Texts, is_open_phase, is_fit}
 use Rattle.gate_rules.specs.declared.change.Phase.TheVariants as phase
-use Rattle.gate_queue.specs.History.{Event, did, last_of, said_on, author_back, head_back, phase_by, phase_back, landed_back, settings_back, labels_back, reviews_back, approval_said, standing_back, change_of, change_back}
+use Rattle.gate_queue.specs.History.{Event, did, last_of, said_on, author_back, head_back, phase_by, phase_back, landed_back, settings_back, labels_back, reviews_back, approval_said, standing_back, tried_back, change_of, change_back}
 use Rattle.gate_queue.specs.Machine.{closed, pushed, moved_to, labeled, with_label, without_label, reviewed, with_review, opened, settled}
 use Rattle.gate_queue.specs.declared.act.Act.TheVariants.{Settings, Opened, Pushed, Closed, Labeled, Unlabeled, Review}
 use Rattle.gate_queue.proofs.After.{Rest, rest_back, change_after, change_of_after, altered_here, silent, ended, stays, standing_fit, unless_unfit, elsewhere}
@@ -57,12 +57,21 @@ module _ (events : List Event) (c n : ℕ) where
       let at = (bytes_eq-Decides (head_back events c) head).0 had in
       let reviews = ap (λ (b : Bool). cond b set.empty (reviews_back events c)) moving in
       let fit = ap (λ (r : Texts). is_fit (settings_back events) (phase_back events c) (labels_back events c) r) reviews in
-      λ i. record (change_of events c author) { head = at i; reviews = (sym reviews) i; approved = (sym (stays events c act refl moving (λ was. fit ∙ was))) i }
+      λ i. record (change_of events c author) {
+        head = at i;
+        reviews = (sym reviews) i;
+        approved = (sym (stays events c act refl moving (λ was. fit ∙ was))) i;
+        trying = (not ((sym moving) i) && tried_back events c) && not (landed_back events c);
+      }
   pushed_here head author false had =
       let act = Pushed n head in
       let moving = ap not had in
       let reviews = ap (λ (b : Bool). cond b set.empty (reviews_back events c)) moving in
-      λ i. record (moved_to head (change_of events c author)) { reviews = (sym reviews) i; approved = (sym (ended events c act refl moving)) i }
+      λ i. record (moved_to head (change_of events c author)) {
+        reviews = (sym reviews) i;
+        approved = (sym (ended events c act refl moving)) i;
+        trying = (not ((sym moving) i) && tried_back events c) && not (landed_back events c);
+      }
 
   pub pushed_next : (head : List ℕ) → option_map (pushed head) (change_back events c) ≡ change_after events c (rest_back events c) (Some (Pushed n head))
   pushed_next head = altered_here events c (pushed head) (Pushed n head) refl (λ author is. pushed_here head author _ refl)

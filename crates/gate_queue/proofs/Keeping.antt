@@ -11,21 +11,24 @@ use Rattle.std.specs.Ordering.{int_eq}
 use Rattle.gate_rules.specs.View.{DeskView}
 use Rattle.gate_rules.specs.declared.change.Change.{Change}
 use Rattle.gate_queue.specs.Counts.{occurs, held, held_by, in_running, in_landing, in_lone, of_any_priority}
-use Rattle.gate_queue.specs.Lanes.{batches_of, has_several, is_landing, back, only, left, loses, stops_running, with_report, taken_out, restarted, requeued, failed, started, staged, reported, landing}
-use Rattle.gate_queue.specs.Machine.{approved_on, landing_on, priority_on, size_on, all_but, lone, followed, followed_on, is_required}
+use Rattle.gate_queue.specs.Lanes.{batches_of, has_several, is_landing, back, only, left, loses, stops_running, with_report, enqueued, tried, taken_out, restarted, requeued, failed, started, staged, reported, landing}
+use Rattle.gate_queue.specs.Machine.{approved_on, landing_on, priority_on, trying_on, size_on, all_but, lone, followed, tried_by, approval_followed, followed_on, is_required}
 use Rattle.gate_queue.specs.Queue as specs
-use Rattle.gate_queue.specs.State.{Marks, marks_on, IsRunning, IsQueue, is_not}
+use Rattle.gate_queue.specs.Service.{QueueIsInOrder, AreAlone}
+use Rattle.gate_queue.specs.State.{Marks, marks_on, IsRunning, IsBranch, IsQueue, is_not}
 use Rattle.gate_text.specs.Settings.{SettingsView}
 use Rattle.gate_queue.specs.declared.batch.Batch.{Batch}
-use Rattle.gate_queue.specs.declared.batch.Branch.TheVariants.{Staging}
+use Rattle.gate_queue.specs.declared.batch.Branch.{Branch}
+use Rattle.gate_queue.specs.declared.batch.Branch.TheVariants.{Staging, Trying}
 use Rattle.gate_queue.specs.declared.batch.Report.{Report}
 use Rattle.gate_queue.specs.declared.batch.Stage.{Stage}
 use Rattle.gate_queue.specs.declared.batch.Stage.TheVariants.{Waiting, Ordered, Staged, Landing}
 use Rattle.gate_queue.specs.declared.lane.Lane.{Lane}
 use Rattle.gate_queue.specs.declared.queue.Queue.{Queue}
-use Rattle.gate_queue.proofs.Apart.{enqueued_order, taken_out_order, restarted_order, requeued_order, failed_order, started_order, staged_order, reported_order, landing_order}
-use Rattle.gate_queue.proofs.Batches.{IsLane, enqueued_lane, taken_out_lane, restarted_lane, requeued_lane, failed_lane, started_lane, later_lane, staged_lane, reported_lane, landing_lane}
-use Rattle.gate_queue.proofs.Counts.{held_is, enqueue_law, take_out_law, restart_law, requeue_law, start_law, stage_law, report_law, land_law, fail_law}
+use Rattle.gate_queue.proofs.Alone.{singles_law}
+use Rattle.gate_queue.proofs.Apart.{enqueued_order, taken_out_order, tried_order}
+use Rattle.gate_queue.proofs.Batches.{IsLane, enqueued_lane, tried_lane, taken_out_lane, restarted_lane, requeued_lane, failed_lane, started_lane, later_lane, staged_lane, reported_lane, landing_lane}
+use Rattle.gate_queue.proofs.Counts.{held_is, enqueue_law, try_law, take_out_law, restart_law, requeue_law, start_law, stage_law, report_law, land_law, fail_law}
 
 abbrev once : Bool → ℕ
 once b = if b then 1 else 0
@@ -137,207 +140,195 @@ same_priority : (priority : ℤ) → is_not priority priority ≡ false
 same_priority priority = ap not ((signed_Decides priority priority).1 refl)
 
 -- ONE OPERATION, under the marks before and after
-module _ (now : ℕ) (settings : Option SettingsView) (old new : Marks) (queue : Queue) (is : IsQueue now settings old queue) where
-  lane_is : IsLane now settings queue.staging
+module _ (on : Branch) (now : ℕ) (settings : Option SettingsView) (old new : Marks) (number : ℕ) (lane : Lane) (is : IsBranch on now settings old lane) where
+  lane_is : IsLane on now settings lane
   lane_is = record { waiting = is.waiting; running = is.running }
 
-  -- a change is queued that was neither approved nor landing
-  pub enqueued_keeps : (size : Option ℕ) (change : ℕ) → (old.approved change || old.landing change) ≡ false → new.approved change ≡ true
-      → ((other : ℕ) → eqb other change ≡ false → (new.approved other ≡ old.approved other) × (new.priority other ≡ old.priority other))
+  -- a change is put in that was neither wanted nor landing, under its priority
+  pub put_in_keeps : (after : Lane) (change : ℕ) → IsLane on now settings after
+      → ((test : ℤ → Bool) (other : ℕ) → held test other after ≡ held test other lane + (if eqb other change && test (new.priority change) then 1 else 0))
+      → ((other : ℕ) → in_landing of_any_priority other after ≡ in_landing of_any_priority other lane)
+      → (old.wanted change || old.landing change) ≡ false → new.wanted change ≡ true
+      → ((other : ℕ) → eqb other change ≡ false → (new.wanted other ≡ old.wanted other) × (new.priority other ≡ old.priority other))
       → ((other : ℕ) → new.landing other ≡ old.landing other)
-      → IsQueue now settings new (specs.enqueued size (new.priority change) change queue)
-  enqueued_keeps size change wasnt is' others lands_as =
-      let lane = enqueued_lane now settings queue.staging size queue.next (new.priority change) change lane_is in
+      → IsBranch on now settings new after
+  put_in_keeps after change batches counted still wasnt is' others lands_as =
       record {
-        order = enqueued_order queue is.order size (new.priority change) change;
-        waiting = lane.waiting;
-        running = lane.running;
-        trying = is.trying;
-        places = λ other. enqueue_law of_any_priority size queue.next (new.priority change) change other queue.staging ∙ placed_at other (eqb other change) refl;
-        priorities = λ other. enqueue_law (is_not (new.priority other)) size queue.next (new.priority change) change other queue.staging ∙ priced_at other (eqb other change) refl;
-        landing = λ other. is.landing other ∙ ap once (sym (lands_as other));
+        waiting = batches.waiting;
+        running = batches.running;
+        places = λ other. counted of_any_priority other ∙ placed_at other (eqb other change) refl;
+        priorities = λ other. counted (is_not (new.priority other)) other ∙ priced_at other (eqb other change) refl;
+        landing = λ other. still other ∙ is.landing other ∙ ap once (sym (lands_as other));
       } where
-        none : (other : ℕ) → eqb other change ≡ true → held of_any_priority other queue.staging ≡ 0
+        none : (other : ℕ) → eqb other change ≡ true → held of_any_priority other lane ≡ 0
         none other same =
             let at = (Decides-eqb other change).0 same in
-            is.places other ∙ ap {B = ℕ} (λ c. once (old.approved c || old.landing c)) at ∙ ap once wasnt
+            is.places other ∙ ap {B = ℕ} (λ c. once (old.wanted c || old.landing c)) at ∙ ap once wasnt
 
-        placed_at : (other : ℕ) (b : Bool) → eqb other change ≡ b → held of_any_priority other queue.staging + (if b && true then 1 else 0) ≡ once (new.approved other || new.landing other)
+        placed_at : (other : ℕ) (b : Bool) → eqb other change ≡ b → held of_any_priority other lane + (if b && true then 1 else 0) ≡ once (new.wanted other || new.landing other)
         placed_at other true same =
             let at = (Decides-eqb other change).0 same in
-            let after : once (new.approved other || new.landing other) ≡ 1 = ap {B = ℕ} (λ (b : Bool). once (b || new.landing other)) (ap new.approved at ∙ is') in
+            let after : once (new.wanted other || new.landing other) ≡ 1 = ap {B = ℕ} (λ (b : Bool). once (b || new.landing other)) (ap new.wanted at ∙ is') in
             omega (arith, none other same, after)
         placed_at other false differs =
-            let after : once (new.approved other || new.landing other) ≡ once (old.approved other || old.landing other) =
+            let after : once (new.wanted other || new.landing other) ≡ once (old.wanted other || old.landing other) =
             (λ i. once ((others other differs).0 i || lands_as other i)) in
             omega (arith, is.places other, after)
 
-        priced_at : (other : ℕ) (b : Bool) → eqb other change ≡ b → held (is_not (new.priority other)) other queue.staging + (if b && is_not (new.priority other) (new.priority change) then 1 else 0) ≡ 0
+        priced_at : (other : ℕ) (b : Bool) → eqb other change ≡ b → held (is_not (new.priority other)) other lane + (if b && is_not (new.priority other) (new.priority change) then 1 else 0) ≡ 0
         priced_at other true same =
-            let less = held_less (is_not (new.priority other)) other queue.staging in
+            let less = held_less (is_not (new.priority other)) other lane in
             let its = ap once (ap (λ c. is_not (new.priority c) (new.priority change)) ((Decides-eqb other change).0 same) ∙ same_priority (new.priority change)) in
             omega (arith, none other same, less, its)
         priced_at other false differs =
-            let after = ap (λ p. held (is_not p) other queue.staging) (others other differs).1 in
+            let after = ap (λ p. held (is_not p) other lane) (others other differs).1 in
             omega (arith, is.priorities other, after)
 
   -- changes are taken out that are no longer approved; the others stay as they are, and so does what is landing
   pub taken_out_keeps : (stays : ℕ → Bool)
-      → ((change : ℕ) → stays change ≡ true → (new.approved change ≡ old.approved change) × (new.priority change ≡ old.priority change))
-      → ((change : ℕ) → stays change ≡ false → new.approved change ≡ false)
+      → ((change : ℕ) → stays change ≡ true → (new.wanted change ≡ old.wanted change) × (new.priority change ≡ old.priority change))
+      → ((change : ℕ) → stays change ≡ false → new.wanted change ≡ false)
       → ((change : ℕ) → (new.landing change ≡ old.landing change) × (old.landing change ≡ true → new.priority change ≡ old.priority change))
-      → IsQueue now settings new (specs.taken_out Staging stays queue)
+      → IsBranch on now settings new (taken_out stays number lane)
   taken_out_keeps stays kept gone lands_as =
-      let lane = taken_out_lane now settings queue.staging stays queue.next lane_is in
+      let batches = taken_out_lane on now settings lane stays number lane_is in
       record {
-        order = taken_out_order queue is.order Staging stays;
-        waiting = lane.waiting;
-        running = lane.running;
-        trying = is.trying;
-        places = λ change. take_out_law of_any_priority stays queue.next change queue.staging ∙ placed_at change (stays change) refl;
-        priorities = λ change. take_out_law (is_not (new.priority change)) stays queue.next change queue.staging ∙ priced_at change (stays change) refl;
-        landing = λ change. taken_out_landing of_any_priority change queue.next queue.staging stays ∙ is.landing change ∙ ap once (sym (lands_as change).0);
+        waiting = batches.waiting;
+        running = batches.running;
+        places = λ change. take_out_law of_any_priority stays number change lane ∙ placed_at change (stays change) refl;
+        priorities = λ change. take_out_law (is_not (new.priority change)) stays number change lane ∙ priced_at change (stays change) refl;
+        landing = λ change. taken_out_landing of_any_priority change number lane stays ∙ is.landing change ∙ ap once (sym (lands_as change).0);
       } where
         placed_at : (change : ℕ) (b : Bool) → stays change ≡ b
-            → (if b then held of_any_priority change queue.staging else in_landing of_any_priority change queue.staging) ≡ once (new.approved change || new.landing change)
+            → (if b then held of_any_priority change lane else in_landing of_any_priority change lane) ≡ once (new.wanted change || new.landing change)
         placed_at change true stay = is.places change ∙ (λ i. once ((sym (kept change stay).0) i || (sym (lands_as change).0) i))
         placed_at change false go = is.landing change ∙ (λ i. once ((sym (gone change go)) i || (sym (lands_as change).0) i))
 
-        lands_under : (change : ℕ) (at : Bool) → old.landing change ≡ at → in_landing (is_not (new.priority change)) change queue.staging ≡ 0
+        lands_under : (change : ℕ) (at : Bool) → old.landing change ≡ at → in_landing (is_not (new.priority change)) change lane ≡ 0
         lands_under change true at =
-            let same = ap (λ p. in_landing (is_not p) change queue.staging) ((lands_as change).1 at) in
-            omega (arith, same, landing_held (is_not (old.priority change)) change queue.staging, is.priorities change)
+            let same = ap (λ p. in_landing (is_not p) change lane) ((lands_as change).1 at) in
+            omega (arith, same, landing_held (is_not (old.priority change)) change lane, is.priorities change)
         lands_under change false at =
             let none = is.landing change ∙ ap once at in
-            omega (arith, none, landing_less (is_not (new.priority change)) change queue.staging)
+            omega (arith, none, landing_less (is_not (new.priority change)) change lane)
 
         priced_at : (change : ℕ) (b : Bool) → stays change ≡ b
-            → (if b then held (is_not (new.priority change)) change queue.staging else in_landing (is_not (new.priority change)) change queue.staging) ≡ 0
-        priced_at change true stay = ap (λ p. held (is_not p) change queue.staging) (kept change stay).1 ∙ is.priorities change
+            → (if b then held (is_not (new.priority change)) change lane else in_landing (is_not (new.priority change)) change lane) ≡ 0
+        priced_at change true stay = ap (λ p. held (is_not p) change lane) (kept change stay).1 ∙ is.priorities change
         priced_at change false go = lands_under change (old.landing change) refl
 
   abbrev after : Lane
-  after = (specs.requeued Staging new.approved queue).staging
+  after = requeued new.wanted number lane
 
   -- The running batch waits again with what is approved of it. What was landing no longer is, and only that may have lost its
   -- approval.
   pub requeued_keeps : (later : ℕ) (others : Option SettingsView)
-      → ((change : ℕ) → new.approved change ≡ true → (old.approved change ≡ true) × (new.priority change ≡ old.priority change))
-      → ((change : ℕ) → new.approved change ≡ false → old.approved change ≡ true → old.landing change ≡ true)
+      → ((change : ℕ) → new.wanted change ≡ true → (old.wanted change ≡ true) × (new.priority change ≡ old.priority change))
+      → ((change : ℕ) → new.wanted change ≡ false → old.wanted change ≡ true → old.landing change ≡ true)
       → ((change : ℕ) → new.landing change ≡ false)
-      → IsQueue later others new (specs.requeued Staging new.approved queue)
+      → IsBranch on later others new (requeued new.wanted number lane)
   requeued_keeps later others kept gone none =
-      let lane = requeued_lane now later settings others queue.staging new.approved queue.next lane_is in
+      let batches = requeued_lane on now later settings others lane new.wanted number lane_is in
       record {
-        order = requeued_order queue is.order Staging new.approved;
-        waiting = lane.waiting;
-        running = lane.running;
-        trying = is.trying;
-        places = λ change. placed_at change (new.approved change) refl ∙ ap {B = ℕ} (λ (b : Bool). once (new.approved change || b)) (sym (none change));
-        priorities = λ change. priced_at change (new.approved change) refl;
-        landing = λ change. requeued_landing of_any_priority change queue.next queue.staging new.approved ∙ ap {B = ℕ} once (sym (none change));
+        waiting = batches.waiting;
+        running = batches.running;
+        places = λ change. placed_at change (new.wanted change) refl ∙ ap {B = ℕ} (λ (b : Bool). once (new.wanted change || b)) (sym (none change));
+        priorities = λ change. priced_at change (new.wanted change) refl;
+        landing = λ change. requeued_landing of_any_priority change number lane new.wanted ∙ ap {B = ℕ} once (sym (none change));
       } where
-        counted : (test : ℤ → Bool) (change : ℕ) → held test change after + (if new.approved change then 0 else in_running test change queue.staging) ≡ held test change queue.staging
-        counted test change = requeue_law test new.approved queue.next change queue.staging
+        counted : (test : ℤ → Bool) (change : ℕ) → held test change after + (if new.wanted change then 0 else in_running test change lane) ≡ held test change lane
+        counted test change = requeue_law test new.wanted number change lane
 
-        was : (change : ℕ) → old.approved change ≡ true → held of_any_priority change queue.staging ≡ 1
+        was : (change : ℕ) → old.wanted change ≡ true → held of_any_priority change lane ≡ 1
         was change approved = is.places change ∙ ap {B = ℕ} (λ (b : Bool). once (b || old.landing change)) approved
 
-        only_landing : (change : ℕ) → new.approved change ≡ false → (had landing_too : Bool) → old.approved change ≡ had → old.landing change ≡ landing_too
-            → held of_any_priority change queue.staging ≤ in_landing of_any_priority change queue.staging
+        only_landing : (change : ℕ) → new.wanted change ≡ false → (had landing_too : Bool) → old.wanted change ≡ had → old.landing change ≡ landing_too
+            → held of_any_priority change lane ≤ in_landing of_any_priority change lane
         only_landing change lost true true had too = omega (arith, was change had, is.landing change ∙ ap {B = ℕ} once too)
         only_landing change lost true false had too = cc (sym (gone change lost had) ∙ too)
         only_landing change lost false landing_too had too =
             let place = is.places change ∙ ap {B = ℕ} (λ (b : Bool). once (b || old.landing change)) had in
             omega (arith, place, is.landing change)
 
-        emptied : (change : ℕ) → new.approved change ≡ false → held of_any_priority change after ≡ 0
+        emptied : (change : ℕ) → new.wanted change ≡ false → held of_any_priority change after ≡ 0
         emptied change lost =
-            let left_over = only_landing change lost (old.approved change) (old.landing change) refl refl in
+            let left_over = only_landing change lost (old.wanted change) (old.landing change) refl refl in
             let count = counted of_any_priority change ∙ refl in
-            let gone_all = ap {B = ℕ} (λ (b : Bool). held of_any_priority change after + (if b then 0 else in_running of_any_priority change queue.staging)) (sym lost) in
-            omega (arith, left_over, count, gone_all, landing_runs of_any_priority change queue.staging)
+            let gone_all = ap {B = ℕ} (λ (b : Bool). held of_any_priority change after + (if b then 0 else in_running of_any_priority change lane)) (sym lost) in
+            omega (arith, left_over, count, gone_all, landing_runs of_any_priority change lane)
 
-        stayed : (test : ℤ → Bool) (change : ℕ) → new.approved change ≡ true → held test change after ≡ held test change queue.staging
+        stayed : (test : ℤ → Bool) (change : ℕ) → new.wanted change ≡ true → held test change after ≡ held test change lane
         stayed test change approved =
-            let all = ap {B = ℕ} (λ (b : Bool). held test change after + (if b then 0 else in_running test change queue.staging)) (sym approved) in
+            let all = ap {B = ℕ} (λ (b : Bool). held test change after + (if b then 0 else in_running test change lane)) (sym approved) in
             omega (arith, all, counted test change)
 
-        placed_at : (change : ℕ) (b : Bool) → new.approved change ≡ b → held of_any_priority change after ≡ once (new.approved change || false)
+        placed_at : (change : ℕ) (b : Bool) → new.wanted change ≡ b → held of_any_priority change after ≡ once (new.wanted change || false)
         placed_at change true approved = stayed of_any_priority change approved ∙ was change (kept change approved).0 ∙ ap {B = ℕ} (λ (b : Bool). once (b || false)) (sym approved)
         placed_at change false lost = emptied change lost ∙ ap {B = ℕ} (λ (b : Bool). once (b || false)) (sym lost)
 
-        priced_at : (change : ℕ) (b : Bool) → new.approved change ≡ b → held (is_not (new.priority change)) change after ≡ 0
+        priced_at : (change : ℕ) (b : Bool) → new.wanted change ≡ b → held (is_not (new.priority change)) change after ≡ 0
         priced_at change true approved =
-            stayed (is_not (new.priority change)) change approved ∙ ap (λ p. held (is_not p) change queue.staging) (kept change approved).1 ∙ is.priorities change
+            stayed (is_not (new.priority change)) change approved ∙ ap (λ p. held (is_not p) change lane) (kept change approved).1 ∙ is.priorities change
         priced_at change false lost = omega (arith, emptied change lost, held_less (is_not (new.priority change)) change after)
 
 -- the same under the same marks
-module _ (now : ℕ) (settings : Option SettingsView) (marks : Marks) (queue : Queue) (is : IsQueue now settings marks queue) where
-  its_lane : IsLane now settings queue.staging
+module _ (on : Branch) (now : ℕ) (settings : Option SettingsView) (marks : Marks) (number : ℕ) (lane : Lane) (is : IsBranch on now settings marks lane) where
+  its_lane : IsLane on now settings lane
   its_lane = record { waiting = is.waiting; running = is.running }
 
   -- the running batch waits again, unless it is landing, under whatever settings
-  pub restarted_keeps : (later : ℕ) (others : Option SettingsView) → IsQueue later others marks (specs.restarted Staging queue)
+  pub restarted_keeps : (later : ℕ) (others : Option SettingsView) → IsBranch on later others marks (restarted number lane)
   restarted_keeps later others =
-      let lane = restarted_lane now later settings others queue.staging queue.next its_lane in
+      let batches = restarted_lane on now later settings others lane number its_lane in
       record {
-        order = restarted_order queue is.order Staging;
-        waiting = lane.waiting;
-        running = lane.running;
-        trying = is.trying;
-        places = λ change. restart_law of_any_priority queue.next change queue.staging ∙ is.places change;
-        priorities = λ change. restart_law (is_not (marks.priority change)) queue.next change queue.staging ∙ is.priorities change;
-        landing = λ change. restarted_landing of_any_priority change queue.next queue.staging ∙ is.landing change;
+        waiting = batches.waiting;
+        running = batches.running;
+        places = λ change. restart_law of_any_priority number change lane ∙ is.places change;
+        priorities = λ change. restart_law (is_not (marks.priority change)) number change lane ∙ is.priorities change;
+        landing = λ change. restarted_landing of_any_priority change number lane ∙ is.landing change;
       }
 
-  pub started_keeps : (later : ℕ) → now ≤ later → IsQueue later settings marks (specs.started Staging later queue)
-  started_keeps later on =
-      let lane = started_lane now later settings queue.staging on its_lane in
+  pub started_keeps : (later : ℕ) → now ≤ later → IsBranch on later settings marks (started later lane)
+  started_keeps later past =
+      let batches = started_lane on now later settings lane past its_lane in
       record {
-        order = started_order queue is.order Staging later;
-        waiting = lane.waiting;
-        running = lane.running;
-        trying = is.trying;
-        places = λ change. start_law of_any_priority later change queue.staging ∙ is.places change;
-        priorities = λ change. start_law (is_not (marks.priority change)) later change queue.staging ∙ is.priorities change;
-        landing = λ change. started_landing of_any_priority change queue.next queue.staging later ∙ is.landing change;
+        waiting = batches.waiting;
+        running = batches.running;
+        places = λ change. start_law of_any_priority later change lane ∙ is.places change;
+        priorities = λ change. start_law (is_not (marks.priority change)) later change lane ∙ is.priorities change;
+        landing = λ change. started_landing of_any_priority change number lane later ∙ is.landing change;
       }
 
   -- a batch that isn't landing is staged
-  pub staged_keeps : (commit : List ℕ) → lands queue.staging.running ≡ false → IsQueue now settings marks (specs.staged Staging now commit queue)
+  pub staged_keeps : (commit : List ℕ) → lands lane.running ≡ false → IsBranch on now settings marks (staged now commit lane)
   staged_keeps commit not_so =
-      let lane = staged_lane now settings queue.staging commit its_lane in
+      let batches = staged_lane on now settings lane commit its_lane in
       record {
-        order = staged_order queue is.order Staging now commit;
-        waiting = lane.waiting;
-        running = lane.running;
-        trying = is.trying;
-        places = λ change. stage_law of_any_priority now commit change queue.staging ∙ is.places change;
-        priorities = λ change. stage_law (is_not (marks.priority change)) now commit change queue.staging ∙ is.priorities change;
+        waiting = batches.waiting;
+        running = batches.running;
+        places = λ change. stage_law of_any_priority now commit change lane ∙ is.places change;
+        priorities = λ change. stage_law (is_not (marks.priority change)) now commit change lane ∙ is.priorities change;
         landing = λ change.
-            staged_landing of_any_priority change queue.next queue.staging now commit
-            ∙ sym (none_landing of_any_priority change queue.staging.running queue.staging.waiting not_so) ∙ is.landing change;
+            staged_landing of_any_priority change number lane now commit
+            ∙ sym (none_landing of_any_priority change lane.running lane.waiting not_so) ∙ is.landing change;
       }
 
-  pub reported_keeps : (name : List ℕ) (report : Report) → is_required settings name ≡ true → IsQueue now settings marks (specs.reported Staging name report queue)
+  pub reported_keeps : (name : List ℕ) (report : Report) → is_required settings name ≡ true → IsBranch on now settings marks (reported name report lane)
   reported_keeps name report required =
-      let lane = reported_lane now settings queue.staging name report required its_lane in
+      let batches = reported_lane on now settings lane name report required its_lane in
       record {
-        order = reported_order queue is.order Staging name report;
-        waiting = lane.waiting;
-        running = lane.running;
-        trying = is.trying;
-        places = λ change. report_law of_any_priority name report change queue.staging ∙ is.places change;
-        priorities = λ change. report_law (is_not (marks.priority change)) name report change queue.staging ∙ is.priorities change;
-        landing = λ change. reported_landing of_any_priority change queue.next queue.staging name report ∙ is.landing change;
+        waiting = batches.waiting;
+        running = batches.running;
+        places = λ change. report_law of_any_priority name report change lane ∙ is.places change;
+        priorities = λ change. report_law (is_not (marks.priority change)) name report change lane ∙ is.priorities change;
+        landing = λ change. reported_landing of_any_priority change number lane name report ∙ is.landing change;
       }
 
   -- the clock goes on
-  pub later_keeps : (later : ℕ) → now ≤ later → IsQueue later settings marks queue
-  later_keeps later on =
-      let lane = later_lane now later settings queue.staging on its_lane in
-      record { order = is.order; waiting = lane.waiting; running = lane.running; trying = is.trying; places = is.places; priorities = is.priorities; landing = is.landing }
+  pub later_keeps : (later : ℕ) → now ≤ later → IsBranch on later settings marks lane
+  later_keeps later past =
+      let batches = later_lane on now later settings lane past its_lane in
+      record { waiting = batches.waiting; running = batches.running; places = is.places; priorities = is.priorities; landing = is.landing }
 
 -- A BATCH IS TO LAND: its changes are marked, which are approved.
 -- a change that is in a list, or isn't
@@ -370,33 +361,31 @@ in_list change (first ∷ changes) few =
       by true false one few rest = omega (arith, one, rest)
       by false there one few rest = omega (arith, one, rest)
 
-module _ (now : ℕ) (settings : Option SettingsView) (old new : Marks) (queue : Queue) (is : IsQueue now settings old queue) (batch : Batch)
-    (runs : queue.staging.running ≡ Some batch) (since : ℕ) (commit : List ℕ) (reports : finite.FinMap _ Report) (stage : batch.stage ≡ Staged since commit reports) where
-  not_yet : (test : ℤ → Bool) (change : ℕ) → in_landing test change queue.staging ≡ 0
+module _ (on : Branch) (now : ℕ) (settings : Option SettingsView) (old new : Marks) (number : ℕ) (lane : Lane) (is : IsBranch on now settings old lane) (batch : Batch)
+    (runs : lane.running ≡ Some batch) (since : ℕ) (commit : List ℕ) (reports : finite.FinMap _ Report) (stage : batch.stage ≡ Staged since commit reports) where
+  not_yet : (test : ℤ → Bool) (change : ℕ) → in_landing test change lane ≡ 0
   not_yet test change =
-      none_landing test change queue.staging.running queue.staging.waiting (ap lands runs ∙ ap is_landing stage)
+      none_landing test change lane.running lane.waiting (ap lands runs ∙ ap is_landing stage)
 
-  running_is : (test : ℤ → Bool) (change : ℕ) → in_running test change queue.staging ≡ held_by test change batch
+  running_is : (test : ℤ → Bool) (change : ℕ) → in_running test change lane ≡ held_by test change batch
   running_is test change = ap (λ (o : Option Batch). option_map_or (held_by test change) o 0) runs
 
-  lands_now : (change : ℕ) → in_landing of_any_priority change (specs.landing Staging queue).staging ≡ occurs change batch.changes
+  lands_now : (change : ℕ) → in_landing of_any_priority change (landing lane) ≡ occurs change batch.changes
   lands_now change =
-      ap (λ (o : Option Batch). in_landing of_any_priority change (landing (record { running = o; waiting = queue.staging.waiting }))) runs
-      ∙ ap (λ (at : Stage). in_landing of_any_priority change (landing (record { running = Some (record batch { stage = at }); waiting = queue.staging.waiting }))) stage
+      ap (λ (o : Option Batch). in_landing of_any_priority change (landing (record { running = o; waiting = lane.waiting }))) runs
+      ∙ ap (λ (at : Stage). in_landing of_any_priority change (landing (record { running = Some (record batch { stage = at }); waiting = lane.waiting }))) stage
 
-  pub landing_keeps : ((change : ℕ) → (new.approved change ≡ old.approved change) × (new.priority change ≡ old.priority change))
+  pub landing_keeps : ((change : ℕ) → (new.wanted change ≡ old.wanted change) × (new.priority change ≡ old.priority change))
       → ((change : ℕ) → new.landing change ≡ (list_any (eqb change) batch.changes || old.landing change))
-      → IsQueue now settings new (specs.landing Staging queue)
+      → IsBranch on now settings new (landing lane)
   landing_keeps same marked =
-      let lane = landing_lane now settings queue.staging (record { waiting = is.waiting; running = is.running }) in
+      let batches = landing_lane on now settings lane (record { waiting = is.waiting; running = is.running }) in
       record {
-        order = landing_order queue is.order Staging;
-        waiting = lane.waiting;
-        running = lane.running;
-        trying = is.trying;
-        places = λ change. land_law of_any_priority change queue.staging ∙ placed_at change (list_any (eqb change) batch.changes) (old.approved change) (old.landing change) refl refl refl;
+        waiting = batches.waiting;
+        running = batches.running;
+        places = λ change. land_law of_any_priority change lane ∙ placed_at change (list_any (eqb change) batch.changes) (old.wanted change) (old.landing change) refl refl refl;
         priorities = λ change.
-            land_law (is_not (new.priority change)) change queue.staging ∙ ap (λ p. held (is_not p) change queue.staging) (same change).1 ∙ is.priorities change;
+            land_law (is_not (new.priority change)) change lane ∙ ap (λ p. held (is_not p) change lane) (same change).1 ∙ is.priorities change;
         landing = λ change.
             lands_now change ∙ once_there change
             ∙ ap {B = ℕ} once (sym (marked change ∙ or_not (list_any (eqb change) batch.changes) (old.landing change) (unmarked change (old.landing change) refl)));
@@ -409,18 +398,18 @@ module _ (now : ℕ) (settings : Option SettingsView) (old new : Marks) (queue :
         unmarked change true at = absurd (omega (arith, not_yet of_any_priority change, is.landing change ∙ ap {B = ℕ} once at))
         unmarked change false at = at
 
-        there : (change : ℕ) → occurs change batch.changes ≤ held of_any_priority change queue.staging
-        there change = omega (arith, running_is of_any_priority change, held_is of_any_priority change queue.staging)
+        there : (change : ℕ) → occurs change batch.changes ≤ held of_any_priority change lane
+        there change = omega (arith, running_is of_any_priority change, held_is of_any_priority change lane)
 
-        few : (change : ℕ) (b : Bool) → held of_any_priority change queue.staging ≡ once b → occurs change batch.changes ≤ 1
+        few : (change : ℕ) (b : Bool) → held of_any_priority change lane ≡ once b → occurs change batch.changes ≤ 1
         few change true place = omega (arith, place, there change)
         few change false place = omega (arith, place, there change)
 
         once_there : (change : ℕ) → occurs change batch.changes ≡ once (list_any (eqb change) batch.changes)
-        once_there change = in_list change batch.changes (few change (old.approved change || old.landing change) (is.places change))
+        once_there change = in_list change batch.changes (few change (old.wanted change || old.landing change) (is.places change))
 
-        placed_at : (change : ℕ) (in_it approved landing_too : Bool) → list_any (eqb change) batch.changes ≡ in_it → old.approved change ≡ approved → old.landing change ≡ landing_too
-            → held of_any_priority change queue.staging ≡ once (new.approved change || new.landing change)
+        placed_at : (change : ℕ) (in_it approved landing_too : Bool) → list_any (eqb change) batch.changes ≡ in_it → old.wanted change ≡ approved → old.landing change ≡ landing_too
+            → held of_any_priority change lane ≡ once (new.wanted change || new.landing change)
         placed_at change in_it true landing_too here was too =
             is.places change ∙ ap {B = ℕ} (λ (b : Bool). once (b || old.landing change)) was ∙ ap {B = ℕ} (λ (b : Bool). once (b || new.landing change)) (sym ((same change).0 ∙ was))
         placed_at change in_it false true here was too = cc (sym too ∙ unmarked change (old.landing change) refl)
@@ -432,10 +421,10 @@ module _ (now : ℕ) (settings : Option SettingsView) (old new : Marks) (queue :
 
 -- A BATCH THAT FAILS, and isn't landing: if it has one change alone, that is no longer approved.
 -- how often a change is the one of a running batch that has no other
-lone_is : (now : ℕ) (settings : Option SettingsView) (test : ℤ → Bool) (change : ℕ) (running : Option Batch) (waiting : List Batch) → IfSome running (IsRunning now settings)
+lone_is : (on : Branch) (now : ℕ) (settings : Option SettingsView) (change : ℕ) (running : Option Batch) (waiting : List Batch) → IfSome running (IsRunning on now settings)
     → in_lone of_any_priority change (record { running = running; waiting = waiting }) ≡ (if option_map_or (λ one. eqb change one) (lone running) false then 1 else 0)
-lone_is now settings test change None waiting runs = refl
-lone_is now settings test change (Some batch) waiting runs = by (has_several batch) refl where
+lone_is on now settings change None waiting runs = refl
+lone_is on now settings change (Some batch) waiting runs = by (has_several batch) refl where
   one_alone : (changes : List ℕ) → ltb 1 (length changes) ≡ false → not (eqb (length changes) 0) ≡ true
       → occurs change changes ≡ (if option_map_or (λ one. eqb change one) (slice_get changes 0) false then 1 else 0)
   one_alone [] few some = cc some
@@ -447,45 +436,43 @@ lone_is now settings test change (Some batch) waiting runs = by (has_several bat
   by true is = refl
   by false is = one_alone batch.changes is runs.changes
 
-module _ (now : ℕ) (settings : Option SettingsView) (old new : Marks) (queue : Queue) (is : IsQueue now settings old queue) where
+module _ (on : Branch) (now : ℕ) (settings : Option SettingsView) (old new : Marks) (number : ℕ) (lane : Lane) (is : IsBranch on now settings old lane) where
   abbrev alone : ℕ → Bool
-  alone change = option_map_or (λ one. eqb change one) (lone queue.staging.running) false
+  alone change = option_map_or (λ one. eqb change one) (lone lane.running) false
 
-  pub failed_keeps : lands queue.staging.running ≡ false
-      → ((change : ℕ) → new.approved change ≡ (not (alone change) && old.approved change))
-      → ((change : ℕ) → (new.priority change ≡ old.priority change) × (new.landing change ≡ old.landing change)) → IsQueue now settings new (specs.failed Staging queue)
+  pub failed_keeps : lands lane.running ≡ false
+      → ((change : ℕ) → new.wanted change ≡ (not (alone change) && old.wanted change))
+      → ((change : ℕ) → (new.priority change ≡ old.priority change) × (new.landing change ≡ old.landing change)) → IsBranch on now settings new (failed number lane)
   failed_keeps not_so ended same =
-      let lane = failed_lane now settings queue.staging queue.next (record { waiting = is.waiting; running = is.running }) in
+      let batches = failed_lane on now settings lane number (record { waiting = is.waiting; running = is.running }) in
       record {
-        order = failed_order queue is.order Staging;
-        waiting = lane.waiting;
-        running = lane.running;
-        trying = is.trying;
-        places = λ change. placed_at change (alone change) (old.approved change) (old.landing change) (new.landing change) (ended change) (unmarked change (old.landing change) refl) ((same change).1) (gone change);
+        waiting = batches.waiting;
+        running = batches.running;
+        places = λ change. placed_at change (alone change) (old.wanted change) (old.landing change) (new.landing change) (ended change) (unmarked change (old.landing change) refl) ((same change).1) (gone change);
         priorities = λ change.
-            ap (λ p. held (is_not p) change (specs.failed Staging queue).staging) (same change).0
-            ∙ omega (arith, fail_law (is_not (old.priority change)) queue.next change queue.staging, is.priorities change);
+            ap (λ p. held (is_not p) change (failed number lane)) (same change).0
+            ∙ omega (arith, fail_law (is_not (old.priority change)) number change lane, is.priorities change);
         landing = λ change.
-            failed_landing of_any_priority change queue.next queue.staging
-            ∙ sym (none_landing of_any_priority change queue.staging.running queue.staging.waiting not_so) ∙ is.landing change ∙ ap {B = ℕ} once (sym (same change).1);
+            failed_landing of_any_priority change number lane
+            ∙ sym (none_landing of_any_priority change lane.running lane.waiting not_so) ∙ is.landing change ∙ ap {B = ℕ} once (sym (same change).1);
       } where
-        gone : (change : ℕ) → held of_any_priority change (specs.failed Staging queue).staging + once (alone change) ≡ once (old.approved change || old.landing change)
+        gone : (change : ℕ) → held of_any_priority change (failed number lane) + once (alone change) ≡ once (old.wanted change || old.landing change)
         gone change =
             omega (
               arith,
-              fail_law of_any_priority queue.next change queue.staging,
-              lone_is now settings of_any_priority change queue.staging.running queue.staging.waiting is.running,
+              fail_law of_any_priority number change lane,
+              lone_is on now settings change lane.running lane.waiting is.running,
               is.places change,
             )
 
         unmarked : (change : ℕ) (b : Bool) → old.landing change ≡ b → old.landing change ≡ false
         unmarked change true at =
-            absurd (omega (arith, none_landing of_any_priority change queue.staging.running queue.staging.waiting not_so, is.landing change ∙ ap {B = ℕ} once at))
+            absurd (omega (arith, none_landing of_any_priority change lane.running lane.waiting not_so, is.landing change ∙ ap {B = ℕ} once at))
         unmarked change false at = at
 
-        placed_at : (change : ℕ) (one was landed lands_still : Bool) → new.approved change ≡ (not one && was) → landed ≡ false → lands_still ≡ landed
-            → held of_any_priority change (specs.failed Staging queue).staging + once one ≡ once (was || landed)
-            → held of_any_priority change (specs.failed Staging queue).staging ≡ once (new.approved change || lands_still)
+        placed_at : (change : ℕ) (one was landed lands_still : Bool) → new.wanted change ≡ (not one && was) → landed ≡ false → lands_still ≡ landed
+            → held of_any_priority change (failed number lane) + once one ≡ once (was || landed)
+            → held of_any_priority change (failed number lane) ≡ once (new.wanted change || lands_still)
         placed_at change one was true lands_still so none still held_before = cc none
         placed_at change one was false true so none still held_before = cc still
         placed_at change true true false false so none still held_before = grind (arith, nat_tests)
@@ -493,16 +480,33 @@ module _ (now : ℕ) (settings : Option SettingsView) (old new : Marks) (queue :
         placed_at change false true false false so none still held_before = grind (arith, nat_tests)
         placed_at change false false false false so none still held_before = grind (arith, nat_tests)
 
+-- WHAT IS QUEUED on `Staging`, and what is tried
+module _ (now : ℕ) (settings : Option SettingsView) (old new : Marks) (number : ℕ) (lane : Lane) (change : ℕ)
+    (wasnt : (old.wanted change || old.landing change) ≡ false) (is' : new.wanted change ≡ true)
+    (others : (other : ℕ) → eqb other change ≡ false → (new.wanted other ≡ old.wanted other) × (new.priority other ≡ old.priority other))
+    (lands_as : (other : ℕ) → new.landing other ≡ old.landing other) where
+  pub enqueued_keeps : (size : Option ℕ) → IsBranch Staging now settings old lane → IsBranch Staging now settings new (enqueued size number (new.priority change) change lane)
+  enqueued_keeps size is =
+      put_in_keeps Staging now settings old new number lane is (enqueued size number (new.priority change) change lane) change
+      (enqueued_lane now settings lane size number (new.priority change) change (record { waiting = is.waiting; running = is.running }))
+      (λ test other. enqueue_law test size number (new.priority change) change other lane) (λ other. refl) wasnt is' others lands_as
+
+  pub tried_keeps : new.priority change ≡ pos 0 → IsBranch Trying now settings old lane → IsBranch Trying now settings new (tried number change lane)
+  tried_keeps priority is =
+      put_in_keeps Trying now settings old new number lane is (tried number change lane) change
+      (tried_lane now settings lane number change (record { waiting = is.waiting; running = is.running }))
+      (λ test other. try_law test number change other lane ∙ ap {B = ℕ} (λ (p : ℤ). held test other lane + (if eqb other change && test p then 1 else 0)) (sym priority))
+      (λ other. refl) wasnt is' others lands_as
+
+-- The same batches on a desk whose settings and clock have stayed
+pub on_time : (on : Branch) (old new : DeskView) (lane : Lane) → new.settings ≡ old.settings → new.clock ≡ old.clock
+    → IsBranch on old.clock old.settings (marks_on on new) lane → IsBranch on new.clock new.settings (marks_on on new) lane
+on_time on old new lane settings clock is =
+    subst (λ now. IsBranch on now new.settings (marks_on on new) lane) (sym clock) (subst (λ s. IsBranch on old.clock s (marks_on on new) lane) (sym settings) is)
+
 -- THE QUEUE FOLLOWS what an act does to one change.
 abbrev OthersStay : ℕ → DeskView → DeskView → Type 0
 OthersStay change old new = (other : ℕ) → eqb other change ≡ false → finite.get new.changes other ≡ finite.get old.changes other
-
-stay_marked : (change : ℕ) (old new : DeskView) → OthersStay change old new → (other : ℕ) → eqb other change ≡ false
-    → (approved_on new other ≡ approved_on old other) × (priority_on new other ≡ priority_on old other)
-stay_marked change old new others other differs = (
-  ap (λ (c : Option Change). option_map_or (λ (x : Change). is_some x.approved) c false) (others other differs),
-  ap (λ (c : Option Change). option_map_or (λ (x : Change). x.priority) c (pos 0)) (others other differs),
-)
 
 -- what an act about one change leaves as it was; one that is landing isn't approved anew, and keeps its priority
 pub record OnlyAt (change : ℕ) (old new : DeskView) : Type 0 where
@@ -512,89 +516,168 @@ pub record OnlyAt (change : ℕ) (old new : DeskView) : Type 0 where
   pub landing : landing_on new change ≡ landing_on old change
   pub final : landing_on old change ≡ true → (approved_on new change ≡ true → approved_on old change ≡ true) × (priority_on new change ≡ priority_on old change)
 
-pub follow_keeps : (old new : DeskView) (change : ℕ) (queue : Queue) → OnlyAt change old new
-    → IsQueue old.clock old.settings (marks_on old) queue
-    → IsQueue new.clock new.settings (marks_on new) (followed_on old new change queue)
-follow_keeps old new change queue only is =
-    subst (λ now. IsQueue now new.settings (marks_on new) (followed_on old new change queue)) (sym only.clock)
-    (subst (λ settings. IsQueue old.clock settings (marks_on new) (followed_on old new change queue)) (sym only.settings)
-    (by (approved_on old change) (approved_on new change) (int_eq (priority_on old change) (priority_on new change)) (landing_on old change) refl refl refl refl)) where
-      others : (other : ℕ) → eqb other change ≡ false → (approved_on new other ≡ approved_on old other) × (priority_on new other ≡ priority_on old other)
-      others = stay_marked change old new only.others
+module _ (old new : DeskView) (change : ℕ) (only : OnlyAt change old new) where
+  others : (other : ℕ) → eqb other change ≡ false → (approved_on new other ≡ approved_on old other) × (priority_on new other ≡ priority_on old other)
+  others other differs = (
+    ap (λ (c : Option Change). option_map_or (λ (x : Change). is_some x.approved) c false) (only.others other differs),
+    ap (λ (c : Option Change). option_map_or (λ (x : Change). x.priority) c (pos 0)) (only.others other differs),
+  )
 
-      lands_as : (other : ℕ) → landing_on new other ≡ landing_on old other
-      lands_as other = at (eqb other change) refl where
-        at : (b : Bool) → eqb other change ≡ b → landing_on new other ≡ landing_on old other
-        at true same =
-            let it = (Decides-eqb other change).0 same in
-            ap (landing_on new) it ∙ only.landing ∙ sym (ap (landing_on old) it)
-        at false differs = ap (λ (c : Option Change). option_map_or (λ (x : Change). x.landing) c false) (only.others other differs)
+  other_tries : (other : ℕ) → eqb other change ≡ false → trying_on new other ≡ trying_on old other
+  other_tries other differs = ap (λ (c : Option Change). option_map_or (λ (x : Change). x.trying) c false) (only.others other differs)
 
-      -- as it was, if neither the approval nor the priority of a queued change has moved
-      unmoved : (b : Bool) → approved_on old change ≡ b → approved_on new change ≡ b → ((b || landing_on old change) ≡ true → priority_on new change ≡ priority_on old change)
-          → IsQueue old.clock old.settings (marks_on new) queue
-      unmoved b was now same = record {
-        order = is.order;
-        waiting = is.waiting;
-        running = is.running;
-        trying = is.trying;
-        places = λ other. is.places other ∙ (λ i. once ((sym (approved_at other (eqb other change) refl)) i || (sym (lands_as other)) i));
-        priorities = λ other. priced_at other (eqb other change) refl;
-        landing = λ other. is.landing other ∙ ap {B = ℕ} once (sym (lands_as other));
-      } where
-        approved_at : (other : ℕ) (here : Bool) → eqb other change ≡ here → approved_on new other ≡ approved_on old other
-        approved_at other true at =
-            let it = (Decides-eqb other change).0 at in
-            ap (approved_on new) it ∙ now ∙ sym was ∙ sym (ap (approved_on old) it)
-        approved_at other false at = (others other at).0
+  stays_but : (other : ℕ) → all_but change other ≡ true → eqb other change ≡ false
+  stays_but other stay = not-true (eqb other change) stay
 
-        priced_here : (queued : Bool) → (b || landing_on old change) ≡ queued → held (is_not (priority_on new change)) change queue.staging ≡ 0
-        priced_here true so = ap (λ p. held (is_not p) change queue.staging) (same so) ∙ is.priorities change
-        priced_here false so =
-            let none = is.places change ∙ ap {B = ℕ} (λ (c : Bool). once (c || landing_on old change)) was ∙ ap {B = ℕ} once so in
-            omega (arith, none, held_less (is_not (priority_on new change)) change queue.staging)
+  goes_but : (other : ℕ) → all_but change other ≡ false → other ≡ change
+  goes_but other go = (Decides-eqb other change).0 (not-false (eqb other change) go)
 
-        priced_at : (other : ℕ) (here : Bool) → eqb other change ≡ here → held (is_not (priority_on new other)) other queue.staging ≡ 0
-        priced_at other true at =
-            let it = (Decides-eqb other change).0 at in
-            ap (λ c. held (is_not (priority_on new c)) c queue.staging) it ∙ priced_here (b || landing_on old change) refl
-        priced_at other false at = ap (λ p. held (is_not p) other queue.staging) (others other at).1 ∙ is.priorities other
+  lands_as : (other : ℕ) → landing_on new other ≡ landing_on old other
+  lands_as other = at (eqb other change) refl where
+    at : (b : Bool) → eqb other change ≡ b → landing_on new other ≡ landing_on old other
+    at true same =
+        let it = (Decides-eqb other change).0 same in
+        ap (landing_on new) it ∙ only.landing ∙ sym (ap (landing_on old) it)
+    at false differs = ap (λ (c : Option Change). option_map_or (λ (x : Change). x.landing) c false) (only.others other differs)
 
-      -- with the change taken out
-      stays_but : (other : ℕ) → all_but change other ≡ true → eqb other change ≡ false
-      stays_but other stay = not-true (eqb other change) stay
+  -- On `Staging`
+  approval_keeps : (queue : Queue) → IsBranch Staging old.clock old.settings (marks_on Staging old) queue.staging
+      → IsBranch Staging old.clock old.settings (marks_on Staging new) (approval_followed old new change queue).staging
+  approval_keeps queue is = by (approved_on old change) (approved_on new change) (int_eq (priority_on old change) (priority_on new change)) (landing_on old change) refl refl refl refl where
+    -- as it was, if neither the approval nor the priority of a queued change has moved
+    unmoved : (b : Bool) → approved_on old change ≡ b → approved_on new change ≡ b → ((b || landing_on old change) ≡ true → priority_on new change ≡ priority_on old change)
+        → IsBranch Staging old.clock old.settings (marks_on Staging new) queue.staging
+    unmoved b was now same = record {
+      waiting = is.waiting;
+      running = is.running;
+      places = λ other. is.places other ∙ (λ i. once ((sym (approved_at other (eqb other change) refl)) i || (sym (lands_as other)) i));
+      priorities = λ other. priced_at other (eqb other change) refl;
+      landing = λ other. is.landing other ∙ ap {B = ℕ} once (sym (lands_as other));
+    } where
+      approved_at : (other : ℕ) (here : Bool) → eqb other change ≡ here → approved_on new other ≡ approved_on old other
+      approved_at other true at =
+          let it = (Decides-eqb other change).0 at in
+          ap (approved_on new) it ∙ now ∙ sym was ∙ sym (ap (approved_on old) it)
+      approved_at other false at = (others other at).0
 
-      goes_but : (other : ℕ) → all_but change other ≡ false → other ≡ change
-      goes_but other go = (Decides-eqb other change).0 (not-false (eqb other change) go)
+      priced_here : (queued : Bool) → (b || landing_on old change) ≡ queued → held (is_not (priority_on new change)) change queue.staging ≡ 0
+      priced_here true so = ap (λ p. held (is_not p) change queue.staging) (same so) ∙ is.priorities change
+      priced_here false so =
+          let none = is.places change ∙ ap {B = ℕ} (λ (c : Bool). once (c || landing_on old change)) was ∙ ap {B = ℕ} once so in
+          omega (arith, none, held_less (is_not (priority_on new change)) change queue.staging)
 
-      priced_as : (other : ℕ) → landing_on old other ≡ true → priority_on new other ≡ priority_on old other
-      priced_as other landing_too = at (eqb other change) refl where
-        at : (b : Bool) → eqb other change ≡ b → priority_on new other ≡ priority_on old other
-        at true same =
-            let it = (Decides-eqb other change).0 same in
-            ap (priority_on new) it ∙ (only.final (sym (ap (landing_on old) it) ∙ landing_too)).1 ∙ sym (ap (priority_on old) it)
-        at false differs = (others other differs).1
+      priced_at : (other : ℕ) (here : Bool) → eqb other change ≡ here → held (is_not (priority_on new other)) other queue.staging ≡ 0
+      priced_at other true at =
+          let it = (Decides-eqb other change).0 at in
+          ap (λ c. held (is_not (priority_on new c)) c queue.staging) it ∙ priced_here (b || landing_on old change) refl
+      priced_at other false at = ap (λ p. held (is_not p) other queue.staging) (others other at).1 ∙ is.priorities other
 
-      moved : (landing_too : Bool) → landing_on old change ≡ landing_too → int_eq (priority_on old change) (priority_on new change) ≡ false → landing_on old change ≡ false
-      moved true too at = cc (sym at ∙ (signed_Decides (priority_on old change) (priority_on new change)).1 (sym (only.final too).1))
-      moved false too at = too
+    priced_as : (other : ℕ) → landing_on old other ≡ true → priority_on new other ≡ priority_on old other
+    priced_as other landing_too = at (eqb other change) refl where
+      at : (b : Bool) → eqb other change ≡ b → priority_on new other ≡ priority_on old other
+      at true same =
+          let it = (Decides-eqb other change).0 same in
+          ap (priority_on new) it ∙ (only.final (sym (ap (landing_on old) it) ∙ landing_too)).1 ∙ sym (ap (priority_on old) it)
+      at false differs = (others other differs).1
 
-      by : (was now same lands_too : Bool) → approved_on old change ≡ was → approved_on new change ≡ now → int_eq (priority_on old change) (priority_on new change) ≡ same → landing_on old change ≡ lands_too
-          → IsQueue old.clock old.settings (marks_on new) (followed was now (not same) (size_on new) (priority_on new change) change queue)
-      by false false same lands_too was now at too = unmoved false was now (λ so. (only.final so).1)
-      by false true same true was now at too = cc (sym was ∙ (only.final too).0 now)
-      by false true same false was now at too =
-          enqueued_keeps old.clock old.settings (marks_on old) (marks_on new) queue is (size_on new) change (λ i. was i || too i) now others lands_as
-      by true false same lands_too was now at too =
-          taken_out_keeps old.clock old.settings (marks_on old) (marks_on new) queue is (all_but change)
-          (λ other stay. others other (stays_but other stay)) (λ other go. ap (approved_on new) (goes_but other go) ∙ now) (λ other. (lands_as other, priced_as other))
-      by true true true lands_too was now at too = unmoved true was now (λ so. sym ((signed_Decides (priority_on old change) (priority_on new change)).0 at))
-      by true true false lands_too was now at too =
-          let free = moved lands_too too at in
-          let without : Marks = record { approved = λ other. not (eqb other change) && approved_on old other; landing = landing_on old; priority = priority_on old } in
-          enqueued_keeps old.clock old.settings without (marks_on new) (specs.taken_out Staging (all_but change) queue)
-          (taken_out_keeps old.clock old.settings (marks_on old) without queue is (all_but change)
-          (λ other stay. (ap (λ (b : Bool). b && approved_on old other) stay, refl)) (λ other go. ap (λ (b : Bool). b && approved_on old other) go) (λ other. (refl, λ so. refl)))
-          (size_on new) change
-          (λ i. (ap (λ (b : Bool). not b && approved_on old change) ((Decides-eqb change change).1 refl)) i || free i) now
-          (λ other differs. ((others other differs).0 ∙ sym (ap (λ (b : Bool). not b && approved_on old other) differs), (others other differs).1)) lands_as
+    moved : (landing_too : Bool) → landing_on old change ≡ landing_too → int_eq (priority_on old change) (priority_on new change) ≡ false → landing_on old change ≡ false
+    moved true too at = cc (sym at ∙ (signed_Decides (priority_on old change) (priority_on new change)).1 (sym (only.final too).1))
+    moved false too at = too
+
+    by : (was now same lands_too : Bool) → approved_on old change ≡ was → approved_on new change ≡ now → int_eq (priority_on old change) (priority_on new change) ≡ same → landing_on old change ≡ lands_too
+        → IsBranch Staging old.clock old.settings (marks_on Staging new) (followed was now (not same) (size_on new) (priority_on new change) change queue).staging
+    by false false same lands_too was now at too = unmoved false was now (λ so. (only.final so).1)
+    by false true same true was now at too = cc (sym was ∙ (only.final too).0 now)
+    by false true same false was now at too =
+        enqueued_keeps old.clock old.settings (marks_on Staging old) (marks_on Staging new) queue.next queue.staging change (λ i. was i || too i) now others lands_as (size_on new) is
+    by true false same lands_too was now at too =
+        taken_out_keeps Staging old.clock old.settings (marks_on Staging old) (marks_on Staging new) queue.next queue.staging is (all_but change)
+        (λ other stay. others other (stays_but other stay)) (λ other go. ap (approved_on new) (goes_but other go) ∙ now) (λ other. (lands_as other, priced_as other))
+    by true true true lands_too was now at too = unmoved true was now (λ so. sym ((signed_Decides (priority_on old change) (priority_on new change)).0 at))
+    by true true false lands_too was now at too =
+        let free = moved lands_too too at in
+        let without : Marks = record { wanted = λ other. not (eqb other change) && approved_on old other; landing = landing_on old; priority = priority_on old } in
+        let out = specs.taken_out Staging (all_but change) queue in
+        enqueued_keeps old.clock old.settings without (marks_on Staging new) out.next out.staging change
+        (λ i. (ap (λ (b : Bool). not b && approved_on old change) ((Decides-eqb change change).1 refl)) i || free i) now
+        (λ other differs. ((others other differs).0 ∙ sym (ap (λ (b : Bool). not b && approved_on old other) differs), (others other differs).1)) lands_as (size_on new)
+        (taken_out_keeps Staging old.clock old.settings (marks_on Staging old) without queue.next queue.staging is (all_but change)
+        (λ other stay. (ap (λ (b : Bool). b && approved_on old other) stay, refl)) (λ other go. ap (λ (b : Bool). b && approved_on old other) go) (λ other. (refl, λ so. refl)))
+
+  -- On `Trying`
+  try_keeps : (queue : Queue) → IsBranch Trying old.clock old.settings (marks_on Trying old) queue.trying
+      → IsBranch Trying old.clock old.settings (marks_on Trying new) (tried_by (trying_on old change) (trying_on new change) change queue).trying
+  try_keeps queue is = by (trying_on old change) (trying_on new change) refl refl where
+    unmoved : (b : Bool) → trying_on old change ≡ b → trying_on new change ≡ b → IsBranch Trying old.clock old.settings (marks_on Trying new) queue.trying
+    unmoved b was now = record {
+      waiting = is.waiting;
+      running = is.running;
+      places = λ other. is.places other ∙ ap {B = ℕ} (λ (b : Bool). once (b || false)) (sym (tried_at other (eqb other change) refl));
+      priorities = is.priorities;
+      landing = is.landing;
+    } where
+      tried_at : (other : ℕ) (here : Bool) → eqb other change ≡ here → trying_on new other ≡ trying_on old other
+      tried_at other true at =
+          let it = (Decides-eqb other change).0 at in
+          ap (trying_on new) it ∙ now ∙ sym was ∙ sym (ap (trying_on old) it)
+      tried_at other false at = other_tries other at
+
+    by : (was now : Bool) → trying_on old change ≡ was → trying_on new change ≡ now
+        → IsBranch Trying old.clock old.settings (marks_on Trying new) (tried_by was now change queue).trying
+    by false false was now = unmoved false was now
+    by false true was now =
+        tried_keeps old.clock old.settings (marks_on Trying old) (marks_on Trying new) queue.next queue.trying change
+        (ap (λ (b : Bool). b || false) was) now (λ other differs. (other_tries other differs, refl)) (λ other. refl) refl is
+    by true false was now =
+        taken_out_keeps Trying old.clock old.settings (marks_on Trying old) (marks_on Trying new) queue.next queue.trying is (all_but change)
+        (λ other stay. (other_tries other (stays_but other stay), refl)) (λ other go. ap (trying_on new) (goes_but other go) ∙ now) (λ other. (refl, λ so. refl))
+    by true true was now = unmoved true was now
+
+  -- each leaves the other branch
+  still_tried : (was now moved : Bool) (size : Option ℕ) (priority : ℤ) (queue : Queue) → (followed was now moved size priority change queue).trying ≡ queue.trying
+  still_tried false false moved size priority queue = refl
+  still_tried false true moved size priority queue = refl
+  still_tried true false moved size priority queue = refl
+  still_tried true true false size priority queue = refl
+  still_tried true true true size priority queue = refl
+
+  still_staged : (was now : Bool) (queue : Queue) → (tried_by was now change queue).staging ≡ queue.staging
+  still_staged false false queue = refl
+  still_staged false true queue = refl
+  still_staged true false queue = refl
+  still_staged true true queue = refl
+
+  -- both stay in order, and tries alone
+  followed_order : (was now moved : Bool) (size : Option ℕ) (priority : ℤ) (queue : Queue) → QueueIsInOrder queue → QueueIsInOrder (followed was now moved size priority change queue)
+  followed_order false false moved size priority queue order = order
+  followed_order false true moved size priority queue order = enqueued_order queue order size priority change
+  followed_order true false moved size priority queue order = taken_out_order queue order Staging (all_but change)
+  followed_order true true false size priority queue order = order
+  followed_order true true true size priority queue order =
+      enqueued_order (specs.taken_out Staging (all_but change) queue) (taken_out_order queue order Staging (all_but change)) size priority change
+
+  tried_order_by : (was now : Bool) (queue : Queue) → QueueIsInOrder queue → QueueIsInOrder (tried_by was now change queue)
+  tried_order_by false false queue order = order
+  tried_order_by false true queue order = tried_order queue order change
+  tried_order_by true false queue order = taken_out_order queue order Trying (all_but change)
+  tried_order_by true true queue order = order
+
+  tried_alone_by : (was now : Bool) (queue : Queue) → AreAlone queue.trying → AreAlone (tried_by was now change queue).trying
+  tried_alone_by false false queue alone = alone
+  tried_alone_by false true queue alone = (singles_law queue.next queue.trying alone).enqueue_try change
+  tried_alone_by true false queue alone = ((singles_law queue.next queue.trying alone).take_out (all_but change)).0
+  tried_alone_by true true queue alone = alone
+
+  pub follow_keeps : (queue : Queue) → IsQueue old queue → IsQueue new (followed_on old new change queue)
+  follow_keeps queue is =
+      let was = approved_on old change in
+      let now = approved_on new change in
+      let moved = not (int_eq (priority_on old change) (priority_on new change)) in
+      let middle = approval_followed old new change queue in
+      let same = still_tried was now moved (size_on new) (priority_on new change) queue in
+      record {
+        order = tried_order_by (trying_on old change) (trying_on new change) middle (followed_order was now moved (size_on new) (priority_on new change) queue is.order);
+        staging = on_time Staging old new _ only.settings only.clock (subst (IsBranch Staging old.clock old.settings (marks_on Staging new)) (sym (still_staged (trying_on old change) (trying_on new change) middle)) (approval_keeps queue is.staging));
+        trying = on_time Trying old new _ only.settings only.clock (try_keeps middle (subst (IsBranch Trying old.clock old.settings (marks_on Trying old)) (sym same) is.trying));
+        alone = tried_alone_by (trying_on old change) (trying_on new change) middle (subst AreAlone (sym same) is.alone);
+      }

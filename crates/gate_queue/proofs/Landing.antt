@@ -41,7 +41,7 @@ pub list_any_same : {X : Type 0} (one other : X → Bool) → ((x : X) → one x
 list_any_same one other same xs = λ i. list_any (λ x. same x i) xs
 
 -- one more in front, for which the test fails
-list_any_skip : (test : ℕ → Bool) (b : Bool) (n : ℕ) (ns : List ℕ) → test n ≡ false → list_any test (cons_option (then_some b n) ns) ≡ list_any test ns
+pub list_any_skip : (test : ℕ → Bool) (b : Bool) (n : ℕ) (ns : List ℕ) → test n ≡ false → list_any test (cons_option (then_some b n) ns) ≡ list_any test ns
 list_any_skip test true n ns fails = ap (λ (b : Bool). b || list_any test ns) fails
 list_any_skip test false n ns fails = refl
 

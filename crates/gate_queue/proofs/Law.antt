@@ -1,11 +1,11 @@
 -- THE LAW OF THE HISTORY: after every legal history the rules read the desk and the history alike, what is landing and tested is
 -- what the history says, and each order is right.
-use Rattle.std.proofs.Common.{◌≡◌, ◌≤◌, ◌+◌, ℕ, ℤ, pos, eqb, leb, ltb, ◌&&◌, ◌||◌, Bool, true, false, not, cond, if◌then◌else◌, List, [], ◌∷◌, ◌++◌, Option, Some, None, Result, Ok, Err, is_some, refl, sym, ◌∙◌, ap, subst, inl, arith}
+use Rattle.std.proofs.Common.{◌≡◌, ◌≤◌, ◌+◌, ℕ, ℤ, pos, eqb, leb, ltb, ◌&&◌, ◌||◌, Bool, true, false, not, cond, if◌then◌else◌, List, [], ◌∷◌, ◌++◌, length, Option, Some, None, Result, Ok, Err, is_some, refl, sym, ◌∙◌, ap, subst, inl, arith}
 use Rattle.std.proofs.lemmas.Bool.{leb-true}
 use Rattle.std.proofs.lemmas.Bool.Decides.{nat_tests, Decides-eqb}
 use Rattle.std.proofs.lemmas.List.Elements.{All-nil, All-cons, All-head, All-append}
 use Rattle.std.proofs.lemmas.List.Sums.{sum_by-cons}
-use Rattle.std.specs.Cmp.{signed_Decides}
+use Rattle.std.specs.Cmp.{signed_Decides, first_so}
 use Rattle.std.specs.Cmp.Lexicographic.{slice_cmp}
 use Rattle.std.specs.FinMap as finite
 use Rattle.std.specs.FinMap.{get-empty}
@@ -24,16 +24,21 @@ use Rattle.gate_rules.specs.declared.rule.Rule.{Rule}
 use Rattle.gate_rules.specs.declared.rule.Rule.TheVariants.{ClockBack, NoSuchBatch}
 use Rattle.gate_queue.specs.Acts.{IsMoment}
 use Rattle.gate_queue.specs.Counts.{occurs, in_landing, held, held_by, of_any_priority, uses}
-use Rattle.gate_queue.specs.History.{Entry, Event, did, gave, given, happened, events_of, last_of, said_on, author_back, head_back, settings_back, phase_back, labels_back, reviews_back, approval_said, standing_back, approvers_back, landing_back, approvers_on, change_of, change_back, look_back, stages, IsStandingAt, IsRightOrder, Legal, EntryTells, entry_of, orders_in, denied_by}
+use Rattle.gate_queue.specs.History.{Entry, Event, did, gave, given, ends_why, happened, events_of, last_of, said_on, author_back, head_back, settings_back, phase_back, labels_back, reviews_back, approval_said, standing_back, approvers_back, landing_back, trying_back, approvers_on, change_of, change_back, look_back, stages, keeps_order, keeps_staged, state_said, base_back, IsStandingAt, IsTriedAt, AreRightHeads, IsRightOrder, Legal, EntryTells, entry_of, orders_in, denied_by}
 use Rattle.gate_queue.specs.Lanes as lanes
-use Rattle.gate_queue.specs.Lanes.{is_landing, ordered_at}
-use Rattle.gate_queue.specs.Machine.{broken, denial, meaning, acted, missing, has_ordered, is_ordered, has_staged, is_staged_with, empty_state, answered, approved_on, landing_on, priority_on, quiet, about, with_desk, notices, are_present, under, accepted, lone, lone_notices, failing, is_required, goes_on, told_of, told, has_overdue, timed_out, head_on, stage_orders, starting, done, reply_to, unless_denied, after}
-use Rattle.gate_queue.specs.State.{IsWaiting, IsState}
+use Rattle.gate_queue.specs.Lanes.{batches_of, is_landing}
+use Rattle.gate_queue.specs.Machine.{broken, denial, meaning, acted, missing, on_either, has_ordered, is_ordered, has_staged, is_staged_with, empty_state, answered, approved_on, landing_on, trying_on, priority_on, quiet, then_next, about, with_desk, with_queue, effect, notices, are_present, under, accepted, lone, lone_notices, failing, try_ended, given_up, ordered_on, is_required, has_passed, goes_on, told_of, told_staging, try_if_passed, try_goes_on, try_told_of, told_trying, told, lands_with, sent_back, has_overdue, timed_out, try_timed_out, ended_on_time, head_on, first_order, starting, all_starting, done, reply_to, unless_denied, after}
+use Rattle.gate_queue.specs.Queue as specs
+use Rattle.gate_queue.specs.Queue.{lane_of}
+use Rattle.gate_queue.specs.Service.{IsAlone}
+use Rattle.gate_queue.specs.State.{IsState}
 use Rattle.gate_queue.specs.declared.act.Act.{Act}
 use Rattle.gate_queue.specs.declared.act.Act.TheVariants.{Spoken, Role, Settings, Base, Opened, Pushed, Closed, Labeled, Unlabeled, Review, Staged, Conflict, Status, Refused, Tick}
 use Rattle.gate_queue.specs.declared.act.StatusState.{StatusState}
 use Rattle.gate_queue.specs.declared.act.StatusState.TheVariants.{Success, Failure, Error, Pending}
 use Rattle.gate_queue.specs.declared.batch.Batch.{Batch}
+use Rattle.gate_queue.specs.declared.batch.Branch.{Branch}
+use Rattle.gate_queue.specs.declared.batch.Branch.TheVariants.{Staging, Trying}
 use Rattle.gate_queue.specs.declared.batch.Report.{Report}
 use Rattle.gate_queue.specs.declared.batch.Report.TheVariants as report
 use Rattle.gate_queue.specs.declared.batch.Stage.{Stage as StageOf}
@@ -45,16 +50,19 @@ use Rattle.gate_queue.specs.declared.reply.Reply.{Reply}
 use Rattle.gate_queue.specs.declared.reply.Reply.TheVariants.{Denied}
 use Rattle.gate_queue.specs.declared.reply.Why.{Why}
 use Rattle.gate_queue.specs.declared.reply.Why.TheVariants as why
+use Rattle.gate_queue.specs.declared.state.Outcome.{Outcome}
 use Rattle.gate_queue.specs.declared.state.State.{State}
 use Rattle.gate_queue.proofs.After.{standing_fit}
 use Rattle.gate_queue.proofs.Doing.{about_are, accepted_are, fact_kept, clock_kept, done_kept}
 use Rattle.gate_queue.proofs.Fitness.{opened_so, passed, unless_so}
 use Rattle.gate_queue.proofs.Meaning.{meaning_allowed, meaning_right}
-use Rattle.gate_queue.proofs.States.{Holds, clock_holds, timed_out_holds, still_clock, queued_held}
-use Rattle.gate_queue.proofs.Steps.{Kept, AreNotices, given-append, first_based, starting_kept, timed_out_kept}
-use Rattle.gate_queue.proofs.Tested.{Tests, TestsAt, IsAt, Elsewhere, stage_tests, staged_tests, unasked}
-use Rattle.gate_queue.proofs.Testing.{standing_approved, stands_all, report_of, followed_runs, act_tests, restarted_tests, failed_tests, requeued_tests, goes_on_tests, goes_on_right}
-use Rattle.gate_queue.proofs.Unseen.{Unseen, nothing_unseen, blank_phase, blank_landing}
+use Rattle.gate_queue.proofs.Growing.{waits}
+use Rattle.gate_queue.proofs.Numbers.{has_number}
+use Rattle.gate_queue.proofs.States.{Holds, clock_holds, ended_on_time_holds, starting_holds, still_clock, queued_held, tried_held}
+use Rattle.gate_queue.proofs.Steps.{Kept, AreNotices, IsNext, stage_on, given-append, other_number, first_used, first_kind, first_based, still_runs, tries_left_staging, starting_kept, ended_on_time_kept}
+use Rattle.gate_queue.proofs.Tested.{Tests, TestsAt, IsAt, Elsewhere, EndNone, stage_tests, other_tests, staged_tests, unasked, elsewhere_told}
+use Rattle.gate_queue.proofs.Testing.{standing_approved, stands_all, report_of, followed_runs, notices_tests, act_tests, restarted_tests, failed_tests, requeued_tests, goes_on_tests, goes_on_right}
+use Rattle.gate_queue.proofs.Unseen.{Unseen, nothing_unseen, blank_phase, blank_landing, blank_trying}
 use Rattle.gate_queue.proofs.Wording.{none_both}
 
 -- WHAT A LEGAL HISTORY KEEPS with its state
@@ -73,11 +81,82 @@ lone_are : (why : Why) (one : Option ℕ) → AreNotices (lone_notices why one)
 lone_are why None = tt
 lone_are why (Some n) = tt
 
+both_are : (first second : List Order) → AreNotices first → AreNotices second → AreNotices (first ++ second)
+both_are [] second one other = other
+both_are (Notice change why ∷ first) second one other = both_are first second one other
+both_are (Stage batch branch base heads ∷ first) second one other = absurd one
+both_are (Land batch base commit ∷ first) second one other = absurd one
+
+end_none_are : (orders : List Order) → EndNone orders → AreNotices orders
+end_none_are [] none = tt
+end_none_are (Notice change why ∷ orders) none = end_none_are orders none.1
+end_none_are (Stage batch branch base heads ∷ orders) none = absurd none
+end_none_are (Land batch base commit ∷ orders) none = absurd none
+
 timed_out_are : (s : State) (now : ℕ) → AreNotices (timed_out now s).orders
-timed_out_are s now = by (has_overdue now s) where
+timed_out_are s now = by (has_overdue now s.desk.settings s.queue.staging) where
   by : (b : Bool) → AreNotices (if b then failing why.TimedOut s else quiet s).orders
   by true = lone_are why.TimedOut (lone s.queue.staging.running)
   by false = tt
+
+-- WHAT IS DONE TO TRIES leaves the other branch, and gives notices that end no approval.
+record IsAside (s : State) (is : Outcome) : Type 0 where
+  staging : is.state.queue.staging ≡ s.queue.staging
+  orders : EndNone is.orders
+
+quiet_aside : (s : State) → IsAside s (quiet s)
+quiet_aside s = record { staging = refl; orders = tt }
+
+try_ended_aside : (s : State) (why : Why) → ends_why why ≡ false → IsAside s (try_ended why s)
+try_ended_aside s why goes = record { staging = refl; orders = by (lone s.queue.trying.running) } where
+  by : (one : Option ℕ) → EndNone (lone_notices why one)
+  by None = tt
+  by (Some n) = (goes, tt)
+
+try_timed_out_aside : (s : State) (now : ℕ) → IsAside s (try_timed_out now s)
+try_timed_out_aside s now = by (has_overdue now s.desk.settings s.queue.trying) where
+  by : (b : Bool) → IsAside s (if b then try_ended why.TryFailed s else quiet s)
+  by true = try_ended_aside s why.TryFailed refl
+  by false = quiet_aside s
+
+told_trying_aside : (s : State) (commit name : List ℕ) (state : StatusState) → IsAside s (told_trying commit name state s)
+told_trying_aside s commit name state = by (has_staged commit s.queue.trying) where
+  passed_by : (t : State) → t.queue.staging ≡ s.queue.staging → (running : Option Batch) → IsAside s (try_if_passed t running)
+  passed_by t same None = record { staging = same; orders = tt }
+  passed_by t same (Some batch) = on (has_passed t.desk.settings batch.stage) where
+    on : (b : Bool) → IsAside s (if b then try_ended why.TryPassed t else quiet t)
+    on true = record { staging = same; orders = (try_ended_aside t why.TryPassed refl).orders }
+    on false = record { staging = same; orders = tt }
+
+  goes : (r : Report) → IsAside s (try_goes_on name r s)
+  goes r = let after = with_queue s (specs.reported Trying name r s.queue) in passed_by after refl after.queue.trying.running
+
+  of : (said : StatusState) → IsAside s (try_told_of name said s)
+  of Success = goes report.Success
+  of Pending = goes report.Pending
+  of Failure = try_ended_aside s why.TryFailed refl
+  of Error = try_ended_aside s why.TryFailed refl
+
+  by : (b : Bool) → IsAside s (if b then try_told_of name state s else quiet s)
+  by true = of state
+  by false = quiet_aside s
+
+ended_are : (s : State) (now : ℕ) → AreNotices (ended_on_time now s).orders
+ended_are s now =
+    let later = try_timed_out now (timed_out now s).state in
+    both_are (timed_out now s).orders later.orders (timed_out_are s now) (end_none_are later.orders (try_timed_out_aside (timed_out now s).state now).orders)
+
+-- one step after the other
+then_tests : (events : List Event) (first : Outcome) (next : State → Outcome)
+    → Tests (given (given events first.orders) (next first.state).orders) (next first.state).state.queue.staging.running
+    → Tests (given events (then_next first next).orders) (then_next first next).state.queue.staging.running
+then_tests events first next tests =
+    subst (λ (es : List Event). Tests es (next first.state).state.queue.staging.running) (sym (given-append events first.orders (next first.state).orders)) tests
+
+aside_tests : (events : List Event) (s : State) (is : Outcome) → IsAside s is → Tests events s.queue.staging.running → Tests (given events is.orders) is.state.queue.staging.running
+aside_tests events s is aside tests =
+    subst (λ (l : Lane). Tests (given events is.orders) l.running) (sym aside.staging)
+    (notices_tests is.orders events s.queue.staging.running (end_none_are is.orders aside.orders) tests)
 
 -- a change of the desk is that of the history
 known_as : (events : List Event) (change : ℕ) (priority : ℤ) (c : Change) → is_some c.approved ≡ true → c.priority ≡ priority
@@ -114,21 +193,21 @@ module _ (events : List Event) (desk : DeskView) (priority : ℤ) (same : look d
         All-cons (IsStandingAt events priority) (record { change = first; head = c.head }) (filter_map (head_on desk) changes)
         (known_as events first priority c so.0 so.1 (author_back events first) here) others
 
--- THE FIRST WAITING BATCH is ordered rightly, and is tested from then on.
-module _ (s : State) (is : Holds s) (batch : Batch) (waiting : List Batch) (idle : s.queue.staging ≡ record { running = None; waiting = batch ∷ waiting }) where
+-- THE FIRST WAITING BATCH of a branch is ordered rightly; and on `Staging` it is tested from then on.
+module _ (s : State) (is : Holds s) (batch : Batch) (waiting : List Batch) (idle : IsNext s.queue.staging batch waiting) where
   -- a change of it is approved, and has its priority
   its_changes : (c : ℕ) → 1 ≤ occurs c batch.changes → (approved_on s.desk c ≡ true) × (priority_on s.desk c ≡ batch.priority)
   its_changes c some =
       let held_first = λ (test : ℤ → Bool). ap (λ (l : Lane). held test c l) idle ∙ sum_by-cons (held_by test c) batch waiting in
       let other = λ (p : ℤ). not (int_eq p (priority_on s.desk c)) in (
         approved (landing_on s.desk c) refl (queued_held s is c (omega (arith, held_first of_any_priority, some))),
-        same_priority (int_eq batch.priority (priority_on s.desk c)) refl (omega (arith, held_first other, is.queue.priorities c)),
+        same_priority (int_eq batch.priority (priority_on s.desk c)) refl (omega (arith, held_first other, is.queue.staging.priorities c)),
       ) where
         none_lands : in_landing of_any_priority c s.queue.staging ≡ 0
         none_lands = ap (λ (l : Lane). in_landing of_any_priority c l) idle
 
         approved : (b : Bool) → landing_on s.desk c ≡ b → (approved_on s.desk c || landing_on s.desk c) ≡ true → approved_on s.desk c ≡ true
-        approved true at so = absurd (omega (arith, none_lands, is.queue.landing c ∙ ap {B = ℕ} (λ (b : Bool). if b then 1 else 0) at))
+        approved true at so = absurd (omega (arith, none_lands, is.queue.staging.landing c ∙ ap {B = ℕ} (λ (b : Bool). if b then 1 else 0) at))
         approved false at so = by (approved_on s.desk c) (ap (λ (b : Bool). approved_on s.desk c || b) (sym at) ∙ so) where
           by : (b : Bool) → (b || false) ≡ true → b ≡ true
           by true so = refl
@@ -161,85 +240,151 @@ module _ (s : State) (is : Holds s) (batch : Batch) (waiting : List Batch) (idle
             All-cons (IsAt events batch) (record { change = first; head = c.head }) (filter_map (head_on s.desk) changes)
             (there, at_head c (author_back events first) (ap (λ (l : Look). l.change first) (sym same) ∙ here)) others
 
-starting_right : (events : List Event) (s : State) (now : ℕ) (act : Act) → Holds s → look s.desk ≡ look_back (given events (starting now s).orders)
-    → All (IsRightOrder (given events (starting now s).orders) act) (starting now s).orders
-starting_right events s now act is same = by s.queue.staging.running s.queue.staging.waiting refl same where
-  by : (running : Option Batch) (waiting : List Batch) → s.queue.staging ≡ record { running = running; waiting = waiting } → look s.desk ≡ look_back (given events (stage_orders s.desk running waiting))
-      → All (IsRightOrder (given events (stage_orders s.desk running waiting)) act) (stage_orders s.desk running waiting)
-  by (Some batch) waiting at same = All-nil (IsRightOrder events act)
-  by None [] at same = All-nil (IsRightOrder events act)
-  by None (batch ∷ waiting) at same = on s.desk.base refl same where
-    on : (base : Option (List ℕ)) → s.desk.base ≡ base
-        → look s.desk ≡ look_back (given events (option_map_or (λ b. Stage batch.number batch.branch b (filter_map (head_on s.desk) batch.changes) ∷ []) base []))
-        → All (IsRightOrder (given events (option_map_or (λ b. Stage batch.number batch.branch b (filter_map (head_on s.desk) batch.changes) ∷ []) base [])) act)
-        (option_map_or (λ b. Stage batch.number batch.branch b (filter_map (head_on s.desk) batch.changes) ∷ []) base [])
-    on None based same = All-nil (IsRightOrder events act)
-    on (Some base) based same =
-        let order = Stage batch.number batch.branch base (filter_map (head_on s.desk) batch.changes) in
-        All-cons (IsRightOrder (gave order ∷ events) act) order []
-        (ap (λ (l : Look). l.base) (sym same) ∙ based, (batch.priority, heads_right s is batch waiting at (gave order ∷ events) same))
-        (All-nil (IsRightOrder (gave order ∷ events) act))
+-- a try has one change, which is tried
+try_heads : (events : List Event) (desk : DeskView) (changes : List ℕ) → look desk ≡ look_back events → length changes ≡ 1
+    → ((c : ℕ) → 1 ≤ occurs c changes → trying_on desk c ≡ true) → AreRightHeads events Trying (filter_map (head_on desk) changes)
+try_heads events desk [] same alone tried = cc alone
+try_heads events desk (first ∷ second ∷ changes) same alone tried = absurd (omega (arith, alone))
+try_heads events desk (first ∷ []) same alone tried = by (finite.get desk.changes first) refl (tried first (first_there events desk (pos 0) same first [])) where
+  at_head : (c : Change) → c.trying ≡ true → (author : Option (List ℕ)) → option_map (change_of events first) author ≡ Some c → IsTriedAt events (record { change = first; head = c.head })
+  at_head c trying None so = cc so
+  at_head c trying (Some author) so = record {
+    trying = ap (λ (o : Option Change). option_map_or (λ (x : Change). x.trying) o false) so ∙ trying;
+    head = ap (λ (o : Option Change). option_map_or (λ (x : Change). x.head) o []) so;
+  }
 
-starting_tests : (events : List Event) (s : State) (now : ℕ) → Holds s → Kept events s → Tests events s.queue.staging.running → Tests (given events (starting now s).orders) (starting now s).state.queue.staging.running
-starting_tests events s now is kept tests = by s.queue.staging.running s.queue.staging.waiting refl tests where
-  by : (running : Option Batch) (waiting : List Batch) → s.queue.staging ≡ record { running = running; waiting = waiting } → Tests events running
-      → Tests (given events (stage_orders s.desk running waiting)) (lanes.started now (record { running = running; waiting = waiting })).running
-  by (Some batch) waiting at tests = tests
-  by None [] at tests = tt
-  by None (batch ∷ waiting) at tests = on s.desk.base refl (first_based events s now kept is batch waiting at) where
+  by : (had : Option Change) → finite.get desk.changes first ≡ had → option_map_or (λ (x : Change). x.trying) had false ≡ true
+      → AreRightHeads events Trying (cons_option (option_map (λ (x : Change). record { change = first; head = x.head }) had) [])
+  by None here trying = cc trying
+  by (Some c) here trying =
+      (record { change = first; head = c.head }, refl, at_head c trying (author_back events first) (ap (λ (l : Look). l.change first) (sym same) ∙ here))
+
+first_heads : (branch : Branch) (s : State) → Holds s → (batch : Batch) (waiting : List Batch) → IsNext (lane_of branch s.queue) batch waiting
+    → (events : List Event) → look s.desk ≡ look_back events → AreRightHeads events branch (filter_map (head_on s.desk) batch.changes)
+first_heads Staging s is batch waiting idle events same = (batch.priority, heads_right s is batch waiting idle events same)
+first_heads Trying s is batch waiting idle events same =
+    try_heads events s.desk batch.changes same
+    (All-head IsAlone batch waiting (subst (λ (l : Lane). All IsAlone l.waiting) idle is.queue.alone.waiting))
+    (λ c some. tried_held s is c
+    (omega (arith, ap (λ (l : Lane). held of_any_priority c l) idle, sum_by-cons (held_by of_any_priority c) batch waiting, some)))
+
+starting_right : (branch : Branch) (events : List Event) (s : State) (now : ℕ) (act : Act) → Holds s → look s.desk ≡ look_back events
+    → All (IsRightOrder events act) (starting branch now s).orders
+starting_right branch events s now act is same = by (lane_of branch s.queue).running (lane_of branch s.queue).waiting refl where
+  by : (running : Option Batch) (waiting : List Batch) → lane_of branch s.queue ≡ record { running = running; waiting = waiting }
+      → All (IsRightOrder events act) (first_order s.desk running waiting)
+  by (Some batch) waiting at = All-nil (IsRightOrder events act)
+  by None [] at = All-nil (IsRightOrder events act)
+  by None (batch ∷ waiting) at = on s.desk.base refl where
+    on : (base : Option (List ℕ)) → s.desk.base ≡ base
+        → All (IsRightOrder events act) (option_map_or (λ b. stage_on s.desk batch b ∷ []) base [])
+    on None based = All-nil (IsRightOrder events act)
+    on (Some base) based =
+        All-cons (IsRightOrder events act) (stage_on s.desk batch base) [] (
+          ap (λ (l : Look). l.base) (sym same) ∙ based,
+          subst (λ (br : Branch). AreRightHeads events br (filter_map (head_on s.desk) batch.changes)) (sym (first_kind branch s is batch waiting at).branch)
+              (first_heads branch s is batch waiting at events same),
+        )
+        (All-nil (IsRightOrder events act))
+
+other_way : (a b : ℕ) → eqb a b ≡ false → eqb b a ≡ false
+other_way a b differs = grind (arith, nat_tests)
+
+starting_tests : (branch : Branch) (events : List Event) (s : State) (now : ℕ) → Holds s → Kept events s → Tests events s.queue.staging.running
+    → Tests (given events (starting branch now s).orders) (starting branch now s).state.queue.staging.running
+starting_tests branch events s now is kept tests = by (lane_of branch s.queue).running (lane_of branch s.queue).waiting refl where
+  by : (running : Option Batch) (waiting : List Batch) → lane_of branch s.queue ≡ record { running = running; waiting = waiting }
+      → Tests (given events (first_order s.desk running waiting)) (specs.started branch now s.queue).staging.running
+  by (Some batch) waiting at = subst (Tests events) (sym (still_runs branch s.queue now (Some batch) waiting at refl)) tests
+  by None [] at = subst (Tests events) (sym (still_runs branch s.queue now None [] at refl)) tests
+  by None (batch ∷ waiting) at = on s.desk.base refl (first_based branch events s kept is batch waiting at) where
+    first_tests : (b : Branch) (base : List ℕ) → s.desk.base ≡ Some base → IsNext (lane_of b s.queue) batch waiting
+        → Tests (gave (stage_on s.desk batch base) ∷ events) (specs.started b now s.queue).staging.running
+    first_tests Staging base based idle =
+        subst (λ (l : Lane). Tests (gave (stage_on s.desk batch base) ∷ events) (lanes.started now l).running) (sym idle)
+        (stage_tests events now batch base (filter_map (head_on s.desk) batch.changes) (first_kind Staging s is batch waiting idle).branch
+        (ap (λ (l : Look). l.base) (sym kept.same) ∙ based) (heads_at s is batch waiting idle events kept.same batch.changes (λ c there. there)))
+    first_tests Trying base based idle =
+        other_tests events batch.number batch.branch base (filter_map (head_on s.desk) batch.changes) s.queue.staging.running
+        (λ running runs. other_way batch.number running.number (other_number s is batch.number (first_used s.queue.trying batch waiting idle).1 running runs)) tests
+
     on : (base : Option (List ℕ)) → s.desk.base ≡ base → is_some base ≡ true
-        → Tests (given events (option_map_or (λ b. Stage batch.number batch.branch b (filter_map (head_on s.desk) batch.changes) ∷ []) base [])) (Some (ordered_at now batch))
+        → Tests (given events (option_map_or (λ b. stage_on s.desk batch b ∷ []) base [])) (specs.started branch now s.queue).staging.running
     on None based some = cc some
-    on (Some base) based some =
-        stage_tests events now batch base (filter_map (head_on s.desk) batch.changes)
-        (All-head IsWaiting batch waiting (subst (λ (l : Lane). All IsWaiting l.waiting) at is.queue.waiting)).branch
-        (ap (λ (l : Look). l.base) (sym kept.same) ∙ based) (heads_at s is batch waiting at events kept.same batch.changes (λ c there. there))
+    on (Some base) based some = first_tests branch base based at
 
 -- A STATUS
-module _ (events : List Event) (s : State) (commit name : List ℕ) (is : Holds s) (whole : Whole events s) (there : has_staged commit s.queue ≡ true) where
+module _ (events : List Event) (s : State) (commit name : List ℕ) (is : Holds s) (whole : Whole events s) where
   abbrev told_back : StatusState → List Event
   told_back state = did (Status commit name state) ∷ events
 
-  told_whole : (state : StatusState) → look s.desk ≡ look_back (told_back state)
-      → Tests (given (told_back state) (told name state s).orders) (told name state s).state.queue.staging.running
-      × All (IsRightOrder (given (told_back state) (told name state s).orders) (Status commit name state)) (told name state s).orders
-  told_whole state same = by (is_required s.desk.settings name) refl where
-    goes : (r : Report) → is_required s.desk.settings name ≡ true → look s.desk ≡ look_back (told_back (report_of r))
-        → Tests (given (told_back (report_of r)) (goes_on name r s).orders) (goes_on name r s).state.queue.staging.running
-        × All (IsRightOrder (given (told_back (report_of r)) (goes_on name r s).orders) (Status commit name (report_of r))) (goes_on name r s).orders
-    goes r required same = on s.queue.staging.running refl there whole.tests where
+  -- the orders are right, and stay so after notices that end no approval
+  abbrev IsTold : StatusState → Outcome → List Order → Type 0
+  IsTold state told later =
+      Tests (given (told_back state) told.orders) told.state.queue.staging.running
+      × All (IsRightOrder (given (given (told_back state) told.orders) later) (Status commit name state)) told.orders
+
+  told_of_whole : (state : StatusState) (later : List Order) → EndNone later → is_required s.desk.settings name ≡ true → has_staged commit s.queue.staging ≡ true
+      → look s.desk ≡ look_back (told_back state) → IsTold state (told_of name state s) later
+  told_of_whole state later none required there same = of state same where
+    goes : (r : Report) → look s.desk ≡ look_back (told_back (report_of r)) → IsTold (report_of r) (goes_on name r s) later
+    goes r same = on s.queue.staging.running refl there whole.tests where
       on : (running : Option Batch) → s.queue.staging.running ≡ running → option_map_or (λ (batch : Batch). is_staged_with commit batch.stage) running false ≡ true → Tests events running
-          → Tests (given (told_back (report_of r)) (goes_on name r s).orders) (goes_on name r s).state.queue.staging.running
-          × All (IsRightOrder (given (told_back (report_of r)) (goes_on name r s).orders) (Status commit name (report_of r))) (goes_on name r s).orders
+          → IsTold (report_of r) (goes_on name r s) later
       on None runs so tests = cc so
       on (Some batch) runs so tests = at batch.stage refl so tests where
-        at : (l : StageOf) → batch.stage ≡ l → is_staged_with commit l ≡ true → TestsAt events batch l
-            → Tests (given (told_back (report_of r)) (goes_on name r s).orders) (goes_on name r s).state.queue.staging.running
-            × All (IsRightOrder (given (told_back (report_of r)) (goes_on name r s).orders) (Status commit name (report_of r))) (goes_on name r s).orders
+        at : (l : StageOf) → batch.stage ≡ l → is_staged_with commit l ≡ true → TestsAt events batch l → IsTold (report_of r) (goes_on name r s) later
         at stage.Waiting stands so tests = cc so
         at (stage.Ordered since) stands so tests = cc so
         at (stage.Landing other) stands so tests = cc so
         at (stage.Staged since other reports) stands so tests = (
           goes_on_tests events s commit name r is same batch runs since other reports stands so required tests,
-          goes_on_right events s commit name r is same batch runs since other reports stands so required tests,
+          goes_on_right events s commit name r is same batch runs since other reports stands so required tests later none,
         )
 
-    of : (said : StatusState) → state ≡ said → is_required s.desk.settings name ≡ true
-        → Tests (given (told_back said) (told_of name said s).orders) (told_of name said s).state.queue.staging.running
-        × All (IsRightOrder (given (told_back said) (told_of name said s).orders) (Status commit name said)) (told_of name said s).orders
-    of Success at required = goes report.Success required (same ∙ ap (λ said. look_back (told_back said)) at)
-    of Pending at required = goes report.Pending required (same ∙ ap (λ said. look_back (told_back said)) at)
-    of Failure at required =
-        (failed_tests (given (told_back Failure) (failing (why.Failed name) s).orders) s.queue.next s.queue.staging, notices_right (given (told_back Failure) (failing (why.Failed name) s).orders) (Status commit name Failure) (failing (why.Failed name) s).orders (lone_are (why.Failed name) (lone s.queue.staging.running)))
-    of Error at required =
-        (failed_tests (given (told_back Error) (failing (why.Failed name) s).orders) s.queue.next s.queue.staging, notices_right (given (told_back Error) (failing (why.Failed name) s).orders) (Status commit name Error) (failing (why.Failed name) s).orders (lone_are (why.Failed name) (lone s.queue.staging.running)))
+    failed_whole : (said : StatusState) → IsTold said (failing (why.Failed name) s) later
+    failed_whole said =
+        let orders = (failing (why.Failed name) s).orders in (
+          failed_tests (given (told_back said) orders) s.queue.next s.queue.staging,
+          notices_right (given (given (told_back said) orders) later) (Status commit name said) orders (lone_are (why.Failed name) (lone s.queue.staging.running)),
+        )
 
+    of : (said : StatusState) → look s.desk ≡ look_back (told_back said) → IsTold said (told_of name said s) later
+    of Success same = goes report.Success same
+    of Pending same = goes report.Pending same
+    of Failure same = failed_whole Failure
+    of Error same = failed_whole Error
+
+  told_staging_whole : (state : StatusState) (later : List Order) → EndNone later → is_required s.desk.settings name ≡ true → look s.desk ≡ look_back (told_back state)
+      → IsTold state (told_staging commit name state s) later
+  told_staging_whole state later none required same = by (has_staged commit s.queue.staging) refl where
+    by : (b : Bool) → has_staged commit s.queue.staging ≡ b → IsTold state (if b then told_of name state s else quiet s) later
+    by true there = told_of_whole state later none required there same
+    by false elsewhere = (
+      act_tests events (Status commit name state) [] s.queue.staging.running s
+          (λ batch runs. elsewhere_told events commit name state batch.number batch.stage
+          (sym (ap (λ (o : Option Batch). option_map_or (λ (b : Batch). is_staged_with commit b.stage) o false) runs) ∙ elsewhere)) tt is same (inl refl) whole.tests,
+      All-nil (IsRightOrder (given (told_back state) later) (Status commit name state)),
+    )
+
+  told_whole : (state : StatusState) → look s.desk ≡ look_back (told_back state) → IsTold state (told commit name state s) []
+  told_whole state same = by (is_required s.desk.settings name) refl where
     by : (b : Bool) → is_required s.desk.settings name ≡ b
-        → Tests (given (told_back state) (if b then told_of name state s else quiet s).orders) (if b then told_of name state s else quiet s).state.queue.staging.running
-        × All (IsRightOrder (given (told_back state) (if b then told_of name state s else quiet s).orders) (Status commit name state)) (if b then told_of name state s else quiet s).orders
-    by true required = of state refl required
+        → IsTold state (if b then then_next (told_staging commit name state s) (told_trying commit name state) else quiet s) []
+    by true required =
+        let first = told_staging commit name state s in
+        let later = told_trying commit name state first.state in
+        let aside = told_trying_aside first.state commit name state in
+        let one = told_staging_whole state later.orders aside.orders required same in (
+          then_tests (told_back state) first (told_trying commit name state) (aside_tests (given (told_back state) first.orders) first.state later aside one.0),
+          subst (λ (es : List Event). All (IsRightOrder es (Status commit name state)) (first.orders ++ later.orders)) (sym (given-append (told_back state) first.orders later.orders))
+              (All-append (IsRightOrder (given (given (told_back state) first.orders) later.orders) (Status commit name state)) first.orders later.orders one.1
+              (notices_right (given (given (told_back state) first.orders) later.orders) (Status commit name state) later.orders (end_none_are later.orders aside.orders))),
+        )
     by false required = (
-      act_tests events (Status commit name state) [] s.queue.staging.running s (unasked events commit name state (ap (λ (l : Look). is_required l.settings name) (sym whole.kept.same) ∙ required)) tt is same (inl refl) whole.tests,
+      act_tests events (Status commit name state) [] s.queue.staging.running s
+          (λ batch runs. unasked events commit name state batch.number batch.stage (ap (λ (l : Look). is_required l.settings name) (sym whole.kept.same) ∙ required))
+          tt is same (inl refl) whole.tests,
       All-nil (IsRightOrder (told_back state) (Status commit name state)),
     )
 
@@ -252,12 +397,12 @@ settings_tests events s text read at is whole same = of read at same where
       → Tests (given (did (Settings text) ∷ events) (accepted s r).orders) (accepted s r).state.queue.staging.running
   of (Err fault) at same =
       act_tests events (Settings text) [] s.queue.staging.running s
-      (record {
+      (λ batch runs. record {
         ordered = ap (λ (r : Result SettingsView SettingsFault). option_map_or (λ (new : SettingsView). option_map_or (λ (old : SettingsView). same_settings old new) (settings_back events) false) (result_ok r) true) at;
         base = refl;
         settings = ap (λ (r : Result SettingsView SettingsFault). option_or (result_ok r) (settings_back events)) at;
-        staged = λ number. refl;
-        said = λ commit name required. refl;
+        staged = refl;
+        said = λ commit name with_it required. refl;
       }) tt is same (inl refl) whole.tests
   of (Ok settings) at same = by (are_present s.desk settings) refl same where
     equal : (present : Option SettingsView) → option_map_or (λ (p : SettingsView). same_settings p settings) present false ≡ true → Some settings ≡ present
@@ -270,28 +415,57 @@ settings_tests events s text read at is whole same = of read at same where
     by true present same =
         let there = ap (λ (l : Look). option_map_or (λ (p : SettingsView). same_settings p settings) l.settings false) (sym whole.kept.same) ∙ present in
         act_tests events (Settings text) [] s.queue.staging.running s
-        (record {
+        (λ batch runs. record {
           ordered = ap (λ (r : Result SettingsView SettingsFault). option_map_or (λ (new : SettingsView). option_map_or (λ (old : SettingsView). same_settings old new) (settings_back events) false) (result_ok r) true) at ∙ there;
           base = refl;
           settings = ap (λ (r : Result SettingsView SettingsFault). option_or (result_ok r) (settings_back events)) at ∙ equal (settings_back events) there;
-          staged = λ number. refl;
-          said = λ commit name required. refl;
+          staged = refl;
+          said = λ commit name with_it required. refl;
         }) tt is same (inl refl) whole.tests
     by false new same = restarted_tests (given (did (Settings text) ∷ events) (under settings s).orders) _ _
 
+-- a number under which a batch runs is used
+runs_used : (number : ℕ) (lane : Lane) → has_ordered number lane ≡ true → 1 ≤ uses number (batches_of lane)
+runs_used number lane there = by lane.running there where
+  by : (running : Option Batch) → option_map_or (λ (batch : Batch). eqb number batch.number && is_ordered batch.stage) running false ≡ true
+      → 1 ≤ uses number (batches_of (record { running = running; waiting = lane.waiting }))
+  by None so = cc so
+  by (Some batch) so =
+      omega (
+        arith,
+        sum_by-cons (has_number number) batch lane.waiting,
+        ap {B = ℕ} (λ (b : Bool). if b then 1 else 0) (first_so (eqb number batch.number) (is_ordered batch.stage) so),
+      )
+
 -- ANY ACT
 module _ (events : List Event) (s : State) (is : Holds s) (whole : Whole events s) where
-  about_tests : (act : Act) (n : ℕ) → Elsewhere events act → Holds (about s n act).state → Kept (given (did act ∷ events) (about s n act).orders) (about s n act).state
-      → Tests (given (did act ∷ events) (about s n act).orders) (about s n act).state.queue.staging.running
-  about_tests act n leaves later kept = act_tests events act (notices s.desk act) s.queue.staging.running (about s n act).state leaves (about_are s.desk act) later kept.same (followed_runs _ _ _ _ _ n s.queue) whole.tests
+  -- one that sets no base and no settings, and is no news of a batch
+  abbrev IsSilent : Act → Type 0
+  IsSilent act = (number : ℕ) (at : StageOf) → Elsewhere events act number at
 
-  -- a batch that was ordered is staged
-  staged_whole : (number : ℕ) (commit : List ℕ) → has_ordered number s.queue ≡ true → look s.desk ≡ look_back (did (Staged number commit) ∷ events)
-      → Tests (did (Staged number commit) ∷ events) (lanes.staged s.desk.clock commit s.queue.staging).running
-  staged_whole number commit there same = by s.queue.staging.running refl there whole.tests where
+  silent_act : (act : Act) → keeps_order (did act) events ≡ true → base_back (did act ∷ events) ≡ base_back events → settings_back (did act ∷ events) ≡ settings_back events
+      → ((number : ℕ) → keeps_staged number (did act) events ≡ true) → ((commit name : List ℕ) → state_said commit name act ≡ None) → IsSilent act
+  silent_act act ordered base settings staged said number at =
+      record { ordered = ordered; base = base; settings = settings; staged = staged number; said = λ commit name with_it required. said commit name }
+
+  -- a batch that was ordered is staged, on its branch
+  staged_whole : (number : ℕ) (commit : List ℕ) → on_either (has_ordered number) s.queue ≡ true → look s.desk ≡ look_back (did (Staged number commit) ∷ events) → (b : Bool)
+      → has_ordered number s.queue.staging ≡ b → Tests (did (Staged number commit) ∷ events) (specs.staged (if b then Staging else Trying) s.desk.clock commit s.queue).staging.running
+  staged_whole number commit there same false elsewhere =
+      act_tests events (Staged number commit) [] s.queue.staging.running s
+      (λ batch runs. record {
+        ordered = refl;
+        base = refl;
+        settings = refl;
+        staged = ap not (other_way number batch.number (other_number s is number (runs_used number s.queue.trying on_trying) batch runs));
+        said = λ other name with_it required. refl;
+      }) tt is same (inl refl) whole.tests where
+        on_trying : has_ordered number s.queue.trying ≡ true
+        on_trying = ap (λ (b : Bool). b || has_ordered number s.queue.trying) (sym elsewhere) ∙ there
+  staged_whole number commit there same true here = by s.queue.staging.running refl here whole.tests where
     by : (running : Option Batch) → s.queue.staging.running ≡ running → option_map_or (λ (batch : Batch). eqb number batch.number && is_ordered batch.stage) running false ≡ true → Tests events running
         → Tests (did (Staged number commit) ∷ events) (option_map (lanes.staged_at s.desk.clock commit) running)
-    by None runs so tests = cc so
+    by None runs so tests = tt
     by (Some batch) runs so tests = at batch.stage refl (eqb number batch.number) refl so tests where
       at : (l : StageOf) → batch.stage ≡ l → (b : Bool) → eqb number batch.number ≡ b → (b && is_ordered l) ≡ true → TestsAt events batch l
           → Tests (did (Staged number commit) ∷ events) (Some (lanes.staged_at s.desk.clock commit batch))
@@ -303,48 +477,84 @@ module _ (events : List Event) (s : State) (is : Holds s) (whole : Whole events 
       at l stands false same_number so tests = cc so
 
   timed_out_tests : (es : List Event) (t : State) (now : ℕ) → Tests es t.queue.staging.running → Tests (given es (timed_out now t).orders) (timed_out now t).state.queue.staging.running
-  timed_out_tests es t now tests = by (has_overdue now t) where
+  timed_out_tests es t now tests = by (has_overdue now t.desk.settings t.queue.staging) where
     by : (b : Bool) → Tests (given es (if b then failing why.TimedOut t else quiet t).orders) (if b then failing why.TimedOut t else quiet t).state.queue.staging.running
     by true = failed_tests (given es (failing why.TimedOut t).orders) t.queue.next t.queue.staging
     by false = tests
 
-  abbrev Then : Act → Type 0
-  Then act = Tests (given (did act ∷ events) (done s act).orders) (done s act).state.queue.staging.running × All (IsRightOrder (given (did act ∷ events) (done s act).orders) act) (done s act).orders
+  abbrev Comes : Act → Outcome → Type 0
+  Comes act to = Tests (given (did act ∷ events) to.orders) to.state.queue.staging.running × All (IsRightOrder (given (did act ∷ events) to.orders) act) to.orders
 
-  about_then : (act : Act) (n : ℕ) → Elsewhere events act → Holds (about s n act).state → Kept (given (did act ∷ events) (about s n act).orders) (about s n act).state
-      → Tests (given (did act ∷ events) (about s n act).orders) (about s n act).state.queue.staging.running × All (IsRightOrder (given (did act ∷ events) (about s n act).orders) act) (about s n act).orders
-  about_then act n leaves later kept = (about_tests act n leaves later kept, notices_right (given (did act ∷ events) (about s n act).orders) act (notices s.desk act) (about_are s.desk act))
+  abbrev Then : Act → Type 0
+  Then act = Comes act (done s act)
+
+  -- an act that gives notices, and leaves what runs or stops it
+  about_then : (act : Act) (n : ℕ) → IsSilent act → Holds (about s n act).state → Kept (given (did act ∷ events) (about s n act).orders) (about s n act).state → Comes act (about s n act)
+  about_then act n leaves later kept = (
+    act_tests events act (notices s.desk act) s.queue.staging.running (about s n act).state (λ batch runs. leaves batch.number batch.stage) (about_are s.desk act) later kept.same
+        (followed_runs s.desk (effect s.desk act) n s.queue) whole.tests,
+    notices_right (given (did act ∷ events) (about s n act).orders) act (notices s.desk act) (about_are s.desk act),
+  )
+
+  -- a batch that was ordered can't be staged
+  given_up_then : (number : ℕ) (branch : Branch) → Holds (given_up branch s).state
+      → Kept (given (did (Conflict number) ∷ events) (given_up branch s).orders) (given_up branch s).state → Comes (Conflict number) (given_up branch s)
+  given_up_then number Staging later kept = (
+    failed_tests (given (did (Conflict number) ∷ events) (failing why.Conflict s).orders) s.queue.next s.queue.staging,
+    notices_right (given (did (Conflict number) ∷ events) (failing why.Conflict s).orders) (Conflict number) (failing why.Conflict s).orders (lone_are why.Conflict (lone s.queue.staging.running)),
+  )
+  given_up_then number Trying later kept =
+      let orders = (try_ended why.TryFailed s).orders in
+      let are = lone_are why.TryFailed (lone s.queue.trying.running) in (
+        act_tests events (Conflict number) orders s.queue.staging.running (try_ended why.TryFailed s).state
+            (λ batch runs. silent_act (Conflict number) refl refl refl (λ other. refl) (λ commit name. refl) batch.number batch.stage) are later kept.same (inl refl) whole.tests,
+        notices_right (given (did (Conflict number) ∷ events) orders) (Conflict number) orders are,
+      )
 
   tick_then : (now : ℕ) → IsMoment now → broken (look s.desk) (Tick now) ≡ None → Kept (given (did (Tick now) ∷ events) (done s (Tick now)).orders) (done s (Tick now)).state → Then (Tick now)
   tick_then now limit holds last =
+      let act = Tick now in
       let t = with_desk s (with_clock s.desk now) in
-      let later = timed_out now t in
       let set = clock_holds s now limit (leb-true s.desk.clock now (passed (leb s.desk.clock now) ClockBack [] holds).0) is in
-      let ended = timed_out_holds t now set in
       let first = clock_kept events s is whole.kept now holds in
-      let middle = timed_out_kept (did (Tick now) ∷ events) t now first in
-      let ticked = act_tests events (Tick now) [] s.queue.staging.running t (record { ordered = refl; base = refl; settings = refl; staged = λ number. refl; said = λ commit name required. refl }) tt set first.same (inl refl) whole.tests in
-      let whole_events : List Event = given (given (did (Tick now) ∷ events) later.orders) (starting now later.state).orders in
-      let same = given-append (did (Tick now) ∷ events) later.orders (starting now later.state).orders in (
-        subst (λ (es : List Event). Tests es (done s (Tick now)).state.queue.staging.running) (sym same)
-            (starting_tests (given (did (Tick now) ∷ events) later.orders) later.state now ended middle (timed_out_tests (did (Tick now) ∷ events) t now ticked)),
-        subst (λ (es : List Event). All (IsRightOrder es (Tick now)) (later.orders ++ (starting now later.state).orders)) (sym same)
-            (All-append (IsRightOrder whole_events (Tick now)) later.orders (starting now later.state).orders (notices_right whole_events (Tick now) later.orders (timed_out_are t now))
-            (starting_right (given (did (Tick now) ∷ events) later.orders) later.state now (Tick now) ended
-            (starting_kept (given (did (Tick now) ∷ events) later.orders) later.state now ended middle).same)),
+      let ended = ended_on_time now t in
+      let e = ended.state in
+      let e_is = ended_on_time_holds t now set in
+      let one = starting Staging now e in
+      let one_is = starting_holds Staging e now (still_clock t now) e_is in
+      let ended_events : List Event = given (did act ∷ events) ended.orders in
+      let ended_kept = ended_on_time_kept (did act ∷ events) t now first in
+      let one_kept = starting_kept Staging ended_events e now e_is ended_kept in
+      let ticked =
+      act_tests events act [] s.queue.staging.running t (λ batch runs. silent_act act refl refl refl (λ other. refl) (λ commit name. refl) batch.number batch.stage) tt set first.same (inl refl) whole.tests in
+      let timed = timed_out_tests (did act ∷ events) t now ticked in
+      let late = timed_out now t in
+      let both_ended = then_tests (did act ∷ events) late (try_timed_out now)
+      (aside_tests (given (did act ∷ events) late.orders) late.state (try_timed_out now late.state) (try_timed_out_aside late.state now) timed) in
+      let all_events : List Event = given (did act ∷ events) (done s act).orders in (
+        then_tests (did act ∷ events) ended (all_starting now)
+            (then_tests ended_events one (starting Trying now)
+            (starting_tests Trying (given ended_events one.orders) one.state now one_is one_kept (starting_tests Staging ended_events e now e_is ended_kept both_ended))),
+        All-append (IsRightOrder all_events act) ended.orders (all_starting now e).orders (notices_right all_events act ended.orders (ended_are t now))
+            (All-append (IsRightOrder all_events act) one.orders (starting Trying now one.state).orders
+            (starting_right Staging all_events e now act e_is last.same) (starting_right Trying all_events one.state now act one_is last.same)),
       )
 
   done_then : (act : Act) → ((now : ℕ) → act ≡ Tick now → IsMoment now) → missing s.queue act ≡ None → broken (look s.desk) act ≡ None → Holds (done s act).state
       → Kept (given (did act ∷ events) (done s act).orders) (done s act).state → Then act
-  done_then (Spoken n person spoken) limit there holds later kept = about_then (Spoken n person spoken) n (record { ordered = refl; base = refl; settings = refl; staged = λ number. refl; said = λ commit name required. refl }) later kept
-  done_then (Opened n author head) limit there holds later kept = about_then (Opened n author head) n (record { ordered = refl; base = refl; settings = refl; staged = λ number. refl; said = λ commit name required. refl }) later kept
-  done_then (Pushed n head) limit there holds later kept = about_then (Pushed n head) n (record { ordered = refl; base = refl; settings = refl; staged = λ number. refl; said = λ commit name required. refl }) later kept
-  done_then (Closed n) limit there holds later kept = about_then (Closed n) n (record { ordered = refl; base = refl; settings = refl; staged = λ number. refl; said = λ commit name required. refl }) later kept
-  done_then (Labeled n label) limit there holds later kept = about_then (Labeled n label) n (record { ordered = refl; base = refl; settings = refl; staged = λ number. refl; said = λ commit name required. refl }) later kept
-  done_then (Unlabeled n label) limit there holds later kept = about_then (Unlabeled n label) n (record { ordered = refl; base = refl; settings = refl; staged = λ number. refl; said = λ commit name required. refl }) later kept
-  done_then (Review n person head approves) limit there holds later kept = about_then (Review n person head approves) n (record { ordered = refl; base = refl; settings = refl; staged = λ number. refl; said = λ commit name required. refl }) later kept
+  done_then (Spoken n person spoken) limit there holds later kept =
+      about_then (Spoken n person spoken) n (silent_act (Spoken n person spoken) refl refl refl (λ number. refl) (λ commit name. refl)) later kept
+  done_then (Opened n author head) limit there holds later kept =
+      about_then (Opened n author head) n (silent_act (Opened n author head) refl refl refl (λ number. refl) (λ commit name. refl)) later kept
+  done_then (Pushed n head) limit there holds later kept = about_then (Pushed n head) n (silent_act (Pushed n head) refl refl refl (λ number. refl) (λ commit name. refl)) later kept
+  done_then (Closed n) limit there holds later kept = about_then (Closed n) n (silent_act (Closed n) refl refl refl (λ number. refl) (λ commit name. refl)) later kept
+  done_then (Labeled n label) limit there holds later kept = about_then (Labeled n label) n (silent_act (Labeled n label) refl refl refl (λ number. refl) (λ commit name. refl)) later kept
+  done_then (Unlabeled n label) limit there holds later kept = about_then (Unlabeled n label) n (silent_act (Unlabeled n label) refl refl refl (λ number. refl) (λ commit name. refl)) later kept
+  done_then (Review n person head approves) limit there holds later kept =
+      about_then (Review n person head approves) n (silent_act (Review n person head approves) refl refl refl (λ number. refl) (λ commit name. refl)) later kept
   done_then (Role person role) limit there holds later kept = (
-    act_tests events (Role person role) [] s.queue.staging.running (done s (Role person role)).state (record { ordered = refl; base = refl; settings = refl; staged = λ number. refl; said = λ commit name required. refl }) tt later kept.same (inl refl) whole.tests,
+    act_tests events (Role person role) [] s.queue.staging.running (done s (Role person role)).state
+        (λ batch runs. silent_act (Role person role) refl refl refl (λ number. refl) (λ commit name. refl) batch.number batch.stage) tt later kept.same (inl refl) whole.tests,
     All-nil (IsRightOrder (did (Role person role) ∷ events) (Role person role)),
   )
   done_then (Settings text) limit there holds later kept = (
@@ -352,18 +562,18 @@ module _ (events : List Event) (s : State) (is : Holds s) (whole : Whole events 
     notices_right (given (did (Settings text) ∷ events) (accepted s (settings_of text)).orders) (Settings text) (accepted s (settings_of text)).orders (accepted_are s (settings_of text)),
   )
   done_then (Base base) limit there holds later kept =
-      (requeued_tests (did (Base base) ∷ events) _ s.queue.next s.queue.staging, All-nil (IsRightOrder (did (Base base) ∷ events) (Base base)))
+      let back = sent_back (Some base) s in (
+        subst (λ (l : Lane). Tests (did (Base base) ∷ events) l.running) (sym (tries_left_staging (lands_with base s.queue.staging) back.desk back.queue))
+            (requeued_tests (did (Base base) ∷ events) (approved_on back.desk) s.queue.next s.queue.staging),
+        All-nil (IsRightOrder (did (Base base) ∷ events) (Base base)),
+      )
   done_then (Staged batch commit) limit there holds later kept = (
-    staged_whole batch commit (unless_so (has_ordered batch s.queue) NoSuchBatch there) kept.same,
+    staged_whole batch commit (unless_so (on_either (has_ordered batch) s.queue) NoSuchBatch there) kept.same (has_ordered batch s.queue.staging) refl,
     All-nil (IsRightOrder (did (Staged batch commit) ∷ events) (Staged batch commit)),
   )
-  done_then (Conflict batch) limit there holds later kept = (
-    failed_tests (given (did (Conflict batch) ∷ events) (failing why.Conflict s).orders) s.queue.next s.queue.staging,
-    notices_right (given (did (Conflict batch) ∷ events) (failing why.Conflict s).orders) (Conflict batch) (failing why.Conflict s).orders (lone_are why.Conflict (lone s.queue.staging.running)),
-  )
+  done_then (Conflict batch) limit there holds later kept = given_up_then batch (ordered_on batch s.queue) later kept
   done_then (Status commit name state) limit there holds later kept =
-      told_whole events s commit name is whole (unless_so (has_staged commit s.queue) NoSuchBatch there) state
-      (fact_kept events s is whole.kept (Status commit name state) refl (λ c. (refl, refl)) (λ number. refl) holds).same
+      told_whole events s commit name is whole state (fact_kept events s is whole.kept (Status commit name state) refl (λ c. (refl, refl)) (λ number. refl) holds).same
   done_then (Refused batch) limit there holds later kept =
       (requeued_tests (did (Refused batch) ∷ events) _ s.queue.next s.queue.staging, All-nil (IsRightOrder (did (Refused batch) ∷ events) (Refused batch)))
   done_then (Tick now) limit there holds later kept = tick_then now (limit now refl) holds kept
@@ -463,6 +673,11 @@ landing_as : (events : List Event) (change : ℕ) → Unseen events change → (
 landing_as events change unseen (Some author) is = refl
 landing_as events change unseen None is = sym (blank_landing events change (unseen is))
 
+trying_as : (events : List Event) (change : ℕ) → Unseen events change → (author : Option (List ℕ)) → author_back events change ≡ author
+    → option_map_or (λ (x : Change). x.trying) (option_map (change_of events change) author) false ≡ trying_back events change
+trying_as events change unseen (Some author) is = refl
+trying_as events change unseen None is = sym (blank_trying events change (unseen is))
+
 -- one more entry, after every legal history
 pub tells : (history : List Entry) (old : State) (act : Act) → IsState (after old act) → Legal history old → EntryTells history old (entry_of act (reply_to old act)) (after old act)
 tells history old act is legal =
@@ -478,6 +693,8 @@ tells history old act is legal =
     λ change. approved_as (finite.get new.desk.changes change) ∙ ap is_some (approvers change) ∙ standing_approved now change in
     let landing : (change : ℕ) → landing_on new.desk change ≡ landing_back now change =
     λ change. ap (λ (s : Look). option_map_or (λ (c : Change). c.landing) (s.change change) false) same ∙ landing_as now change (kept.unseen change) (author_back now change) refl in
+    let trying : (change : ℕ) → trying_on new.desk change ≡ trying_back now change =
+    λ change. ap (λ (s : Look). option_map_or (λ (c : Change). c.trying) (s.change change) false) same ∙ trying_as now change (kept.unseen change) (author_back now change) refl in
     record {
       roles = λ person. ap (λ (s : Look). s.role person) same;
       settings = ap (λ (s : Look). s.settings) same;
@@ -485,11 +702,12 @@ tells history old act is legal =
       clock = ap (λ (s : Look). s.clock) same;
       changes = λ change. ap (λ (s : Look). s.change change) same;
       approvers = approvers;
-      queued = λ change. is.queue.places change ∙ (λ i. if stands change i || landing change i then 1 else 0);
-      landing = λ change. is.queue.landing change ∙ ap {B = ℕ} (λ (b : Bool). if b then 1 else 0) (landing change);
-      staged_once = λ number. once (ltb number new.queue.next) (stages number now) (uses number new.queue.staging.waiting) (kept.numbered.once number);
+      queued = λ change. is.queue.staging.places change ∙ (λ i. if stands change i || landing change i then 1 else 0);
+      landing = λ change. is.queue.staging.landing change ∙ ap {B = ℕ} (λ (b : Bool). if b then 1 else 0) (landing change);
+      tried = λ change. is.queue.trying.places change ∙ ap {B = ℕ} (λ (b : Bool). if b then 1 else 0) (or_false (trying_on new.desk change) ∙ trying change);
+      staged_once = λ number. once (ltb number new.queue.next) (stages number now) (waits number new.queue) (kept.numbered.once number);
       landed_once = λ number.
-          omega (arith, kept.numbered.lands number, once (ltb number new.queue.next) (stages number now) (uses number new.queue.staging.waiting) (kept.numbered.once number));
+          omega (arith, kept.numbered.lands number, once (ltb number new.queue.next) (stages number now) (waits number new.queue) (kept.numbered.once number));
       ordered_rightly = next.1;
       by_rule =
           rule_answered (denial old act) (acted old act).orders
@@ -500,3 +718,7 @@ tells history old act is legal =
       once : (b : Bool) (staged waiting : ℕ) → staged + waiting ≤ (if b then 1 else 0) → staged ≤ 1
       once true staged waiting few = omega (arith, few)
       once false staged waiting few = omega (arith, few)
+
+      or_false : (b : Bool) → (b || false) ≡ b
+      or_false true = refl
+      or_false false = refl

@@ -19,6 +19,7 @@ pub mod Law
 pub mod Limits
 pub mod Meaning
 pub mod Next
+pub mod Only
 pub mod Numbers
 pub mod Premises
 pub mod Service

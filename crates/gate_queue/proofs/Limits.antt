@@ -19,7 +19,7 @@ use Rattle.gate_rules.specs.declared.change.Repeat.TheVariants as repeat
 use Rattle.gate_rules.specs.declared.rule.Rule.TheVariants.{UnknownChange, NotPermitted, NotOpen, Landing, NoSettings, NoBase}
 use Rattle.gate_rules.specs.declared.role.Role.{Role as RoleOf}
 use Rattle.gate_queue.specs.Acts.{ActKeepsLimits, IsMoment}
-use Rattle.gate_queue.specs.Machine.{broken, effect, altered, all_altered, with_landing, released, landed, with_new_settings, unless_against, approved_by, with_priority, with_delegates, with_author_as_delegate, without_delegates, opened, pushed, moved_to, closed, labeled, with_label, without_label, reviewed, with_review, settled, loses_approval}
+use Rattle.gate_queue.specs.Machine.{broken, effect, altered, lone_altered, all_altered, with_landing, released, landed, with_new_settings, unless_against, approved_by, with_try, without_try, with_priority, with_delegates, with_author_as_delegate, without_delegates, opened, pushed, moved_to, closed, labeled, with_label, without_label, reviewed, with_review, settled, loses_approval}
 use Rattle.gate_queue.specs.State.{IsChange, IsDesk}
 use Rattle.gate_queue.specs.declared.act.Act.{Act}
 use Rattle.gate_queue.specs.declared.act.Act.TheVariants.{Spoken, Role, Settings, Base, Opened, Pushed, Closed, Labeled, Unlabeled, Review, Staged, Conflict, Status, Refused, Tick}
@@ -46,12 +46,16 @@ module _ (settings : Option SettingsView) (base : Option (List ℕ)) where
     opened = λ some. cc some;
     ready = λ some. is.ready (either_true (is_some change.approved) change.landing some);
     approvers = tt;
+    tried = is.tried;
     last = is.last;
   }
 
+  pub untried_keeps : (change : Change) → Is change → Is (without_try change)
+  untried_keeps change is = record { priority = is.priority; opened = is.opened; ready = is.ready; approvers = is.approvers; tried = λ so. cc so; last = is.last }
+
   -- with other labels, reviews and delegates
   others_keep : (change : Change) (labels reviews delegates : Texts) → Is change → Is (record change { labels = labels; reviews = reviews; delegates = delegates })
-  others_keep change labels reviews delegates is = record { priority = is.priority; opened = is.opened; ready = is.ready; approvers = is.approvers; last = is.last }
+  others_keep change labels reviews delegates is = record { priority = is.priority; opened = is.opened; ready = is.ready; approvers = is.approvers; tried = is.tried; last = is.last }
 
   if_ended : (b : Bool) (change : Change) → Is change → Is (cond b (without_approval change) change)
   if_ended true change is = ended_keeps change is
@@ -65,16 +69,16 @@ module _ (settings : Option SettingsView) (base : Option (List ℕ)) where
   pushed_keeps head true change is = is
   pushed_keeps head false change is =
       let ended = ended_keeps change is in
-      record { priority = is.priority; opened = λ some. cc some; ready = ended.ready; approvers = tt; last = is.last }
+      record { priority = is.priority; opened = λ some. cc some; ready = ended.ready; approvers = tt; tried = λ so. cc so; last = is.last }
 
   closed_keeps : (change : Change) → Is change → Is (closed change)
   closed_keeps change is =
       let ended = ended_keeps change is in
-      record { priority = is.priority; opened = λ some. cc some; ready = ended.ready; approvers = tt; last = is.last }
+      record { priority = is.priority; opened = λ some. cc some; ready = ended.ready; approvers = tt; tried = λ so. cc so; last = is.last }
 
   -- a change that is to land, under settings and on a base; one that no longer is; and one that has landed
   pub marked_keeps : (is_some settings ≡ true) × (is_some base ≡ true) → (change : Change) → Is change → Is (with_landing true change)
-  marked_keeps both change is = record { priority = is.priority; opened = is.opened; ready = λ some. both; approvers = is.approvers; last = is.last }
+  marked_keeps both change is = record { priority = is.priority; opened = is.opened; ready = λ some. both; approvers = is.approvers; tried = is.tried; last = is.last }
 
   unmarked_keeps : (change : Change) → Is change → Is (with_landing false change)
   unmarked_keeps change is = record {
@@ -82,6 +86,7 @@ module _ (settings : Option SettingsView) (base : Option (List ℕ)) where
     opened = is.opened;
     ready = λ some. is.ready (first_true (is_some change.approved) change.landing some);
     approvers = is.approvers;
+    tried = is.tried;
     last = is.last;
   } where
     first_true : (b c : Bool) → (b || false) ≡ true → (b || c) ≡ true
@@ -89,7 +94,7 @@ module _ (settings : Option SettingsView) (base : Option (List ℕ)) where
     first_true false c so = cc so
 
   landed_keeps : (change : Change) → Is change → Is (landed change)
-  landed_keeps change is = record { priority = is.priority; opened = λ some. cc some; ready = λ some. cc some; approvers = tt; last = is.last }
+  landed_keeps change is = record { priority = is.priority; opened = λ some. cc some; ready = λ some. cc some; approvers = tt; tried = λ so. cc so; last = is.last }
 
   pub released_keeps : (on : Option (List ℕ)) (commit : List ℕ) (change : Change) → Is change → Is (released on commit change)
   released_keeps None commit change is = unmarked_keeps change is
@@ -99,8 +104,8 @@ module _ (settings : Option SettingsView) (base : Option (List ℕ)) where
     by false = unmarked_keeps change is
 
   opened_keeps : (author head : List ℕ) (had : Option Change) → IfSome had Is → Is (opened author head had)
-  opened_keeps author head None is = record { priority = (omega arith, omega arith); opened = λ some. cc some; ready = λ some. cc some; approvers = tt; last = tt }
-  opened_keeps author head (Some change) is = record { priority = is.priority; opened = λ some. refl; ready = is.ready; approvers = is.approvers; last = is.last }
+  opened_keeps author head None is = record { priority = (omega arith, omega arith); opened = λ some. cc some; ready = λ some. cc some; approvers = tt; tried = λ so. cc so; last = tt }
+  opened_keeps author head (Some change) is = record { priority = is.priority; opened = λ some. refl; ready = is.ready; approvers = is.approvers; tried = λ so. cc so; last = is.last }
 
   map_keeps : (alter : Change → Change) (had : Option Change) → ((change : Change) → had ≡ Some change → Is change → Is (alter change)) → IfSome had Is → IfSome (option_map alter had) Is
   map_keeps alter None so is = tt
@@ -115,6 +120,7 @@ ready_still settings later base now judged based (Some change) is = record {
   opened = is.opened;
   ready = λ some. (judged (is.ready some).0, based (is.ready some).1);
   approvers = is.approvers;
+  tried = λ so. ((is.tried so).0, judged (is.tried so).1, based (is.tried so).2);
   last = is.last;
 }
 
@@ -126,6 +132,12 @@ altered_keeps desk n alter is so = subst IsDesk (sym (altered_look desk n alter)
   at c true same =
       map_keeps desk.settings desk.base alter (finite.get desk.changes c) (λ change here. so change (ap (finite.get desk.changes) (sym (same_number c n same)) ∙ here)) (is.changes c)
   at c false other = is.changes c
+
+-- the one of a batch that has no other
+pub lone_keeps : (alter : Change → Change) (desk : DeskView) (one : Option ℕ) → ((change : Change) → IsChange desk.settings desk.base change → IsChange desk.settings desk.base (alter change))
+    → IsDesk (look desk) → IsDesk (look (lone_altered alter desk one))
+lone_keeps alter desk None keeps is = is
+lone_keeps alter desk (Some n) keeps is = altered_keeps desk n alter is (λ change here was. keeps change was)
 
 -- many of them
 pub all_keep : (alter : Change → Change) (changes : List ℕ) (desk : DeskView)
@@ -181,24 +193,37 @@ approvable desk person n command holds change here =
     let base = passed (has_base s) NoBase _ settings.1 in
     (sym (ap (λ (c : Option Change). option_map_or (λ (x : Change). is_open_phase x.phase) c false) here) ∙ opened.0, (settings.0, base.0))
 
+-- and so is a try
+tryable : (desk : DeskView) (person : List ℕ) (n : ℕ) → broken (look desk) (Spoken n person (Known Try)) ≡ None → (change : Change) → finite.get desk.changes n ≡ Some change
+    → (is_open_phase change.phase ≡ true) × (is_some desk.settings ≡ true) × (is_some desk.base ≡ true)
+tryable desk person n holds change here =
+    let s = look desk in
+    let known = passed (is_known s n) UnknownChange _ holds in
+    let permitted = passed (permits s person n Try) (NotPermitted (need s n Try)) _ known.1 in
+    let opened = passed (is_open s n) NotOpen _ permitted.1 in
+    let settings = passed (has_settings s) NoSettings _ opened.1 in
+    let base = passed (has_base s) NoBase _ settings.1 in
+    (sym (ap (λ (c : Option Change). option_map_or (λ (x : Change). is_open_phase x.phase) c false) here) ∙ opened.0, settings.0, base.0)
+
 -- ONE ACT
 command_keeps : (desk : DeskView) (person : List ℕ) (n : ℕ) (command : Command) → ActKeepsLimits (Spoken n person (Known command)) → IsDesk (look desk)
     → broken (look desk) (Spoken n person (Known command)) ≡ None → IsDesk (look (effect desk (Spoken n person (Known command))))
 command_keeps desk person n Approve limits is holds = altered_keeps desk n (approved_by (person ∷ []) repeat.Approve) is (λ change here was.
     let may = approvable desk person n Approve holds change here in
-    record { priority = was.priority; opened = λ some. may.0; ready = λ some. may.1; approvers = (omega arith, one_name person); last = tt })
+    record { priority = was.priority; opened = λ some. may.0; ready = λ some. may.1; approvers = (omega arith, one_name person); tried = was.tried; last = tt })
 command_keeps desk person n (ApproveFor names) limits is holds = altered_keeps desk n (approved_by names (repeat.ApproveFor names)) is (λ change here was.
     let may = approvable desk person n (ApproveFor names) holds change here in
-    record { priority = was.priority; opened = λ some. may.0; ready = λ some. may.1; approvers = limits; last = limits })
+    record { priority = was.priority; opened = λ some. may.0; ready = λ some. may.1; approvers = limits; tried = was.tried; last = limits })
 command_keeps desk person n Withdraw limits is holds = altered_keeps desk n without_approval is (λ change here was. ended_keeps desk.settings desk.base change was)
 command_keeps desk person n (Priority priority) limits is holds = altered_keeps desk n (with_priority priority) is
-    (λ change here was. record { priority = limits; opened = was.opened; ready = was.ready; approvers = was.approvers; last = was.last })
+    (λ change here was. record { priority = limits; opened = was.opened; ready = was.ready; approvers = was.approvers; tried = was.tried; last = was.last })
 command_keeps desk person n DelegateAuthor limits is holds = altered_keeps desk n with_author_as_delegate is (λ change here was. others_keep desk.settings desk.base change _ _ _ was)
 command_keeps desk person n (DelegateTo names) limits is holds = altered_keeps desk n (with_delegates names) is (λ change here was. others_keep desk.settings desk.base change _ _ _ was)
 command_keeps desk person n DelegateNone limits is holds = altered_keeps desk n without_delegates is (λ change here was. others_keep desk.settings desk.base change _ _ _ was)
 command_keeps desk person n Ping limits is holds = is
-command_keeps desk person n Try limits is holds = is
-command_keeps desk person n TryCancel limits is holds = is
+command_keeps desk person n Try limits is holds = altered_keeps desk n with_try is (λ change here was.
+    record { priority = was.priority; opened = was.opened; ready = was.ready; approvers = was.approvers; tried = λ so. tryable desk person n holds change here; last = tt })
+command_keeps desk person n TryCancel limits is holds = altered_keeps desk n without_try is (λ change here was. untried_keeps desk.settings desk.base change was)
 command_keeps desk person n Retry limits is holds = is
 
 pub effect_keeps : (desk : DeskView) (act : Act) → ActKeepsLimits act → IsDesk (look desk) → broken (look desk) act ≡ None → IsDesk (look (effect desk act))

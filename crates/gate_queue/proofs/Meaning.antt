@@ -67,7 +67,7 @@ repeated_holds : (s : Look) (person : List ℕ) (n : ℕ) (last : Option Repeat)
 repeated_holds s person n None is holds = subst (λ l. first_failing (retry_row s person n l) ≡ None) (sym is) holds
 repeated_holds s person n (Some repeat.Approve) is holds = holds
 repeated_holds s person n (Some (repeat.ApproveFor names)) is holds = holds
-repeated_holds s person n (Some repeat.Try) is holds = subst (λ l. first_failing (retry_row s person n l) ≡ None) (sym is) holds
+repeated_holds s person n (Some repeat.Try) is holds = holds
 
 meaning_holds : (s : Look) (act : Act) → broken s act ≡ None → broken s (meaning s act) ≡ None
 meaning_holds s act holds =
@@ -86,7 +86,7 @@ meaning_repeated : (s : Look) (n : ℕ) (person : List ℕ) (last : Option Repea
 meaning_repeated s n person None is = ap (λ (l : Option Repeat). Spoken n person (Known (repeated l))) is
 meaning_repeated s n person (Some repeat.Approve) is = refl
 meaning_repeated s n person (Some (repeat.ApproveFor names)) is = refl
-meaning_repeated s n person (Some repeat.Try) is = ap (λ (l : Option Repeat). Spoken n person (Known (repeated l))) is
+meaning_repeated s n person (Some repeat.Try) is = refl
 
 pub retry_means : (s : State) (n : ℕ) (person : List ℕ) → denial s (Spoken n person (Known Retry)) ≡ None
     → after s (Spoken n person (Known Retry)) ≡ after s (Spoken n person (Known (repeated (last_command (look s.desk) n))))

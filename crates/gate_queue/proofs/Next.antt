@@ -1,12 +1,12 @@
 -- What the history says of a change after one more command on it: the change as it was said before, altered.
-use Rattle.std.proofs.Common.{◌≡◌, ℕ, ℤ, true, List, [], ◌∷◌, Some, refl, sym}
+use Rattle.std.proofs.Common.{◌≡◌, ℕ, ℤ, true, false, not, List, [], ◌∷◌, Some, refl, sym}
 use Rattle.std.specs.Option.{option_map}
-use Rattle.gate_text.specs.declared.command.Command.TheVariants.{Approve, ApproveFor, Withdraw, Priority, DelegateAuthor, DelegateTo, DelegateNone}
+use Rattle.gate_text.specs.declared.command.Command.TheVariants.{Approve, ApproveFor, Withdraw, Priority, Try, TryCancel, DelegateAuthor, DelegateTo, DelegateNone}
 use Rattle.gate_text.specs.declared.command.Spoken.TheVariants.{Known}
 use Rattle.gate_rules.specs.View.{without_approval}
 use Rattle.gate_rules.specs.declared.change.Repeat.TheVariants as repeat
-use Rattle.gate_queue.specs.History.{Event, with_author, delegates_back, fit_back, change_of, change_back}
-use Rattle.gate_queue.specs.Machine.{approved_by, with_priority, with_delegates, with_author_as_delegate, without_delegates}
+use Rattle.gate_queue.specs.History.{Event, landed_back, with_author, delegates_back, fit_back, change_of, change_back}
+use Rattle.gate_queue.specs.Machine.{approved_by, with_try, without_try, with_priority, with_delegates, with_author_as_delegate, without_delegates}
 use Rattle.gate_queue.specs.declared.act.Act.TheVariants.{Spoken}
 use Rattle.gate_queue.proofs.After.{rest_back, change_after, altered_here, ended, stays}
 
@@ -45,6 +45,19 @@ module _ (events : List Event) (c n : ℕ) (person : List ℕ) where
       let act = Spoken n person (Known Withdraw) in
       altered_here events c without_approval act refl
       (λ author is. λ i. record (change_of events c author) { approved = (sym (ended events c act refl refl)) i })
+
+  -- what has landed isn't tried, and a `try` acts only on an open change
+  pub try_next : landed_back events c ≡ false → option_map with_try (change_back events c) ≡ change_after events c (rest_back events c) (Some (Spoken n person (Known Try)))
+  try_next here =
+      let act = Spoken n person (Known Try) in
+      altered_here events c with_try act refl
+      (λ author is. λ i. record (with_try (change_of events c author)) { trying = not ((sym here) i); approved = (sym (stays events c act refl refl (λ fit. fit))) i })
+
+  pub try_cancel_next : option_map without_try (change_back events c) ≡ change_after events c (rest_back events c) (Some (Spoken n person (Known TryCancel)))
+  try_cancel_next =
+      let act = Spoken n person (Known TryCancel) in
+      altered_here events c without_try act refl
+      (λ author is. λ i. record (without_try (change_of events c author)) { approved = (sym (stays events c act refl refl (λ fit. fit))) i })
 
   -- `r+` and `r=`, on a change that is fit
   pub approve_next : fit_back events c ≡ true

@@ -3,7 +3,7 @@ use Rattle.std.proofs.Common.{◌≡◌, ℕ, Bool, true, false, not, List, [], 
 use Rattle.std.proofs.lemmas.Bool.{not-true}
 use Rattle.std.specs.Option.{option_map, option_map_or}
 use Rattle.gate_text.specs.declared.command.Command.{Command}
-use Rattle.gate_rules.specs.Rules.{first_failing, begins_with_rules, approval_rules, is_known, is_open, is_landing, is_landed, is_approved, is_open_phase, is_landed_phase, has_settings, has_base, permits, need, of_both, blocked_rule, too_few_rule}
+use Rattle.gate_rules.specs.Rules.{first_failing, begins_with_rules, approval_rules, try_rules, is_known, is_open, is_landing, is_landed, is_approved, is_open_phase, is_landed_phase, has_settings, has_base, permits, need, of_both, blocked_rule, too_few_rule}
 use Rattle.gate_rules.specs.declared.change.Change.{Change}
 use Rattle.gate_rules.specs.declared.change.Phase.{Phase}
 use Rattle.gate_rules.specs.declared.rule.Rule.TheVariants.{UnknownChange, NotPermitted, NotOpen, Landing, NoSettings, NoBase, AlreadyApproved, AlreadyOpen, ChangeLanded}
@@ -91,9 +91,19 @@ here_at events n opened (Some had) is =
     open_phase (landed_back events n) (last_of (said_on n phase_said) events)
     (sym (ap (λ (a : Option (List ℕ)). option_map_or (λ (x : Change). is_open_phase x.phase) (option_map (change_of events n) a) false) is) ∙ opened)
 
+here : (events : List Event) (n : ℕ) → is_open (look_back events) n ≡ true → (c : ℕ) → eqb c n ≡ true → landed_back events c ≡ false
+here events n opened c same = subst (λ m. landed_back events m ≡ false) (sym (same_number c n same)) (here_at events n opened (author_back events n) refl)
+
 pub still_here : (events : List Event) (n : ℕ) → first_failing (of_open_change (look_back events) n []) ≡ None → (c : ℕ) → eqb c n ≡ true → landed_back events c ≡ false
-still_here events n holds c same =
+still_here events n holds =
     let s = look_back events in
     let known = passed (is_known s n) UnknownChange _ holds in
-    let opened = passed (is_open s n) NotOpen _ known.1 in
-    subst (λ m. landed_back events m ≡ false) (sym (same_number c n same)) (here_at events n opened.0 (author_back events n) refl)
+    here events n (passed (is_open s n) NotOpen _ known.1).0
+
+pub tried_here : (events : List Event) (person : List ℕ) (n : ℕ) (command : Command)
+    → first_failing (begins_with_rules (look_back events) person n command (try_rules (look_back events) n)) ≡ None → (c : ℕ) → eqb c n ≡ true → landed_back events c ≡ false
+tried_here events person n command holds =
+    let s = look_back events in
+    let known = passed (is_known s n) UnknownChange _ holds in
+    let permitted = passed (permits s person n command) (NotPermitted (need s n command)) _ known.1 in
+    here events n (passed (is_open s n) NotOpen _ permitted.1).0

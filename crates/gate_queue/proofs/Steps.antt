@@ -1,5 +1,5 @@
 -- What a legal history and its state keep, step by step: an act, and then its orders.
-use Rattle.std.proofs.Common.{◌≡◌, ◌≤◌, ◌+◌, ℕ, ℤ, eqb, ltb, ◌&&◌, ◌||◌, Bool, true, false, not, if◌then◌else◌, List, [], ◌∷◌, ◌++◌, Option, Some, None, Result, Ok, Err, is_some, refl, sym, ◌∙◌, ap, subst, arith}
+use Rattle.std.proofs.Common.{◌≡◌, ◌≤◌, ◌+◌, ℕ, ℤ, eqb, ltb, ◌&&◌, ◌||◌, Bool, true, false, not, if◌then◌else◌, List, [], ◌∷◌, ◌++◌, length, Option, Some, None, Result, Ok, Err, is_some, refl, sym, ◌∙◌, ap, subst, arith}
 use Rattle.std.proofs.lemmas.Bool.Decides.{nat_tests, Decides-eqb}
 use Rattle.std.proofs.lemmas.List.Elements.{All-head}
 use Rattle.std.proofs.lemmas.List.Sums.{sum_by-cons}
@@ -13,52 +13,58 @@ use Rattle.gate_rules.specs.Rules.{Look}
 use Rattle.gate_rules.specs.View.{DeskView, look}
 use Rattle.gate_rules.specs.declared.change.Change.{Change}
 use Rattle.gate_queue.specs.Counts.{held, held_by, of_any_priority, uses}
-use Rattle.gate_queue.specs.History.{Event, did, gave, given, last_of, landing_said, author_back, change_of, names_change, batches_back, landing_with, is_order, is_stage_of, is_land_of, stages, landings, ends_why, look_back}
-use Rattle.gate_queue.specs.Lanes.{is_landing, back, only, left, loses, stops_running, with_report, reported_on, staged_at, to_landing, to_land as lanes_to_land, taken_out, restarted, failed}
-use Rattle.gate_queue.specs.Machine.{broken, approved_on, landing_on, all_but, followed, quiet, are_present, under, accepted, lone, lone_notices, failing, is_required, has_passed, to_land, land_order, if_passed, goes_on, told_of, told, head_on, stage_orders, starting, with_queue, has_overdue, timed_out}
+use Rattle.gate_queue.specs.History.{Event, did, gave, given, last_of, landing_said, author_back, change_of, names_change, batches_back, landing_with, is_order, is_stage_of, is_land_of, stages, landings, ends_why, tells_of_try, look_back}
+use Rattle.gate_queue.specs.Lanes as lanes
+use Rattle.gate_queue.specs.Lanes.{batches_of, is_landing, ordered_at, back, only, left, loses, stops_running, with_report, reported_on, staged_at, to_landing, to_land as lanes_to_land, taken_out, restarted, failed}
+use Rattle.gate_queue.specs.Machine.{broken, approved_on, trying_on, priority_on, size_on, all_but, followed, tried_by, approval_followed, followed_on, quiet, then_next, are_present, under, accepted, lone, lone_notices, failing, try_ended, is_required, has_passed, has_staged, to_land, land_order, if_passed, goes_on, told_of, told_staging, try_if_passed, try_goes_on, try_told_of, told_trying, told, tries_left, head_on, first_order, starting, all_starting, with_queue, has_overdue, timed_out, try_timed_out, ended_on_time}
 use Rattle.gate_queue.specs.Queue as specs
-use Rattle.gate_queue.specs.State.{IsWaiting, marks_on}
+use Rattle.gate_queue.specs.Queue.{lane_of}
+use Rattle.gate_queue.specs.State.{IsWaiting}
 use Rattle.gate_queue.specs.declared.act.Act.{Act}
 use Rattle.gate_queue.specs.declared.act.StatusState.{StatusState}
 use Rattle.gate_queue.specs.declared.act.StatusState.TheVariants.{Success, Failure, Error, Pending}
 use Rattle.gate_queue.specs.declared.batch.Batch.{Batch}
-use Rattle.gate_queue.specs.declared.batch.Branch.TheVariants.{Staging}
+use Rattle.gate_queue.specs.declared.batch.Branch.{Branch}
+use Rattle.gate_queue.specs.declared.batch.Branch.TheVariants.{Staging, Trying}
 use Rattle.gate_queue.specs.declared.batch.Report.{Report}
 use Rattle.gate_queue.specs.declared.batch.Report.TheVariants as report
 use Rattle.gate_queue.specs.declared.batch.Stage.{Stage as StageOf}
 use Rattle.gate_queue.specs.declared.batch.Stage.TheVariants as stage
 use Rattle.gate_queue.specs.declared.lane.Lane.{Lane}
 use Rattle.gate_queue.specs.declared.queue.Queue.{Queue}
+use Rattle.gate_queue.specs.declared.reply.Head.{Head}
 use Rattle.gate_queue.specs.declared.reply.Order.{Order}
 use Rattle.gate_queue.specs.declared.reply.Order.TheVariants.{Stage, Land, Notice}
 use Rattle.gate_queue.specs.declared.reply.Why.{Why}
 use Rattle.gate_queue.specs.declared.reply.Why.TheVariants as why
+use Rattle.gate_queue.specs.declared.state.Outcome.{Outcome}
 use Rattle.gate_queue.specs.declared.state.State.{State}
-use Rattle.gate_queue.proofs.Acting.{AreMild, failing_look, starting_look, land_look}
+use Rattle.gate_queue.proofs.Acting.{AreMild, failing_look, try_ended_look, starting_look, land_look}
 use Rattle.gate_queue.proofs.After.{order_elsewhere}
-use Rattle.gate_queue.proofs.Growing.{Grows, more_grows, failed_grows, reported_grows}
-use Rattle.gate_queue.proofs.Keeping.{lands, some_there, reported_keeps}
-use Rattle.gate_queue.proofs.Landing.{Lands, Members, commit_of, landing_of, none_lands, named_heads, staged_named}
-use Rattle.gate_queue.proofs.States.{Holds, ready, running_ready, queued_held, overdue_so}
+use Rattle.gate_queue.proofs.Growing.{waits, Grows, same_grows, failed_grows, started_grows, reported_grows, dropped_grows}
+use Rattle.gate_queue.proofs.Keeping.{lands, some_there}
+use Rattle.gate_queue.proofs.Landing.{Lands, Members, list_any_skip, commit_of, landing_of, none_lands, named_heads, staged_named}
+use Rattle.gate_queue.proofs.Numbers.{has_number, all_uses}
+use Rattle.gate_queue.proofs.States.{Holds, ready, tried_ready, running_ready, queued_held, tried_held, staged_so, overdue_so, reported_holds, starting_holds}
 use Rattle.gate_queue.proofs.Unseen.{Unseen, order_unseen, still_unseen}
 
 abbrev once : Bool → ℕ
 once b = if b then 1 else 0
 
--- NUMBERS: one that was staged doesn't wait, and none from the next one on was staged; and the running batch, if it isn't
--- landing, was staged once more than it was to land.
+-- NUMBERS: one that was staged doesn't wait on either branch, and none from the next one on was staged; and the running batch on
+-- `Staging`, if it isn't landing, was staged once more than it was to land.
 abbrev pub untold : ℕ → Option Batch → ℕ
 untold number None = 0
 untold number (Some batch) = if is_landing batch.stage then 0 else once (eqb number batch.number)
 
 pub record Numbered (events : List Event) (queue : Queue) : Type 0 where
-  pub once : (number : ℕ) → stages number events + uses number queue.staging.waiting ≤ (if ltb number queue.next then 1 else 0)
+  pub once : (number : ℕ) → stages number events + waits number queue ≤ (if ltb number queue.next then 1 else 0)
   pub lands : (number : ℕ) → landings number events + untold number queue.staging.running ≤ stages number events
 
 counted : (test : Order → Bool) (event : Event) (events : List Event) → count_by (is_order test) (event ∷ events) ≡ once (is_order test event) + count_by (is_order test) events
 counted test event events = sum_by-cons (λ e. once (is_order test e)) event events
 
--- WHAT RUNS after a step is what ran, or nothing if that wasn't landing.
+-- WHAT RUNS on `Staging` after a step is what ran, or nothing if that wasn't landing.
 pub record Goes (old new : Option Batch) : Type 0 where
   pub lands : (number : ℕ) → landing_of number new ≡ landing_of number old
   pub untold : (number : ℕ) → untold number new ≤ untold number old
@@ -105,13 +111,29 @@ failed_goes number lane not_so = by lane.running not_so where
   by None not_so = same_goes None
   by (Some batch) not_so = gone_goes (Some batch) not_so
 
-pub followed_goes : (was is moved : Bool) (size : Option ℕ) (priority : ℤ) (change : ℕ) (queue : Queue)
+approval_goes : (was is moved : Bool) (size : Option ℕ) (priority : ℤ) (change : ℕ) (queue : Queue)
     → Goes queue.staging.running (followed was is moved size priority change queue).staging.running
-followed_goes false false moved size priority change queue = same_goes queue.staging.running
-followed_goes false true moved size priority change queue = same_goes queue.staging.running
-followed_goes true false moved size priority change queue = taken_out_goes (all_but change) queue.next queue.staging
-followed_goes true true false size priority change queue = same_goes queue.staging.running
-followed_goes true true true size priority change queue = taken_out_goes (all_but change) queue.next queue.staging
+approval_goes false false moved size priority change queue = same_goes queue.staging.running
+approval_goes false true moved size priority change queue = same_goes queue.staging.running
+approval_goes true false moved size priority change queue = taken_out_goes (all_but change) queue.next queue.staging
+approval_goes true true false size priority change queue = same_goes queue.staging.running
+approval_goes true true true size priority change queue = taken_out_goes (all_but change) queue.next queue.staging
+
+-- what is done to tries leaves the other branch
+pub tried_by_staging : (was is : Bool) (change : ℕ) (queue : Queue) → (tried_by was is change queue).staging ≡ queue.staging
+tried_by_staging false false change queue = refl
+tried_by_staging false true change queue = refl
+tried_by_staging true false change queue = refl
+tried_by_staging true true change queue = refl
+
+pub tries_left_staging : (b : Bool) (desk : DeskView) (queue : Queue) → (tries_left b desk queue).staging ≡ queue.staging
+tries_left_staging true desk queue = refl
+tries_left_staging false desk queue = refl
+
+pub followed_goes : (old new : DeskView) (change : ℕ) (queue : Queue) → Goes queue.staging.running (followed_on old new change queue).staging.running
+followed_goes old new change queue =
+    subst (λ (l : Lane). Goes queue.staging.running l.running) (sym (tried_by_staging (trying_on old change) (trying_on new change) change (approval_followed old new change queue)))
+    (approval_goes _ _ _ (size_on new) (priority_on new change) change queue)
 
 pub accepted_goes : (s : State) (read : Result SettingsView SettingsFault) → Goes s.queue.staging.running (accepted s read).state.queue.staging.running
 accepted_goes s (Err fault) = same_goes s.queue.staging.running
@@ -171,7 +193,7 @@ still_members : (events : List Event) (act : Act) (running : Option Batch) → M
 still_members events act None all = tt
 still_members events act (Some batch) all = all
 
-did_numbered : (events : List Event) (act : Act) (old new : Queue) → Grows 2 old new → ((number : ℕ) → untold number new.staging.running ≤ untold number old.staging.running)
+did_numbered : {few : ℕ} (events : List Event) (act : Act) (old new : Queue) → Grows few old new → ((number : ℕ) → untold number new.staging.running ≤ untold number old.staging.running)
     → Numbered events old → Numbered (did act ∷ events) new
 did_numbered events act old new grows fewer is = record {
   once = λ number.
@@ -187,8 +209,8 @@ did_numbered events act old new grows fewer is = record {
 }
 
 -- one after which what was landing is
-pub did_kept : (events : List Event) (act : Act) (old new : State) → Kept events old → broken (look_back events) act ≡ None → look new.desk ≡ look_back (did act ∷ events)
-    → ((number : ℕ) → landing_with (did act ∷ events) number ≡ landing_with events number) → Grows 2 old.queue new.queue → Goes old.queue.staging.running new.queue.staging.running
+pub did_kept : {few : ℕ} (events : List Event) (act : Act) (old new : State) → Kept events old → broken (look_back events) act ≡ None → look new.desk ≡ look_back (did act ∷ events)
+    → ((number : ℕ) → landing_with (did act ∷ events) number ≡ landing_with events number) → Grows few old.queue new.queue → Goes old.queue.staging.running new.queue.staging.running
     → Kept (did act ∷ events) new
 did_kept events act old new kept holds same landing grows goes = record {
   same = same;
@@ -199,8 +221,8 @@ did_kept events act old new kept holds same landing grows goes = record {
 }
 
 -- and one that ends all landing
-pub ended_kept : (events : List Event) (act : Act) (old new : State) → Kept events old → broken (look_back events) act ≡ None → look new.desk ≡ look_back (did act ∷ events)
-    → Lands (did act ∷ events) None → Grows 2 old.queue new.queue → new.queue.staging.running ≡ None → Kept (did act ∷ events) new
+pub ended_kept : {few : ℕ} (events : List Event) (act : Act) (old new : State) → Kept events old → broken (look_back events) act ≡ None → look new.desk ≡ look_back (did act ∷ events)
+    → Lands (did act ∷ events) None → Grows few old.queue new.queue → new.queue.staging.running ≡ None → Kept (did act ∷ events) new
 ended_kept events act old new kept holds same none grows empty = record {
   same = same;
   unseen = λ c. still_unseen events act holds c (kept.unseen c);
@@ -217,7 +239,7 @@ AreNotices (Stage batch branch base heads ∷ orders) = ⊥
 AreNotices (Land batch base commit ∷ orders) = ⊥
 
 -- what a notice leaves, whatever it ends
-noticed : (events : List Event) (change : ℕ) (why : Why) (s t : State) → Kept events s → look t.desk ≡ look_back (gave (Notice change why) ∷ events) → Grows 2 s.queue t.queue
+noticed : {few : ℕ} (events : List Event) (change : ℕ) (why : Why) (s t : State) → Kept events s → look t.desk ≡ look_back (gave (Notice change why) ∷ events) → Grows few s.queue t.queue
     → Goes s.queue.staging.running t.queue.staging.running → Kept (gave (Notice change why) ∷ events) t
 noticed events change why s t kept same grows goes = record {
   same = same;
@@ -241,19 +263,16 @@ noticed events change why s t kept same grows goes = record {
   by None all = tt
   by (Some batch) all = all
 
-same_grows : (queue : Queue) → Grows 2 queue queue
-same_grows queue = record { next = omega arith; few = omega arith; waiting = λ number. omega arith }
-
 pub notices_kept : (s : State) (orders : List Order) (events : List Event) → AreNotices orders → AreMild events orders → Kept events s → Kept (given events orders) s
 notices_kept s [] events are mild kept = kept
 notices_kept s (Notice change why ∷ orders) events are mild kept =
     notices_kept s orders (gave (Notice change why) ∷ events) are mild.1
-    (noticed events change why s s kept (kept.same ∙ (λ i. record (look_back events) { change = λ c. (sym (order_elsewhere events c (Notice change why) (mild.0 c).0 (mild.0 c).1)) i })) (same_grows s.queue) (same_goes s.queue.staging.running))
+    (noticed events change why s s kept (kept.same ∙ (λ i. record (look_back events) { change = λ c. (sym (order_elsewhere events c (Notice change why) (mild.0 c).0 (mild.0 c).1 (mild.0 c).2)) i })) (same_grows 0 s.queue) (same_goes s.queue.staging.running))
 notices_kept s (Stage batch branch base heads ∷ orders) events are mild kept = absurd are
 notices_kept s (Land batch base commit ∷ orders) events are mild kept = absurd are
 
--- A BATCH FAILS
-quietly : (events : List Event) (s t : State) → Kept events s → look t.desk ≡ look_back events → Grows 2 s.queue t.queue → Goes s.queue.staging.running t.queue.staging.running → Kept events t
+-- A BATCH FAILS, or a try ends
+quietly : {few : ℕ} (events : List Event) (s t : State) → Kept events s → look t.desk ≡ look_back events → Grows few s.queue t.queue → Goes s.queue.staging.running t.queue.staging.running → Kept events t
 quietly events s t kept same grows goes = record {
   same = same;
   unseen = kept.unseen;
@@ -269,75 +288,156 @@ quietly events s t kept same grows goes = record {
   members = goes.members events kept.members;
 }
 
-pub failing_kept : (events : List Event) (s : State) (why : Why) → ends_why why ≡ true → lands s.queue.staging.running ≡ false → Grows 2 s.queue (failing why s).state.queue → Kept events s
+lone_kept : {few : ℕ} (events : List Event) (s t : State) (why : Why) (one : Option ℕ) → Kept events s → look t.desk ≡ look_back (given events (lone_notices why one)) → Grows few s.queue t.queue
+    → Goes s.queue.staging.running t.queue.staging.running → Kept (given events (lone_notices why one)) t
+lone_kept events s t why None kept same grows goes = quietly events s t kept same grows goes
+lone_kept events s t why (Some n) kept same grows goes = noticed events n why s t kept same grows goes
+
+pub failing_kept : (events : List Event) (s : State) (why : Why) → ends_why why ≡ true → lands s.queue.staging.running ≡ false → Kept events s
     → Kept (given events (failing why s).orders) (failing why s).state
-failing_kept events s why ends not_so grows kept =
-    by (lone s.queue.staging.running) (failing why s).state (failing_look s events why ends kept.same) grows (failed_goes s.queue.next s.queue.staging not_so) where
-      by : (one : Option ℕ) (t : State) → look t.desk ≡ look_back (given events (lone_notices why one)) → Grows 2 s.queue t.queue → Goes s.queue.staging.running t.queue.staging.running
-          → Kept (given events (lone_notices why one)) t
-      by None t same grows goes = quietly events s t kept same grows goes
-      by (Some n) t same grows goes = noticed events n why s t kept same grows goes
+failing_kept events s why ends not_so kept =
+    lone_kept events s (failing why s).state why (lone s.queue.staging.running) kept (failing_look s events why ends kept.same) (failed_grows Staging s.queue)
+    (failed_goes s.queue.next s.queue.staging not_so)
 
--- THE FIRST WAITING BATCH RUNS
-starting_numbered : (events : List Event) (desk : DeskView) (now : ℕ) (running : Option Batch) (waiting : List Batch) (trying : Lane) (next : ℕ) → is_some desk.base ≡ true
-    → Numbered events (record { staging = record { running = running; waiting = waiting }; trying = trying; next = next })
-    → Numbered (given events (stage_orders desk running waiting)) (specs.started Staging now (record { staging = record { running = running; waiting = waiting }; trying = trying; next = next }))
-starting_numbered events desk now (Some batch) waiting trying next based is = record { once = λ number. let was = is.once number in grind (arith, nat_tests); lands = is.lands }
-starting_numbered events desk now None [] trying next based is = record { once = λ number. let was = is.once number in grind (arith, nat_tests); lands = is.lands }
-starting_numbered events desk now None (batch ∷ waiting) trying next based is = by desk.base based where
-  one : (number : ℕ) → uses number (batch ∷ waiting) ≡ once (eqb number batch.number) + uses number waiting
-  one number = sum_by-cons (λ (b : Batch). once (eqb number b.number)) batch waiting
+pub try_ended_kept : (events : List Event) (s : State) (why : Why) → tells_of_try why ≡ true → Kept events s → Kept (given events (try_ended why s).orders) (try_ended why s).state
+try_ended_kept events s why tells kept =
+    lone_kept events s (try_ended why s).state why (lone s.queue.trying.running) kept (try_ended_look s events why tells kept.same) (dropped_grows Trying s.queue)
+    (same_goes s.queue.staging.running)
 
-  by : (base : Option (List ℕ)) → is_some base ≡ true
-      → Numbered (given events (option_map_or (λ b. Stage batch.number batch.branch b (filter_map (head_on desk) batch.changes) ∷ []) base []))
-      (specs.started Staging now (record { staging = record { running = None; waiting = batch ∷ waiting }; trying = trying; next = next }))
-  by None based = cc based
-  by (Some b) based =
-      let order = gave (Stage batch.number batch.branch b (filter_map (head_on desk) batch.changes)) in
-      record {
-        once = λ number.
-            let was = is.once number in
-            let staged = counted (is_stage_of number) order events in
-            grind (arith, nat_tests, one number);
-        lands = λ number.
-            let was = is.lands number in
-            let staged = counted (is_stage_of number) order events in
-            let landed = counted (is_land_of number) order events in
-            omega (arith, was, staged, landed);
-      }
+-- THE FIRST WAITING BATCH OF A BRANCH RUNS
+-- none runs, and this one is next
+abbrev pub IsNext : Lane → Batch → List Batch → Type 0
+IsNext lane batch waiting = lane ≡ record { running = None; waiting = batch ∷ waiting }
+
+-- the order for it
+abbrev pub stage_on : DeskView → Batch → List ℕ → Order
+stage_on desk batch base = Stage batch.number batch.branch base (filter_map (head_on desk) batch.changes)
 
 -- a number that waits was never staged, and never to land
-never : (events : List Event) (queue : Queue) → Numbered events queue → (number : ℕ) → 1 ≤ uses number queue.staging.waiting → (stages number events ≡ 0) × (landings number events ≡ 0)
-never events queue is number waits = by (ltb number queue.next) (is.once number) where
-  by : (b : Bool) → stages number events + uses number queue.staging.waiting ≤ (if b then 1 else 0) → (stages number events ≡ 0) × (landings number events ≡ 0)
-  by true few = (omega (arith, few, waits), omega (arith, few, waits, is.lands number))
-  by false few = absurd (omega (arith, few, waits))
+never : (events : List Event) (queue : Queue) → Numbered events queue → (branch : Branch) (number : ℕ) → 1 ≤ uses number (lane_of branch queue).waiting
+    → (stages number events ≡ 0) × (landings number events ≡ 0)
+never events queue is branch number waits_there = by (ltb number queue.next) (is.once number) where
+  on : (b : Branch) → uses number (lane_of b queue).waiting ≤ waits number queue
+  on Staging = omega arith
+  on Trying = omega arith
 
--- the first waiting batch, whose changes are known
-module _ (events : List Event) (s : State) (now : ℕ) (kept : Kept events s) (is : Holds s) (batch : Batch) (waiting : List Batch) (idle : s.queue.staging ≡ record { running = None; waiting = batch ∷ waiting }) where
-  first_waits : 1 ≤ uses batch.number s.queue.staging.waiting
-  first_waits =
+  by : (b : Bool) → stages number events + waits number queue ≤ (if b then 1 else 0) → (stages number events ≡ 0) × (landings number events ≡ 0)
+  by true few = (omega (arith, few, waits_there, on branch), omega (arith, few, waits_there, on branch, is.lands number))
+  by false few = absurd (omega (arith, few, waits_there, on branch))
+
+-- a number of a try isn't that of the running batch on staging
+pub other_number : (s : State) → Holds s → (number : ℕ) → 1 ≤ uses number (batches_of s.queue.trying) → (batch : Batch) → s.queue.staging.running ≡ Some batch → eqb number batch.number ≡ false
+other_number s is number used batch runs = by (eqb number batch.number) refl where
+  cap : (b : Bool) → once b ≤ 1
+  cap true = omega arith
+  cap false = omega arith
+
+  by : (b : Bool) → eqb number batch.number ≡ b → eqb number batch.number ≡ false
+  by false so = so
+  by true so = absurd
+      (omega (
+        arith,
+        used,
+        is.queue.order.apart number,
+        cap (ltb number s.queue.next),
+        all_uses number s.queue.staging,
+        ap (λ (o : Option Batch). option_map_or (has_number number) o 0) runs,
+        ap {B = ℕ} once so,
+      ))
+
+-- a change that is in a batch of a branch is known, and there is a base
+known_on : (branch : Branch) (s : State) → Holds s → (c : ℕ) → 1 ≤ held of_any_priority c (lane_of branch s.queue) → is_some (finite.get s.desk.changes c) ≡ true
+known_on Staging s is c some = by (finite.get s.desk.changes c) (queued_held s is c some) where
+  by : (had : Option Change) → (option_map_or (λ (x : Change). is_some x.approved) had false || option_map_or (λ (x : Change). x.landing) had false) ≡ true → is_some had ≡ true
+  by None so = cc so
+  by (Some x) so = refl
+known_on Trying s is c some = by (finite.get s.desk.changes c) (tried_held s is c some) where
+  by : (had : Option Change) → option_map_or (λ (x : Change). x.trying) had false ≡ true → is_some had ≡ true
+  by None so = cc so
+  by (Some x) so = refl
+
+based_on : (branch : Branch) (s : State) → Holds s → (changes : List ℕ) → not (eqb (length changes) 0) ≡ true
+    → ((c : ℕ) → list_any (eqb c) changes ≡ true → 1 ≤ held of_any_priority c (lane_of branch s.queue)) → is_some s.desk.base ≡ true
+based_on Staging s is changes some all = (ready s is changes some (λ c there. queued_held s is c (all c there))).1
+based_on Trying s is [] some all = cc some
+based_on Trying s is (first ∷ changes) some all =
+    (tried_ready s is first (tried_held s is first (all first (ap (λ (b : Bool). b || list_any (eqb first) changes) ((Decides-eqb first first).1 refl))))).1
+
+-- what runs on staging then: the batch, if it was ordered there
+started_untold : (branch : Branch) (queue : Queue) (now : ℕ) (batch : Batch) (waiting : List Batch) → IsNext (lane_of branch queue) batch waiting → (number : ℕ)
+    → untold number (specs.started branch now queue).staging.running ≤ once (eqb number batch.number) + untold number queue.staging.running
+started_untold Staging queue now batch waiting idle number = omega (arith, ap (λ (l : Lane). untold number (lanes.started now l).running) idle)
+started_untold Trying queue now batch waiting idle number = omega arith
+
+started_lands : (branch : Branch) (queue : Queue) (now : ℕ) (batch : Batch) (waiting : List Batch) → IsNext (lane_of branch queue) batch waiting → (number : ℕ)
+    → landing_of number queue.staging.running ≡ landing_of number (specs.started branch now queue).staging.running
+started_lands Staging queue now batch waiting idle number =
+    ap (λ (l : Lane). landing_of number l.running) idle ∙ none_of (eqb number batch.number) ∙ sym (ap (λ (l : Lane). landing_of number (lanes.started now l).running) idle) where
+      none_of : (b : Bool) → None ≡ (if b then commit_of (stage.Ordered now) else None)
+      none_of true = refl
+      none_of false = refl
+started_lands Trying queue now batch waiting idle number = refl
+
+-- one fewer waits
+started_waits : (branch : Branch) (queue : Queue) (now : ℕ) (batch : Batch) (waiting : List Batch) → IsNext (lane_of branch queue) batch waiting → (number : ℕ)
+    → once (eqb number batch.number) + waits number (specs.started branch now queue) ≡ waits number queue
+started_waits branch queue now batch waiting idle number = by branch idle where
+  fewer : (lane : Lane) → IsNext lane batch waiting → once (eqb number batch.number) + uses number (lanes.started now lane).waiting ≡ uses number lane.waiting
+  fewer lane at =
       omega (
         arith,
-        ap (λ (l : Lane). uses batch.number l.waiting) idle,
-        sum_by-cons (λ (b : Batch). once (eqb batch.number b.number)) batch waiting,
-        ap {B = ℕ} once ((Decides-eqb batch.number batch.number).1 refl),
+        ap (λ (l : Lane). uses number (lanes.started now l).waiting) at,
+        ap (λ (l : Lane). uses number l.waiting) at,
+        sum_by-cons (has_number number) batch waiting,
       )
 
-  queued : (c : ℕ) → list_any (eqb c) batch.changes ≡ true → (approved_on s.desk c || landing_on s.desk c) ≡ true
-  queued c there = queued_held s is c
-      (omega (
+  by : (b : Branch) → IsNext (lane_of b queue) batch waiting → once (eqb number batch.number) + waits number (specs.started b now queue) ≡ waits number queue
+  by Staging at = omega (arith, fewer queue.staging at)
+  by Trying at = omega (arith, fewer queue.trying at)
+
+-- or what ran, if none starts there
+pub still_runs : (branch : Branch) (queue : Queue) (now : ℕ) (running : Option Batch) (waiting : List Batch) → lane_of branch queue ≡ record { running = running; waiting = waiting }
+    → (lanes.started now (record { running = running; waiting = waiting })).running ≡ running → (specs.started branch now queue).staging.running ≡ queue.staging.running
+still_runs Staging queue now running waiting at none = ap (λ (l : Lane). (lanes.started now l).running) at ∙ none ∙ sym (ap (λ (l : Lane). l.running) at)
+still_runs Trying queue now running waiting at none = refl
+
+-- the first waiting batch has its number, and is of the branch
+pub first_used : (lane : Lane) (batch : Batch) (waiting : List Batch) → IsNext lane batch waiting
+    → (1 ≤ uses batch.number lane.waiting) × (1 ≤ uses batch.number (batches_of lane))
+first_used lane batch waiting idle = (
+  omega (arith, ap (λ (l : Lane). uses batch.number l.waiting) idle, first, ap {B = ℕ} once ((Decides-eqb batch.number batch.number).1 refl)),
+  omega (arith, ap (λ (l : Lane). uses batch.number (batches_of l)) idle, first, ap {B = ℕ} once ((Decides-eqb batch.number batch.number).1 refl)),
+) where
+  first : uses batch.number (batch ∷ waiting) ≡ once (eqb batch.number batch.number) + uses batch.number waiting
+  first = sum_by-cons (has_number batch.number) batch waiting
+
+pub first_kind : (branch : Branch) (s : State) → Holds s → (batch : Batch) (waiting : List Batch) → IsNext (lane_of branch s.queue) batch waiting
+    → IsWaiting branch batch
+first_kind branch s is batch waiting idle = All-head (IsWaiting branch) batch waiting (subst (λ (l : Lane). All (IsWaiting branch) l.waiting) idle (all branch)) where
+  all : (b : Branch) → All (IsWaiting b) (lane_of b s.queue).waiting
+  all Staging = is.queue.staging.waiting
+  all Trying = is.queue.trying.waiting
+
+-- a batch of another number is ordered
+other_members : (events : List Event) (number : ℕ) (branch : Branch) (base : List ℕ) (heads : List Head) (running : Option Batch)
+    → ((batch : Batch) → running ≡ Some batch → eqb number batch.number ≡ false) → Members events running → Members (gave (Stage number branch base heads) ∷ events) running
+other_members events number branch base heads None other all = tt
+other_members events number branch base heads (Some batch) other all =
+    λ c. list_any_skip (λ n. eqb n batch.number) (names_change c heads) number (batches_back events c) (other batch refl) ∙ all c
+
+module _ (branch : Branch) (events : List Event) (s : State) (kept : Kept events s) (is : Holds s) (batch : Batch) (waiting : List Batch)
+    (idle : IsNext (lane_of branch s.queue) batch waiting) where
+  held_there : (c : ℕ) → list_any (eqb c) batch.changes ≡ true → 1 ≤ held of_any_priority c (lane_of branch s.queue)
+  held_there c there =
+      omega (
         arith,
         ap (λ (l : Lane). held of_any_priority c l) idle,
         sum_by-cons (held_by of_any_priority c) batch waiting,
         some_there c batch.changes there,
-      ))
+      )
 
   known : (c : ℕ) → list_any (eqb c) batch.changes ≡ true → is_some (finite.get s.desk.changes c) ≡ true
-  known c there = by (finite.get s.desk.changes c) (queued c there) where
-    by : (had : Option Change) → (option_map_or (λ (x : Change). is_some x.approved) had false || option_map_or (λ (x : Change). x.landing) had false) ≡ true → is_some had ≡ true
-    by None so = cc so
-    by (Some x) so = refl
+  known c there = known_on branch s is c (held_there c there)
 
   -- so a change that was never opened isn't named
   unnamed : (c : ℕ) → author_back events c ≡ None → names_change c (filter_map (head_on s.desk) batch.changes) ≡ false
@@ -347,74 +447,70 @@ module _ (events : List Event) (s : State) (now : ℕ) (kept : Kept events s) (i
         cc (sym (ap (λ (l : Look). is_some (l.change c)) kept.same ∙ ap (λ (a : Option (List ℕ)). is_some (option_map (change_of events c) a)) none) ∙ known c there)
     by false there = there
 
-  pub stage_unseen : (base : List ℕ) (c : ℕ) → Unseen (gave (Stage batch.number batch.branch base (filter_map (head_on s.desk) batch.changes)) ∷ events) c
-  stage_unseen base c none =
-      order_unseen events (Stage batch.number batch.branch base (filter_map (head_on s.desk) batch.changes)) c (ap (λ (b : Bool). then_some b batch.number) (unnamed c none)) (kept.unseen c) none
-
   pub first_based : is_some s.desk.base ≡ true
-  first_based = (ready s is batch.changes (All-head IsWaiting batch waiting (ap_waits is.queue.waiting)).changes queued).1 where
-    ap_waits : All IsWaiting s.queue.staging.waiting → All IsWaiting (batch ∷ waiting)
-    ap_waits all = subst (λ (l : Lane). All IsWaiting l.waiting) idle all
+  first_based = based_on branch s is batch.changes (first_kind branch s is batch waiting idle).changes held_there
 
-  started_members : (base : List ℕ) (c : ℕ)
-      → list_any (λ n. eqb n batch.number) (batches_back (gave (Stage batch.number batch.branch base (filter_map (head_on s.desk) batch.changes)) ∷ events) c) ≡ list_any (eqb c) batch.changes
-  started_members base c =
-      staged_named batch.number c events batch.branch base (filter_map (head_on s.desk) batch.changes) (never events s.queue kept.numbered batch.number first_waits).0
+  -- it is one of the batches of a change exactly if it has the change
+  named_members : (base : List ℕ) (c : ℕ) → list_any (λ n. eqb n batch.number) (batches_back (gave (stage_on s.desk batch base) ∷ events) c) ≡ list_any (eqb c) batch.changes
+  named_members base c =
+      staged_named batch.number c events batch.branch base (filter_map (head_on s.desk) batch.changes) (never events s.queue kept.numbered branch batch.number (first_used (lane_of branch s.queue) batch waiting idle).0).0
       ∙ named_heads s.desk c batch.changes known
 
-pub starting_kept : (events : List Event) (s : State) (now : ℕ) → Holds s → Kept events s → Kept (given events (starting now s).orders) (starting now s).state
-starting_kept events s now is kept = by s.queue.staging refl where
-  same : look (starting now s).state.desk ≡ look_back (given events (starting now s).orders)
-  same = starting_look s events now kept.same (λ number waits. (never events s.queue kept.numbered number waits).1)
+  -- and that which runs on staging has its changes, be it this one or another
+  started_members : (now : ℕ) (base : List ℕ) → Members (gave (stage_on s.desk batch base) ∷ events) (specs.started branch now s.queue).staging.running
+  started_members now base = by branch idle (named_members base) where
+    by : (b : Branch) → IsNext (lane_of b s.queue) batch waiting → Members (gave (stage_on s.desk batch base) ∷ events) (Some (ordered_at now batch))
+        → Members (gave (stage_on s.desk batch base) ∷ events) (specs.started b now s.queue).staging.running
+    by Staging at named = subst (λ (l : Lane). Members (gave (stage_on s.desk batch base) ∷ events) (lanes.started now l).running) (sym at) named
+    by Trying at named =
+        other_members events batch.number batch.branch base (filter_map (head_on s.desk) batch.changes) s.queue.staging.running
+        (other_number s is batch.number (first_used s.queue.trying batch waiting at).1) kept.members
 
-  Starts : Lane → Type 0
-  Starts lane = s.queue.staging ≡ lane → Kept (given events (stage_orders s.desk lane.running lane.waiting)) (with_queue s (specs.started Staging now (record s.queue { staging = lane })))
+  first_kept : (now : ℕ) (base : List ℕ) → look s.desk ≡ look_back (gave (stage_on s.desk batch base) ∷ events)
+      → Kept (gave (stage_on s.desk batch base) ∷ events) (with_queue s (specs.started branch now s.queue))
+  first_kept now base same =
+      let order = gave (stage_on s.desk batch base) in
+      record {
+        same = same;
+        unseen = λ c none.
+            order_unseen events (stage_on s.desk batch base) c (ap (λ (b : Bool). then_some b batch.number) (unnamed c none)) (kept.unseen c) none;
+        numbered = record {
+          once = λ number.
+              let was = kept.numbered.once number in
+              let staged = counted (is_stage_of number) order events in
+              let fewer = started_waits branch s.queue now batch waiting idle number in
+              let next = (started_grows branch s.queue now).next in
+              grind (arith, nat_tests);
+          lands = λ number.
+              let staged = counted (is_stage_of number) order events in
+              let landed = counted (is_land_of number) order events in
+              omega (arith, kept.numbered.lands number, staged, landed, started_untold branch s.queue now batch waiting idle number);
+        };
+        landing = λ number. kept.landing number ∙ started_lands branch s.queue now batch waiting idle number;
+        members = started_members now base;
+      }
 
-  by : (lane : Lane) → s.queue.staging ≡ lane → Kept (given events (starting now s).orders) (starting now s).state
-  by lane at = subst (λ (l : Lane). Kept (given events (stage_orders s.desk l.running l.waiting)) (with_queue s (specs.started Staging now (record s.queue { staging = l })))) (sym at)
-      (on lane.running lane.waiting at (subst (λ (l : Lane). look s.desk ≡ look_back (given events (stage_orders s.desk l.running l.waiting))) at same)) where
-        numbers : (l : Lane) → s.queue.staging ≡ l → Numbered events (record s.queue { staging = l })
-        numbers l at = subst (λ (x : Lane). Numbered events (record s.queue { staging = x })) at kept.numbered
+pub starting_kept : (branch : Branch) (events : List Event) (s : State) (now : ℕ) → Holds s → Kept events s → Kept (given events (starting branch now s).orders) (starting branch now s).state
+starting_kept branch events s now is kept =
+    by (lane_of branch s.queue).running (lane_of branch s.queue).waiting refl
+    (starting_look branch s events now kept.same (λ number there. (never events s.queue kept.numbered branch number there).1)) where
+      still : (running : Option Batch) (waiting : List Batch) → lane_of branch s.queue ≡ record { running = running; waiting = waiting }
+          → (lanes.started now (record { running = running; waiting = waiting })).running ≡ running → look s.desk ≡ look_back events
+          → Kept events (with_queue s (specs.started branch now s.queue))
+      still running waiting at none same =
+          quietly events s (with_queue s (specs.started branch now s.queue)) kept same (started_grows branch s.queue now)
+          (subst (Goes s.queue.staging.running) (sym (still_runs branch s.queue now running waiting at none)) (same_goes s.queue.staging.running))
 
-        still_numbered : (q : Queue) → Numbered events q → Numbered events (specs.with_lane Staging q.staging 0 q)
-        still_numbered q is = record { once = λ number. let was = is.once number in grind (arith, nat_tests); lands = is.lands }
-
-        on : (running : Option Batch) (waiting : List Batch) → s.queue.staging ≡ record { running = running; waiting = waiting }
-            → look s.desk ≡ look_back (given events (stage_orders s.desk running waiting))
-            → Kept (given events (stage_orders s.desk running waiting)) (with_queue s (specs.started Staging now (record s.queue { staging = record { running = running; waiting = waiting } })))
-        on (Some batch) waiting at same = record {
-          same = same;
-          unseen = kept.unseen;
-          numbered = still_numbered (record s.queue { staging = record { running = Some batch; waiting = waiting } }) (numbers (record { running = Some batch; waiting = waiting }) at);
-          landing = subst (λ (l : Lane). Lands events l.running) at kept.landing;
-          members = subst (λ (l : Lane). Members events l.running) at kept.members;
-        }
-        on None [] at same = record {
-          same = same;
-          unseen = kept.unseen;
-          numbered = still_numbered (record s.queue { staging = record { running = None; waiting = [] } }) (numbers (record { running = None; waiting = [] }) at);
-          landing = subst (λ (l : Lane). Lands events l.running) at kept.landing;
-          members = tt;
-        }
-        on None (batch ∷ waiting) at same =
-            let numbered = starting_numbered events s.desk now None (batch ∷ waiting) s.queue.trying s.queue.next (first_based events s now kept is batch waiting at) (numbers (record { running = None; waiting = batch ∷ waiting }) at) in
-            ordered s.desk.base (first_based events s now kept is batch waiting at) same numbered where
-              ordered : (base : Option (List ℕ)) → is_some base ≡ true
-                  → look s.desk ≡ look_back (given events (option_map_or (λ b. Stage batch.number batch.branch b (filter_map (head_on s.desk) batch.changes) ∷ []) base []))
-                  → Numbered (given events (option_map_or (λ b. Stage batch.number batch.branch b (filter_map (head_on s.desk) batch.changes) ∷ []) base [])) (specs.started Staging now (record s.queue { staging = record { running = None; waiting = batch ∷ waiting } }))
-                  → Kept (given events (option_map_or (λ b. Stage batch.number batch.branch b (filter_map (head_on s.desk) batch.changes) ∷ []) base []))
-                  (with_queue s (specs.started Staging now (record s.queue { staging = record { running = None; waiting = batch ∷ waiting } })))
-              ordered None some same numbered = cc some
-              ordered (Some base) some same numbered = record {
-                same = same;
-                unseen = stage_unseen events s now kept is batch waiting at base;
-                numbered = numbered;
-                landing = λ number. subst (λ (l : Lane). landing_with events number ≡ landing_of number l.running) at (kept.landing number) ∙ none_of number (eqb number batch.number);
-                members = started_members events s now kept is batch waiting at base;
-              } where
-                none_of : (number : ℕ) (b : Bool) → None ≡ (if b then commit_of (stage.Ordered now) else None)
-                none_of number true = refl
-                none_of number false = refl
+      by : (running : Option Batch) (waiting : List Batch) → lane_of branch s.queue ≡ record { running = running; waiting = waiting }
+          → look s.desk ≡ look_back (given events (first_order s.desk running waiting)) → Kept (given events (first_order s.desk running waiting)) (with_queue s (specs.started branch now s.queue))
+      by (Some batch) waiting at same = still (Some batch) waiting at refl same
+      by None [] at same = still None [] at refl same
+      by None (batch ∷ waiting) at same = ordered s.desk.base (first_based branch events s kept is batch waiting at) same where
+        ordered : (base : Option (List ℕ)) → is_some base ≡ true
+            → look s.desk ≡ look_back (given events (option_map_or (λ b. stage_on s.desk batch b ∷ []) base []))
+            → Kept (given events (option_map_or (λ b. stage_on s.desk batch b ∷ []) base [])) (with_queue s (specs.started branch now s.queue))
+        ordered None some same = cc some
+        ordered (Some base) some same = first_kept branch events s kept is batch waiting at now base same
 
 -- A BATCH IS TO LAND
 land_kept : (events : List Event) (s : State) (batch : Batch) (since : ℕ) (base commit : List ℕ) (reports : finite.FinMap _ Report) → s.queue.staging.running ≡ Some batch
@@ -473,35 +569,99 @@ if_passed_kept events s (Some batch) runs is kept = by batch.stage refl where
         subst (λ (l : StageOf). Kept (given events (land_order s.desk batch.number l)) (to_land batch s).state) (sym at) (ordered s.desk.base (running_ready s is batch runs).1)
     on false = kept
 
--- A STATUS of the commit that is tested
-pub told_kept : (events : List Event) (s : State) (name : List ℕ) (state : StatusState) → Holds s → lands s.queue.staging.running ≡ false → Kept events s
-    → Kept (given events (told name state s).orders) (told name state s).state
-told_kept events s name state is not_so kept = by (is_required s.desk.settings name) refl where
-  goes : (report : Report) → is_required s.desk.settings name ≡ true → Kept (given events (goes_on name report s).orders) (goes_on name report s).state
-  goes report required =
-      let after = with_queue s (specs.reported Staging name report s.queue) in
-      if_passed_kept events after after.queue.staging.running refl
-      (record { desk = is.desk; queue = reported_keeps s.desk.clock s.desk.settings (marks_on s.desk) s.queue is.queue name report required })
-      (quietly events s after kept kept.same (more_grows 2 (omega arith) (reported_grows s.queue name report)) (reported_goes name report s.queue.staging.running))
-
-  of : (said : StatusState) → is_required s.desk.settings name ≡ true → Kept (given events (told_of name said s).orders) (told_of name said s).state
-  of Success required = goes report.Success required
-  of Pending required = goes report.Pending required
-  of Failure required = failing_kept events s (why.Failed name) refl not_so (failed_grows s.queue) kept
-  of Error required = failing_kept events s (why.Failed name) refl not_so (failed_grows s.queue) kept
-
-  by : (b : Bool) → is_required s.desk.settings name ≡ b
-      → Kept (given events (if b then told_of name state s else quiet s).orders) (if b then told_of name state s else quiet s).state
-  by true required = of state required
-  by false required = kept
-
--- THE END OF A BATCH THAT HAS TAKEN TOO LONG
-pub timed_out_kept : (events : List Event) (s : State) (now : ℕ) → Kept events s → Kept (given events (timed_out now s).orders) (timed_out now s).state
-timed_out_kept events s now kept = by (has_overdue now s) refl where
-  by : (b : Bool) → has_overdue now s ≡ b → Kept (given events (if b then failing why.TimedOut s else quiet s).orders) (if b then failing why.TimedOut s else quiet s).state
-  by true overdue = failing_kept events s why.TimedOut refl (overdue_so s now overdue) (failed_grows s.queue) kept
-  by false overdue = kept
-
+-- ONE STEP AFTER THE OTHER
 pub given-append : (events : List Event) (first second : List Order) → given events (first ++ second) ≡ given (given events first) second
 given-append events [] second = refl
 given-append events (order ∷ first) second = given-append (gave order ∷ events) first second
+
+pub then_kept : (events : List Event) (first : Outcome) (next : State → Outcome) → Kept (given (given events first.orders) (next first.state).orders) (next first.state).state
+    → Kept (given events (then_next first next).orders) (then_next first next).state
+then_kept events first next kept = subst (λ (es : List Event). Kept es (next first.state).state) (sym (given-append events first.orders (next first.state).orders)) kept
+
+-- A STATUS of a commit that is tested on staging, or for a try
+told_of_kept : (events : List Event) (s : State) (name : List ℕ) (state : StatusState) → is_required s.desk.settings name ≡ true → lands s.queue.staging.running ≡ false → Holds s → Kept events s
+    → Kept (given events (told_of name state s).orders) (told_of name state s).state
+told_of_kept events s name state required not_so is kept = of state where
+  goes : (report : Report) → Kept (given events (goes_on name report s).orders) (goes_on name report s).state
+  goes report =
+      let after = with_queue s (specs.reported Staging name report s.queue) in
+      if_passed_kept events after after.queue.staging.running refl (reported_holds Staging s name report required is)
+      (quietly events s after kept kept.same (reported_grows Staging s.queue name report) (reported_goes name report s.queue.staging.running))
+
+  of : (said : StatusState) → Kept (given events (told_of name said s).orders) (told_of name said s).state
+  of Success = goes report.Success
+  of Pending = goes report.Pending
+  of Failure = failing_kept events s (why.Failed name) refl not_so kept
+  of Error = failing_kept events s (why.Failed name) refl not_so kept
+
+pub told_staging_kept : (events : List Event) (s : State) (commit name : List ℕ) (state : StatusState) → is_required s.desk.settings name ≡ true → Holds s → Kept events s
+    → Kept (given events (told_staging commit name state s).orders) (told_staging commit name state s).state
+told_staging_kept events s commit name state required is kept = by (has_staged commit s.queue.staging) refl where
+  by : (b : Bool) → has_staged commit s.queue.staging ≡ b
+      → Kept (given events (if b then told_of name state s else quiet s).orders) (if b then told_of name state s else quiet s).state
+  by true there = told_of_kept events s name state required (staged_so s.queue.staging commit there) is kept
+  by false there = kept
+
+try_if_passed_kept : (events : List Event) (s : State) (running : Option Batch) → Kept events s → Kept (given events (try_if_passed s running).orders) (try_if_passed s running).state
+try_if_passed_kept events s None kept = kept
+try_if_passed_kept events s (Some batch) kept = by (has_passed s.desk.settings batch.stage) where
+  by : (b : Bool) → Kept (given events (if b then try_ended why.TryPassed s else quiet s).orders) (if b then try_ended why.TryPassed s else quiet s).state
+  by true = try_ended_kept events s why.TryPassed refl kept
+  by false = kept
+
+try_told_of_kept : (events : List Event) (s : State) (name : List ℕ) (state : StatusState) → Kept events s → Kept (given events (try_told_of name state s).orders) (try_told_of name state s).state
+try_told_of_kept events s name state kept = of state where
+  goes : (report : Report) → Kept (given events (try_goes_on name report s).orders) (try_goes_on name report s).state
+  goes report =
+      let after = with_queue s (specs.reported Trying name report s.queue) in
+      try_if_passed_kept events after after.queue.trying.running
+      (quietly events s after kept kept.same (reported_grows Trying s.queue name report) (same_goes s.queue.staging.running))
+
+  of : (said : StatusState) → Kept (given events (try_told_of name said s).orders) (try_told_of name said s).state
+  of Success = goes report.Success
+  of Pending = goes report.Pending
+  of Failure = try_ended_kept events s why.TryFailed refl kept
+  of Error = try_ended_kept events s why.TryFailed refl kept
+
+pub told_trying_kept : (events : List Event) (s : State) (commit name : List ℕ) (state : StatusState) → Kept events s
+    → Kept (given events (told_trying commit name state s).orders) (told_trying commit name state s).state
+told_trying_kept events s commit name state kept = by (has_staged commit s.queue.trying) where
+  by : (b : Bool) → Kept (given events (if b then try_told_of name state s else quiet s).orders) (if b then try_told_of name state s else quiet s).state
+  by true = try_told_of_kept events s name state kept
+  by false = kept
+
+pub told_kept : (events : List Event) (s : State) (commit name : List ℕ) (state : StatusState) → Holds s → Kept events s
+    → Kept (given events (told commit name state s).orders) (told commit name state s).state
+told_kept events s commit name state is kept = by (is_required s.desk.settings name) refl where
+  by : (b : Bool) → is_required s.desk.settings name ≡ b
+      → Kept (given events (if b then then_next (told_staging commit name state s) (told_trying commit name state) else quiet s).orders)
+      (if b then then_next (told_staging commit name state s) (told_trying commit name state) else quiet s).state
+  by true required =
+      then_kept events (told_staging commit name state s) (told_trying commit name state)
+      (told_trying_kept (given events (told_staging commit name state s).orders) (told_staging commit name state s).state commit name state
+      (told_staging_kept events s commit name state required is kept))
+  by false required = kept
+
+-- A TICK: the end of batches that have taken too long, and the start of others
+pub timed_out_kept : (events : List Event) (s : State) (now : ℕ) → Kept events s → Kept (given events (timed_out now s).orders) (timed_out now s).state
+timed_out_kept events s now kept = by (has_overdue now s.desk.settings s.queue.staging) refl where
+  by : (b : Bool) → has_overdue now s.desk.settings s.queue.staging ≡ b
+      → Kept (given events (if b then failing why.TimedOut s else quiet s).orders) (if b then failing why.TimedOut s else quiet s).state
+  by true overdue = failing_kept events s why.TimedOut refl (overdue_so now s.desk.settings s.queue.staging overdue) kept
+  by false overdue = kept
+
+pub try_timed_out_kept : (events : List Event) (s : State) (now : ℕ) → Kept events s → Kept (given events (try_timed_out now s).orders) (try_timed_out now s).state
+try_timed_out_kept events s now kept = by (has_overdue now s.desk.settings s.queue.trying) where
+  by : (b : Bool) → Kept (given events (if b then try_ended why.TryFailed s else quiet s).orders) (if b then try_ended why.TryFailed s else quiet s).state
+  by true = try_ended_kept events s why.TryFailed refl kept
+  by false = kept
+
+pub ended_on_time_kept : (events : List Event) (s : State) (now : ℕ) → Kept events s → Kept (given events (ended_on_time now s).orders) (ended_on_time now s).state
+ended_on_time_kept events s now kept =
+    then_kept events (timed_out now s) (try_timed_out now)
+    (try_timed_out_kept (given events (timed_out now s).orders) (timed_out now s).state now (timed_out_kept events s now kept))
+
+pub all_starting_kept : (events : List Event) (s : State) (now : ℕ) → s.desk.clock ≡ now → Holds s → Kept events s → Kept (given events (all_starting now s).orders) (all_starting now s).state
+all_starting_kept events s now at is kept =
+    then_kept events (starting Staging now s) (starting Trying now)
+    (starting_kept Trying (given events (starting Staging now s).orders) (starting Staging now s).state now (starting_holds Staging s now at is) (starting_kept Staging events s now is kept))

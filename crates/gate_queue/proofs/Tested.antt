@@ -15,19 +15,21 @@ use Rattle.std.specs.Ordering.{nat_cmp}
 use Rattle.std.specs.Str.{bytes_eq}
 use Rattle.gate_text.specs.Settings.{SettingsView}
 use Rattle.gate_queue.specs.Acts.{on}
-use Rattle.gate_queue.specs.History.{Event, did, gave, last_of, since, said_by, said_on, settings_back, base_back, head_said, head_back, moves_head, fit_back, approval_said, ends_it, standing_back, heads_said, heads_back, is_order_on, keeps_order, is_ordered_on, keeps_staged, is_staged_as, is_staged_back, state_said, is_bad, is_good, keeps_clean, is_clean, passes, keeps_passed, has_passed, is_order_at, keeps_head, is_unmoved, IsTested, IsReadyToLand}
-use Rattle.gate_queue.specs.Machine.{is_required, is_success, has_succeeded}
+use Rattle.gate_queue.specs.History.{Event, did, gave, last_of, since, said_by, said_on, settings_back, base_back, head_said, head_back, moves_head, fit_back, approval_said, ends_it, standing_back, heads_said, heads_back, is_order_on, keeps_order, is_ordered_on, keeps_staged, is_staged_as, is_staged_back, state_said, is_bad, is_good, keeps_clean, is_clean, passes, keeps_passed, has_passed, is_order_at, keeps_head, is_unmoved, given, ends_why, IsTested, IsReadyToLand, IsRightLanding}
+use Rattle.gate_queue.specs.Machine.{is_required, is_success, has_succeeded, is_staged_with}
 use Rattle.gate_queue.specs.declared.act.Act.{Act}
 use Rattle.gate_queue.specs.declared.act.Act.TheVariants.{Spoken, Role, Settings, Base, Opened, Pushed, Closed, Labeled, Unlabeled, Review, Staged, Conflict, Status, Refused, Tick}
 use Rattle.gate_queue.specs.declared.act.StatusState.{StatusState}
 use Rattle.gate_queue.specs.declared.act.StatusState.TheVariants.{Success}
 use Rattle.gate_queue.specs.declared.batch.Batch.{Batch}
+use Rattle.gate_queue.specs.declared.batch.Branch.{Branch}
 use Rattle.gate_queue.specs.declared.batch.Branch.TheVariants.{Staging}
 use Rattle.gate_queue.specs.declared.batch.Report.{Report}
 use Rattle.gate_queue.specs.declared.batch.Report.TheVariants as report
 use Rattle.gate_queue.specs.declared.batch.Stage.{Stage as StageOf}
 use Rattle.gate_queue.specs.declared.batch.Stage.TheVariants as stage
 use Rattle.gate_queue.specs.declared.reply.Head.{Head}
+use Rattle.gate_queue.specs.declared.reply.Order.{Order}
 use Rattle.gate_queue.specs.declared.reply.Order.TheVariants.{Stage, Land, Notice}
 use Rattle.gate_queue.specs.declared.reply.Why.{Why}
 use Rattle.gate_queue.proofs.After.{standing_fit}
@@ -63,13 +65,14 @@ goes : (starts keeps went : Bool) → keeps ≡ true → went ≡ true → (star
 goes true keeps went kept is = refl
 goes false keeps went kept is = λ i. kept i && is i
 
-record Leaves (events : List Event) (event : Event) : Type 0 where
+-- for a batch of this number, at this stage
+record Leaves (events : List Event) (event : Event) (number : ℕ) (at : StageOf) : Type 0 where
   ordered : keeps_order event events ≡ true
   base : base_back (event ∷ events) ≡ base_back events
   settings : settings_back (event ∷ events) ≡ settings_back events
-  heads : (number : ℕ) → heads_said number event events ≡ None
-  staged : (number : ℕ) → keeps_staged number event events ≡ true
-  said : (commit name : List ℕ) → is_required (settings_back events) name ≡ true → said_by (state_said commit name) event events ≡ None
+  heads : heads_said number event events ≡ None
+  staged : keeps_staged number event events ≡ true
+  said : (commit name : List ℕ) → is_staged_with commit at ≡ true → is_required (settings_back events) name ≡ true → said_by (state_said commit name) event events ≡ None
 
 -- and has its heads stay
 abbrev StaysAt : List Event → Event → Batch → Type 0
@@ -89,10 +92,10 @@ module _ (events : List Event) (event : Event) (batch : Batch) (stays : StaysAt 
         unmoved = goes (is_order_at batch.number head event events) (keeps_head head.change event events) (is_unmoved events batch.number head) same.0 is.unmoved;
       }
 
-  ordered_next : keeps_order event events ≡ true → base_back (event ∷ events) ≡ base_back events → ((number : ℕ) → heads_said number event events ≡ None) → IsOrdered events batch → IsOrdered (event ∷ events) batch
+  ordered_next : keeps_order event events ≡ true → base_back (event ∷ events) ≡ base_back events → heads_said batch.number event events ≡ None → IsOrdered events batch → IsOrdered (event ∷ events) batch
   ordered_next keeps base heads is = record {
     ordered = λ b at. goes (is_order_on batch.number b event events) (keeps_order event events) (is_ordered_on events batch.number b) keeps (is.ordered b (sym base ∙ at));
-    heads = subst (λ (o : Option (List Head)). All (IsHead (event ∷ events) batch) (unwrap_or (option_or o (last_of (heads_said batch.number) events)) [])) (sym (heads batch.number))
+    heads = subst (λ (o : Option (List Head)). All (IsHead (event ∷ events) batch) (unwrap_or (option_or o (last_of (heads_said batch.number) events)) [])) (sym heads)
         (All-each (IsHead events batch) (IsHead (event ∷ events) batch) head_next (heads_back events batch.number) is.heads);
   }
 
@@ -109,22 +112,38 @@ module _ (events : List Event) (event : Event) (batch : Batch) (stays : StaysAt 
     before : (name : List ℕ) → is_required (settings_back (event ∷ events)) name ≡ true → is_required (settings_back events) name ≡ true
     before name required = ap (λ (o : Option SettingsView). is_required o name) (sym same) ∙ required
 
-  tests_next : Leaves events event → Tests events (Some batch) → Tests (event ∷ events) (Some batch)
-  tests_next leaves = by batch.stage where
-    by : (at : StageOf) → TestsAt events batch at → TestsAt (event ∷ events) batch at
-    by stage.Waiting is = tt
-    by (stage.Ordered since) is = ordered_next leaves.ordered leaves.base leaves.heads is
-    by (stage.Staged since commit reports) is =
-        (ordered_next leaves.ordered leaves.base leaves.heads is.0, reported_next batch.number commit reports (leaves.staged batch.number) (leaves.said commit) leaves.settings is.1)
-    by (stage.Landing commit) is = tt
+  tests_next : Leaves events event batch.number batch.stage → Tests events (Some batch) → Tests (event ∷ events) (Some batch)
+  tests_next = by batch.stage where
+    by : (at : StageOf) → Leaves events event batch.number at → TestsAt events batch at → TestsAt (event ∷ events) batch at
+    by stage.Waiting leaves is = tt
+    by (stage.Ordered since) leaves is = ordered_next leaves.ordered leaves.base leaves.heads is
+    by (stage.Staged since commit reports) leaves is = (
+      ordered_next leaves.ordered leaves.base leaves.heads is.0,
+      reported_next batch.number commit reports leaves.staged (λ name required. leaves.said commit name ((bytes_eq-Decides commit commit).1 refl) required) leaves.settings is.1,
+    )
+    by (stage.Landing commit) leaves is = tt
 
 -- NOTICES
-notice_leaves : (events : List Event) (change : ℕ) (why : Why) → Leaves events (gave (Notice change why))
-notice_leaves events change why = record { ordered = refl; base = refl; settings = refl; heads = λ number. refl; staged = λ number. refl; said = λ commit name required. refl }
-
 pub notice_tests : (events : List Event) (change : ℕ) (why : Why) (running : Option Batch) → Tests events running → Tests (gave (Notice change why) ∷ events) running
 notice_tests events change why None is = tt
-notice_tests events change why (Some batch) is = tests_next events (gave (Notice change why)) batch (λ c there. (refl, refl)) (notice_leaves events change why) is
+notice_tests events change why (Some batch) is =
+    tests_next events (gave (Notice change why)) batch (λ c there. (refl, refl))
+    (record { ordered = refl; base = refl; settings = refl; heads = refl; staged = refl; said = λ commit name with_it required. refl }) is
+
+-- AN ORDER TO STAGE another batch
+pub other_tests : (events : List Event) (number : ℕ) (branch : Branch) (base : List ℕ) (heads : List Head) (running : Option Batch)
+    → ((batch : Batch) → running ≡ Some batch → eqb batch.number number ≡ false) → Tests events running → Tests (gave (Stage number branch base heads) ∷ events) running
+other_tests events number branch base heads None other is = tt
+other_tests events number branch base heads (Some batch) other is =
+    tests_next events (gave (Stage number branch base heads)) batch (λ c there. (refl, refl))
+    (record {
+      ordered = refl;
+      base = refl;
+      settings = refl;
+      heads = ap (λ (b : Bool). then_some b heads) (other batch refl);
+      staged = ap not (other batch refl);
+      said = λ commit name with_it required. refl;
+    }) is
 
 -- AN ACT. A change that stands after it hasn't moved.
 still_by : (c : ℕ) (events : List Event) (fit had : Bool) (done : Option Act)
@@ -157,18 +176,19 @@ AllStand events batch = (c : ℕ) → list_any (eqb c) batch.changes ≡ true �
 pub still_at : (events : List Event) (act : Act) (batch : Batch) → AllStand (did act ∷ events) batch → StaysAt events (did act) batch
 still_at events act batch stand c there = still_by c events (fit_back (did act ∷ events) c) (standing_back events c) (on c act) (stand c there)
 
--- an act that has nothing to do with it
-pub record Elsewhere (events : List Event) (act : Act) : Type 0 where
+-- an act that has nothing to do with a batch of this number, at this stage
+pub record Elsewhere (events : List Event) (act : Act) (number : ℕ) (at : StageOf) : Type 0 where
   pub ordered : keeps_order (did act) events ≡ true
   pub base : base_back (did act ∷ events) ≡ base_back events
   pub settings : settings_back (did act ∷ events) ≡ settings_back events
-  pub staged : (number : ℕ) → keeps_staged number (did act) events ≡ true
-  pub said : (commit name : List ℕ) → is_required (settings_back events) name ≡ true → state_said commit name act ≡ None
+  pub staged : keeps_staged number (did act) events ≡ true
+  pub said : (commit name : List ℕ) → is_staged_with commit at ≡ true → is_required (settings_back events) name ≡ true → state_said commit name act ≡ None
 
-pub did_tests : (events : List Event) (act : Act) (batch : Batch) → Elsewhere events act → AllStand (did act ∷ events) batch → Tests events (Some batch) → Tests (did act ∷ events) (Some batch)
+pub did_tests : (events : List Event) (act : Act) (batch : Batch) → Elsewhere events act batch.number batch.stage → AllStand (did act ∷ events) batch → Tests events (Some batch)
+    → Tests (did act ∷ events) (Some batch)
 did_tests events act batch leaves stand is =
     tests_next events (did act) batch (still_at events act batch stand)
-    (record { ordered = leaves.ordered; base = leaves.base; settings = leaves.settings; heads = λ number. refl; staged = leaves.staged; said = leaves.said }) is
+    (record { ordered = leaves.ordered; base = leaves.base; settings = leaves.settings; heads = refl; staged = leaves.staged; said = leaves.said }) is
 
 -- IT IS ORDERED
 abbrev IsAmong : List Head → Head → Type 0
@@ -237,7 +257,7 @@ staged_tests events now number commit batch stand same is = (
   later = record batch { stage = stage.Staged now commit finite.empty }
 
   next : IsOrdered (did (Staged number commit) ∷ events) batch
-  next = ordered_next events (did (Staged number commit)) batch (still_at events (Staged number commit) batch stand) refl refl (λ n. refl) is
+  next = ordered_next events (did (Staged number commit)) batch (still_at events (Staged number commit) batch stand) refl refl refl is
 
   starts : (rest : Bool) → ((eqb batch.number number && bytes_eq commit commit) || rest) ≡ true
   starts rest = λ i. ((Decides-eqb batch.number number).1 (sym same) i && (bytes_eq-Decides commit commit).1 refl i) || rest
@@ -297,21 +317,36 @@ module _ (events : List Event) (batch : Batch) (commit other name : List ℕ) (s
     by n false is' required so = passed_next n is' (is.passed n required (sym (at_name reports r n false is') ∙ so))
 
   pub ordered_here : IsOrdered events batch → IsOrdered (event ∷ events) batch
-  ordered_here is = ordered_next events event batch (still_at events (Status other name state) batch stand) refl refl (λ n. refl) is
+  ordered_here is = ordered_next events event batch (still_at events (Status other name state) batch stand) refl refl refl is
 
--- A STATUS that isn't required
-pub unasked : (events : List Event) (commit name : List ℕ) (state : StatusState) → is_required (settings_back events) name ≡ false → Elsewhere events (Status commit name state)
-unasked events commit name state none = record {
+-- A STATUS that isn't required, or of another commit than the one that is tested
+silent_status : (events : List Event) (commit name : List ℕ) (state : StatusState) (number : ℕ) (at : StageOf)
+    → ((other n : List ℕ) → is_staged_with other at ≡ true → is_required (settings_back events) n ≡ true → (bytes_eq other commit && bytes_eq n name) ≡ false)
+    → Elsewhere events (Status commit name state) number at
+silent_status events commit name state number at other_one = record {
   ordered = refl;
   base = refl;
   settings = refl;
-  staged = λ number. refl;
-  said = λ other n required. by n (bytes_eq other commit) (bytes_eq n name) refl required;
-} where
-  by : (n : List ℕ) (a b : Bool) → bytes_eq n name ≡ b → is_required (settings_back events) n ≡ true → then_some (a && b) state ≡ None
-  by n true true is required = cc (sym required ∙ ap (is_required (settings_back events)) ((bytes_eq-Decides n name).0 is) ∙ none)
-  by n true false is required = refl
-  by n false b is required = refl
+  staged = refl;
+  said = λ other n with_it required. ap (λ (b : Bool). then_some b state) (other_one other n with_it required);
+}
+
+pub unasked : (events : List Event) (commit name : List ℕ) (state : StatusState) (number : ℕ) (at : StageOf) → is_required (settings_back events) name ≡ false
+    → Elsewhere events (Status commit name state) number at
+unasked events commit name state number at none =
+    silent_status events commit name state number at (λ other n with_it required. by n (bytes_eq other commit) (bytes_eq n name) refl required) where
+      by : (n : List ℕ) (a b : Bool) → bytes_eq n name ≡ b → is_required (settings_back events) n ≡ true → (a && b) ≡ false
+      by n true true is required = cc (sym required ∙ ap (is_required (settings_back events)) ((bytes_eq-Decides n name).0 is) ∙ none)
+      by n true false is required = refl
+      by n false b is required = refl
+
+pub elsewhere_told : (events : List Event) (commit name : List ℕ) (state : StatusState) (number : ℕ) (at : StageOf) → is_staged_with commit at ≡ false
+    → Elsewhere events (Status commit name state) number at
+elsewhere_told events commit name state number at none =
+    silent_status events commit name state number at (λ other n with_it required. by other (bytes_eq other commit) (bytes_eq n name) refl with_it) where
+      by : (other : List ℕ) (a b : Bool) → bytes_eq other commit ≡ a → is_staged_with other at ≡ true → (a && b) ≡ false
+      by other true b is with_it = cc (sym with_it ∙ ap (λ (c : List ℕ). is_staged_with c at) ((bytes_eq-Decides other commit).0 is) ∙ none)
+      by other false b is with_it = refl
 
 -- THE ORDER TO LAND
 module _ (events : List Event) (batch : Batch) (since : ℕ) (base commit : List ℕ) (reports : FinMap (slice_cmp nat_cmp) Report) (settings : SettingsView) (is : IsOrdered events batch × IsReported events batch.number commit reports)
@@ -356,3 +391,49 @@ module _ (events : List Event) (batch : Batch) (since : ℕ) (base commit : List
         let stands = stand head.change h.there in
         let fit = standing_fit events head.change stands in
         record { standing = λ i. fit i && stands i; fit = fit; head = h.head; unmoved = h.unmoved }
+
+-- stays right after notices that end no approval
+abbrev pub EndNone : List Order → Type 0
+EndNone [] = ⊤
+EndNone (Notice change why ∷ orders) = (ends_why why ≡ false) × EndNone orders
+EndNone (Stage batch branch base heads ∷ orders) = ⊥
+EndNone (Land batch base commit ∷ orders) = ⊥
+
+module _ (events : List Event) (change : ℕ) (why : Why) (goes_on : ends_why why ≡ false) where
+  abbrev noticed : List Event
+  noticed = gave (Notice change why) ∷ events
+
+  ready_noticed : (number : ℕ) (head : Head) → IsReadyToLand events number head → IsReadyToLand noticed number head
+  ready_noticed number head is = record {
+    standing = λ i. (not (goes_on i && eqb head.change change) && is.fit i) && is.standing i;
+    fit = is.fit;
+    head = is.head;
+    unmoved = is.unmoved;
+  }
+
+  passed_noticed : (number : ℕ) (commit name : List ℕ) → has_passed events number commit name ≡ true → has_passed noticed number commit name ≡ true
+  passed_noticed number commit name is =
+      goes (passes number commit name (gave (Notice change why)) events) (keeps_passed number commit name (gave (Notice change why)) events) (has_passed events number commit name) refl is
+
+  landing_noticed : (act : Act) (number : ℕ) (base commit : List ℕ) → IsRightLanding events act number base commit → IsRightLanding noticed act number base commit
+  landing_noticed act number base commit is = record {
+    name = is.name;
+    success = is.success;
+    tested = record {
+      ordered = is.tested.ordered;
+      present = is.tested.present;
+      staged = is.tested.staged;
+      settings = is.tested.settings;
+      accepted = is.tested.accepted;
+      passed = All-each (λ name. has_passed events number commit name ≡ true) (λ name. has_passed noticed number commit name ≡ true) (passed_noticed number commit) is.tested.settings.status is.tested.passed;
+    };
+    ready = All-each (IsReadyToLand events number) (IsReadyToLand noticed number) (ready_noticed number) (heads_back events number) is.ready;
+  }
+
+pub still_right : (orders : List Order) (events : List Event) (act : Act) (number : ℕ) (base commit : List ℕ) → EndNone orders → IsRightLanding events act number base commit
+    → IsRightLanding (given events orders) act number base commit
+still_right [] events act number base commit none is = is
+still_right (Notice change why ∷ orders) events act number base commit none is =
+    still_right orders (gave (Notice change why) ∷ events) act number base commit none.1 (landing_noticed events change why none.0 act number base commit is)
+still_right (Stage batch branch other heads ∷ orders) events act number base commit none is = absurd none
+still_right (Land batch other with_it ∷ orders) events act number base commit none is = absurd none

@@ -13,12 +13,12 @@ use Rattle.std.specs.Option.{option_map, option_map_or, option_or}
 use Rattle.std.specs.Str.{bytes_eq}
 use Rattle.gate_text.specs.Settings.{SettingsView}
 use Rattle.gate_rules.specs.Rules.{Look, is_approved}
-use Rattle.gate_rules.specs.View.{look}
+use Rattle.gate_rules.specs.View.{DeskView, look}
 use Rattle.gate_rules.specs.declared.change.Change.{Change}
 use Rattle.gate_queue.specs.Counts.{of_any_priority}
 use Rattle.gate_queue.specs.History.{Event, did, gave, given, last_of, said_on, is_bad, author_back, settings_back, base_back, fit_back, approval_said, ends, standing_back, approvers_back, change_of, look_back, IsRightOrder, IsRightLanding}
 use Rattle.gate_queue.specs.Lanes.{is_landing, back, loses, only, left, stops_running, with_report, reported_on, to_landing, to_land as lanes_to_land, taken_out, restarted, requeued, failed}
-use Rattle.gate_queue.specs.Machine.{approved_on, landing_on, all_but, followed, quiet, with_queue, accepted, is_required, is_success, has_succeeded, has_passed, land_order, to_land, if_passed, goes_on}
+use Rattle.gate_queue.specs.Machine.{approved_on, landing_on, trying_on, priority_on, size_on, all_but, followed, approval_followed, followed_on, quiet, with_queue, accepted, is_required, is_success, has_succeeded, has_passed, land_order, to_land, if_passed, goes_on}
 use Rattle.gate_queue.specs.Queue as specs
 use Rattle.gate_queue.specs.declared.act.Act.{Act}
 use Rattle.gate_queue.specs.declared.act.Act.TheVariants.{Status}
@@ -37,8 +37,8 @@ use Rattle.gate_queue.specs.declared.reply.Order.TheVariants.{Stage, Land, Notic
 use Rattle.gate_queue.specs.declared.state.State.{State}
 use Rattle.gate_queue.proofs.Keeping.{lands, none_landing}
 use Rattle.gate_queue.proofs.States.{Holds, queued_there}
-use Rattle.gate_queue.proofs.Steps.{AreNotices}
-use Rattle.gate_queue.proofs.Tested.{Tests, TestsAt, IsOrdered, IsReported, AllStand, Elsewhere, did_tests, notice_tests, as_reported, ordered_here, reported_here, is_tested, are_ready}
+use Rattle.gate_queue.proofs.Steps.{AreNotices, tried_by_staging}
+use Rattle.gate_queue.proofs.Tested.{Tests, TestsAt, IsOrdered, IsReported, AllStand, Elsewhere, EndNone, did_tests, notice_tests, as_reported, ordered_here, reported_here, is_tested, are_ready, still_right}
 
 -- STANDING. A change that stands was approved, so it has approvers.
 either_some : {X : Type 0} (this rest : Option X) (fit goes had : Bool) → (had ≡ true → is_some rest ≡ true)
@@ -71,7 +71,7 @@ stands_all events s is same batch runs not_so c there =
     standing_of events c (ap (λ (l : Look). is_approved l c) (sym same) ∙ approved (landing_on s.desk c) refl (queued_there s is batch runs c there)) where
       approved : (b : Bool) → landing_on s.desk c ≡ b → (approved_on s.desk c || landing_on s.desk c) ≡ true → approved_on s.desk c ≡ true
       approved true at so =
-          absurd (omega (arith, none_landing of_any_priority c s.queue.staging.running s.queue.staging.waiting (ap lands runs ∙ not_so), is.queue.landing c ∙ ap {B = ℕ} (λ (b : Bool). if b then 1 else 0) at))
+          absurd (omega (arith, none_landing of_any_priority c s.queue.staging.running s.queue.staging.waiting (ap lands runs ∙ not_so), is.queue.staging.landing c ∙ ap {B = ℕ} (λ (b : Bool). if b then 1 else 0) at))
       approved false at so = by (approved_on s.desk c) (ap (λ (b : Bool). approved_on s.desk c || b) (sym at) ∙ so) where
         by : (b : Bool) → (b || false) ≡ true → b ≡ true
         by true so = refl
@@ -89,7 +89,7 @@ given_stand (Notice change why ∷ orders) events batch are stand =
 given_stand (Stage number branch base heads ∷ orders) events batch are stand = absurd are
 given_stand (Land number base commit ∷ orders) events batch are stand = absurd are
 
--- WHAT RUNS is what ran, or nothing.
+-- WHAT RUNS on `Staging` is what ran, or nothing.
 abbrev pub Runs : Option Batch → Option Batch → Type 0
 Runs old new = (new ≡ old) ⊎ (new ≡ None)
 
@@ -106,12 +106,17 @@ taken_out_runs stays number lane = by lane.running where
   by None = inl refl
   by (Some batch) = back_runs (loses stays batch) number batch (only stays batch) (left stays lane.waiting)
 
-pub followed_runs : (was is moved : Bool) (size : Option ℕ) (priority : ℤ) (change : ℕ) (queue : Queue) → Runs queue.staging.running (followed was is moved size priority change queue).staging.running
-followed_runs false false moved size priority change queue = inl refl
-followed_runs false true moved size priority change queue = inl refl
-followed_runs true false moved size priority change queue = taken_out_runs (all_but change) queue.next queue.staging
-followed_runs true true false size priority change queue = inl refl
-followed_runs true true true size priority change queue = taken_out_runs (all_but change) queue.next queue.staging
+approval_runs : (was is moved : Bool) (size : Option ℕ) (priority : ℤ) (change : ℕ) (queue : Queue) → Runs queue.staging.running (followed was is moved size priority change queue).staging.running
+approval_runs false false moved size priority change queue = inl refl
+approval_runs false true moved size priority change queue = inl refl
+approval_runs true false moved size priority change queue = taken_out_runs (all_but change) queue.next queue.staging
+approval_runs true true false size priority change queue = inl refl
+approval_runs true true true size priority change queue = taken_out_runs (all_but change) queue.next queue.staging
+
+pub followed_runs : (old new : DeskView) (change : ℕ) (queue : Queue) → Runs queue.staging.running (followed_on old new change queue).staging.running
+followed_runs old new change queue =
+    subst (λ (l : Lane). Runs queue.staging.running l.running) (sym (tried_by_staging (trying_on old change) (trying_on new change) change (approval_followed old new change queue)))
+    (approval_runs _ _ _ (size_on new) (priority_on new change) change queue)
 
 -- nothing is said of a batch that is landing
 landing_tests : (events : List Event) (batch : Batch) (at : StageOf) → is_landing at ≡ true → TestsAt events batch at
@@ -120,14 +125,15 @@ landing_tests events batch (stage.Ordered since) so = cc so
 landing_tests events batch (stage.Staged since commit reports) so = cc so
 landing_tests events batch (stage.Landing commit) so = tt
 
-notices_tests : (orders : List Order) (events : List Event) (running : Option Batch) → AreNotices orders → Tests events running → Tests (given events orders) running
+pub notices_tests : (orders : List Order) (events : List Event) (running : Option Batch) → AreNotices orders → Tests events running → Tests (given events orders) running
 notices_tests [] events running are is = is
 notices_tests (Notice change why ∷ orders) events running are is = notices_tests orders (gave (Notice change why) ∷ events) running are (notice_tests events change why running is)
 notices_tests (Stage number branch base heads ∷ orders) events running are is = absurd are
 notices_tests (Land number base commit ∷ orders) events running are is = absurd are
 
 -- AN ACT that has nothing to do with it, and gives notices
-pub act_tests : (events : List Event) (act : Act) (orders : List Order) (old : Option Batch) (t : State) → Elsewhere events act → AreNotices orders → Holds t
+pub act_tests : (events : List Event) (act : Act) (orders : List Order) (old : Option Batch) (t : State) → ((batch : Batch) → old ≡ Some batch → Elsewhere events act batch.number batch.stage)
+    → AreNotices orders → Holds t
     → look t.desk ≡ look_back (given (did act ∷ events) orders) → Runs old t.queue.staging.running → Tests events old → Tests (given (did act ∷ events) orders) t.queue.staging.running
 act_tests events act orders old t leaves are is same runs tests = by t.queue.staging.running refl runs where
   by : (running : Option Batch) → t.queue.staging.running ≡ running → Runs old running → Tests (given (did act ∷ events) orders) running
@@ -138,7 +144,7 @@ act_tests events act orders old t leaves are is same runs tests = by t.queue.sta
     on true so = landing_tests (given (did act ∷ events) orders) batch batch.stage so
     on false so =
         notices_tests orders (did act ∷ events) (Some batch) are
-        (did_tests events act batch leaves (given_stand orders (did act ∷ events) batch are (stands_all (given (did act ∷ events) orders) t is same batch at so)) (subst (Tests events) (sym as_before) tests))
+        (did_tests events act batch (leaves batch (sym as_before)) (given_stand orders (did act ∷ events) batch are (stands_all (given (did act ∷ events) orders) t is same batch at so)) (subst (Tests events) (sym as_before) tests))
 
 -- a batch that is restarted or landing
 pub restarted_tests : (events : List Event) (number : ℕ) (lane : Lane) → Tests events (restarted number lane).running
@@ -262,33 +268,36 @@ module _ (events : List Event) (s : State) (commit name : List ℕ) (r : Report)
         ready = are_ready after_it batch since base staged_as (finite.insert reports name r) settings both_after under_them present all stand;
       }
 
-  abbrev AreRight : List Order → Type 0
-  AreRight orders = All (IsRightOrder (given after_it orders) (Status commit name (report_of r))) orders
+  -- whatever notices that end no approval come after it
+  module _ (later : List Order) (none : EndNone later) where
+    abbrev AreRight : List Order → Type 0
+    AreRight orders = All (IsRightOrder (given (given after_it orders) later) (Status commit name (report_of r))) orders
 
-  land_right : (number : ℕ) (at_last : StageOf) → number ≡ batch.number → at_last ≡ stage.Staged since staged_as (finite.insert reports name r) → has_passed s.desk.settings at_last ≡ true → AreRight (land_order s.desk number at_last)
-  land_right number at_last numbered staged_then passes =
-      subst (λ n. AreRight (land_order s.desk n at_last)) (sym numbered)
-      (subst (λ (l : StageOf). AreRight (land_order s.desk batch.number l)) (sym staged_then)
-      (by s.desk.base refl s.desk.settings refl (ap (has_passed s.desk.settings) (sym staged_then) ∙ passes))) where
-        by : (base : Option (List ℕ)) → s.desk.base ≡ base → (settings : Option SettingsView) → s.desk.settings ≡ settings → has_passed s.desk.settings (stage.Staged since staged_as (finite.insert reports name r)) ≡ true
-            → AreRight (option_map_or (λ b. Land batch.number b staged_as ∷ []) base [])
-        by None based settings accepted passed = All-nil _
-        by (Some base) based None accepted passed =
-            cc (sym (ap (λ (o : Option SettingsView). has_passed o (stage.Staged since staged_as (finite.insert reports name r))) accepted) ∙ passed)
-        by (Some base) based (Some settings) accepted passed =
-            All-cons (IsRightOrder (gave (Land batch.number base staged_as) ∷ after_it) (Status commit name (report_of r))) (Land batch.number base staged_as) []
-            (lands_rightly base settings based accepted
-            (sym (ap (λ (o : Option SettingsView). has_passed o (stage.Staged since staged_as (finite.insert reports name r))) accepted) ∙ passed)
-            (only_success (finite.insert reports name r) name_is passed))
-            (All-nil (IsRightOrder (gave (Land batch.number base staged_as) ∷ after_it) (Status commit name (report_of r))))
+    land_right : (number : ℕ) (at_last : StageOf) → number ≡ batch.number → at_last ≡ stage.Staged since staged_as (finite.insert reports name r) → has_passed s.desk.settings at_last ≡ true → AreRight (land_order s.desk number at_last)
+    land_right number at_last numbered staged_then passes =
+        subst (λ n. AreRight (land_order s.desk n at_last)) (sym numbered)
+        (subst (λ (l : StageOf). AreRight (land_order s.desk batch.number l)) (sym staged_then)
+        (by s.desk.base refl s.desk.settings refl (ap (has_passed s.desk.settings) (sym staged_then) ∙ passes))) where
+          by : (base : Option (List ℕ)) → s.desk.base ≡ base → (settings : Option SettingsView) → s.desk.settings ≡ settings → has_passed s.desk.settings (stage.Staged since staged_as (finite.insert reports name r)) ≡ true
+              → AreRight (option_map_or (λ b. Land batch.number b staged_as ∷ []) base [])
+          by None based settings accepted passed = All-nil _
+          by (Some base) based None accepted passed =
+              cc (sym (ap (λ (o : Option SettingsView). has_passed o (stage.Staged since staged_as (finite.insert reports name r))) accepted) ∙ passed)
+          by (Some base) based (Some settings) accepted passed =
+              All-cons (IsRightOrder (given (gave (Land batch.number base staged_as) ∷ after_it) later) (Status commit name (report_of r))) (Land batch.number base staged_as) []
+              (still_right later (gave (Land batch.number base staged_as) ∷ after_it) (Status commit name (report_of r)) batch.number base staged_as none
+              (lands_rightly base settings based accepted
+              (sym (ap (λ (o : Option SettingsView). has_passed o (stage.Staged since staged_as (finite.insert reports name r))) accepted) ∙ passed)
+              (only_success (finite.insert reports name r) name_is passed)))
+              (All-nil (IsRightOrder (given (gave (Land batch.number base staged_as) ∷ after_it) later) (Status commit name (report_of r))))
 
-  pub goes_on_right : AreRight (goes_on name r s).orders
-  goes_on_right = by told_state.queue.staging.running (ap (option_map (reported_on name r)) runs) where
-    by : (running : Option Batch) → running ≡ Some (reported_on name r batch) → AreRight (if_passed told_state running).orders
-    by None so = cc so
-    by (Some later) so = on (has_passed s.desk.settings later.stage) refl where
-      on : (b : Bool) → has_passed s.desk.settings later.stage ≡ b → AreRight (if b then to_land later told_state else quiet told_state).orders
-      on true passes =
-          land_right later.number later.stage (ap (λ (o : Option Batch). option_map_or (λ (b : Batch). b.number) o 0) so)
-          (ap (λ (o : Option Batch). option_map_or (λ (b : Batch). b.stage) o stage.Waiting) so ∙ told_stage) passes
-      on false passes = All-nil _
+    pub goes_on_right : AreRight (goes_on name r s).orders
+    goes_on_right = by told_state.queue.staging.running (ap (option_map (reported_on name r)) runs) where
+      by : (running : Option Batch) → running ≡ Some (reported_on name r batch) → AreRight (if_passed told_state running).orders
+      by None so = cc so
+      by (Some batch_then) so = on (has_passed s.desk.settings batch_then.stage) refl where
+        on : (b : Bool) → has_passed s.desk.settings batch_then.stage ≡ b → AreRight (if b then to_land batch_then told_state else quiet told_state).orders
+        on true passes =
+            land_right batch_then.number batch_then.stage (ap (λ (o : Option Batch). option_map_or (λ (b : Batch). b.number) o 0) so)
+            (ap (λ (o : Option Batch). option_map_or (λ (b : Batch). b.stage) o stage.Waiting) so ∙ told_stage) passes
+        on false passes = All-nil _

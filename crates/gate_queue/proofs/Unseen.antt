@@ -1,5 +1,6 @@
 -- A change that was never opened has nothing: no act on it is done but the one that opens it.
-use Rattle.std.proofs.Common.{◌≡◌, ◌⊎◌, ℕ, pos, Bool, true, false, cond, List, [], ◌∷◌, Option, Some, None, is_some, eqb, refl, sym, ◌∙◌, ap, inl, inr}
+use Rattle.std.proofs.Common.{◌≡◌, ◌⊎◌, ℕ, pos, Bool, true, false, cond, not, ◌&&◌, ◌||◌, List, [], ◌∷◌, Option, Some, None, is_some, eqb, refl, sym, ◌∙◌, ap, inl, inr}
+use Rattle.std.proofs.lemmas.Bool.{and_right}
 use Rattle.std.specs.FinSet as set
 use Rattle.std.specs.List.{cons_option, list_any}
 use Rattle.std.specs.Option.{option_map, option_map_or, option_and_then, option_or}
@@ -11,7 +12,7 @@ use Rattle.gate_rules.specs.declared.change.Change.{Change}
 use Rattle.gate_rules.specs.declared.change.Phase.TheVariants as phase
 use Rattle.gate_rules.specs.declared.rule.Rule.TheVariants.{UnknownChange}
 use Rattle.gate_queue.specs.Acts.{subject, on}
-use Rattle.gate_queue.specs.History.{Event, did, gave, last_of, said_on, done_to, author_said, author_back, stage_naming, batches_back, landing_with, landing_back, has_landed, landed_back, phase_said, phase_by, phase_back, priority_back, labels_back, delegates_back, repeat_back, change_of, look_back}
+use Rattle.gate_queue.specs.History.{Event, did, gave, last_of, said_on, done_to, author_said, author_back, stage_naming, batches_back, landing_with, landing_back, has_landed, landed_back, phase_said, phase_by, phase_back, priority_back, labels_back, delegates_back, repeat_back, try_said, try_ends, tried_back, trying_back, change_of, look_back}
 use Rattle.gate_queue.specs.Machine.{broken}
 use Rattle.gate_queue.specs.declared.act.Act.{Act}
 use Rattle.gate_queue.specs.declared.act.Act.TheVariants.{Spoken, Role, Settings, Base, Opened, Pushed, Closed, Labeled, Unlabeled, Review, Staged, Conflict, Status, Refused, Tick}
@@ -28,14 +29,18 @@ pub record Blank (events : List Event) (c : ℕ) : Type 0 where
   pub labels : labels_back events c ≡ set.empty
   pub delegates : delegates_back events c ≡ set.empty
   pub last : repeat_back events c ≡ None
+  pub untried : tried_back events c ≡ false
 
--- so it isn't open, hasn't landed, and isn't landing
+-- so it isn't open, hasn't landed, isn't landing, and isn't tried
 module _ (events : List Event) (c : ℕ) (blank : Blank events c) where
   pub blank_landed : landed_back events c ≡ false
   blank_landed = ap (λ (ns : List ℕ). list_any (has_landed events) ns) blank.unstaged
 
   pub blank_landing : landing_back events c ≡ false
   blank_landing = ap (λ (ns : List ℕ). list_any (λ n. is_some (landing_with events n)) ns) blank.unstaged
+
+  pub blank_trying : trying_back events c ≡ false
+  blank_trying = ap (λ (b : Bool). b && not (landed_back events c)) blank.untried
 
   pub blank_phase : phase_back events c ≡ phase.Closed
   blank_phase = λ i. phase_by (blank_landed i) (blank.unsaid i)
@@ -44,7 +49,7 @@ abbrev pub Unseen : List Event → ℕ → Type 0
 Unseen events c = author_back events c ≡ None → Blank events c
 
 pub nothing_unseen : (c : ℕ) → Unseen [] c
-nothing_unseen c none = record { unsaid = refl; unstaged = refl; priority = refl; labels = refl; delegates = refl; last = refl }
+nothing_unseen c none = record { unsaid = refl; unstaged = refl; priority = refl; labels = refl; delegates = refl; last = refl; untried = refl }
 
 -- THE FIRST RULE of an act on a change: that the change is known, but for the act that opens it
 abbrev KnownOrOpened : Look → ℕ → Act → Type 0
@@ -111,6 +116,7 @@ left_unseen events event c other unnamed unseen none =
       labels = (λ i. labels_after events c r (other i)) ∙ blank.labels;
       delegates = (λ i. delegates_after events c r (other i)) ∙ blank.delegates;
       last = (λ i. repeat_after events c r (other i)) ∙ blank.last;
+      untried = (λ i. option_map_or try_said (other i) false || (not (try_ends c event events) && tried_back events c)) ∙ and_right (not (try_ends c event events)) (tried_back events c) blank.untried;
     }
 
 pub order_unseen : (events : List Event) (order : Order) (c : ℕ) → stage_naming c (gave order) ≡ None → Unseen events c → Unseen (gave order ∷ events) c

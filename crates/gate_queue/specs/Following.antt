@@ -5,19 +5,22 @@ use Rattle.std.specs.FinMap as finite
 use Rattle.std.specs.Option.{option_map_or}
 use Rattle.std.specs.Ordering.{int_eq}
 use Rattle.std.specs.Str.{bytes_eq}
-use Rattle.gate_queue.specs.Vocabulary.{Ping, Approve, ApproveFor, Withdraw, Priority, DelegateAuthor, DelegateTo, DelegateNone, Retry, last_command, look, Known, Change, State, Act, Spoken, Opened, Pushed, Closed, Labeled, Unlabeled, Review}
+use Rattle.gate_queue.specs.Vocabulary.{Ping, Approve, ApproveFor, Withdraw, Priority, Try, TryCancel, DelegateAuthor, DelegateTo, DelegateNone, Retry, last_command, look, Known, Change, State, Act, Spoken, Opened, Pushed, Closed, Labeled, Unlabeled, Review}
 use Rattle.gate_queue.specs.Machine.{denial, repeated, after, approved_on, priority_on, size_on, all_but, ends_approval, labeled, reviewed}
-use Rattle.gate_queue.specs.Queue.{enqueued, taken_out}
+use Rattle.gate_queue.specs.Queue.{enqueued, tried, taken_out}
 use Rattle.gate_queue.specs.State.{IsState}
-use Rattle.gate_queue.specs.declared.batch.Branch.TheVariants.{Staging}
+use Rattle.gate_queue.specs.declared.batch.Branch.TheVariants.{Staging, Trying}
 use Rattle.gate_queue.specs.declared.queue.Queue.{Queue}
 
--- the queue with a change under its priority, and without it
+-- the queue with a change under its priority, without it, and without it on either branch
 abbrev pub with : State → ℕ → Queue
 with s change = enqueued (size_on s.desk) (priority_on s.desk change) change s.queue
 
 abbrev pub without : State → ℕ → Queue
 without s change = taken_out Staging (all_but change) s.queue
+
+abbrev pub without_any : State → ℕ → Queue
+without_any s change = taken_out Trying (all_but change) (without s change)
 
 -- whether the change has this head; whether it is altered so that its approval ends
 abbrev pub has_head : State → ℕ → List ℕ → Bool
@@ -37,9 +40,12 @@ pub record ActByAct (s : State) (change : ℕ) : Type 0 where
   -- another priority of an approved change takes it out, and queues it anew
   pub priority : (person : List ℕ) (priority : ℤ) → Leaves s (Spoken change person (Known (Priority priority)))
       (if approved_on s.desk change && not (int_eq (priority_on s.desk change) priority) then enqueued (size_on s.desk) priority change (without s change) else s.queue)
-  -- another head takes it out, and so does that it is closed
-  pub pushed : (head : List ℕ) → Leaves s (Pushed change head) (if has_head s change head then s.queue else without s change)
-  pub closed : Leaves s (Closed change) (without s change)
+  -- `try` queues it on the other branch as a batch of its own, and `try-` takes it out there
+  pub try : (person : List ℕ) → Leaves s (Spoken change person (Known Try)) (tried change s.queue)
+  pub try_cancel : (person : List ℕ) → Leaves s (Spoken change person (Known TryCancel)) (taken_out Trying (all_but change) s.queue)
+  -- another head takes it out on both, and so does a closing
+  pub pushed : (head : List ℕ) → Leaves s (Pushed change head) (if has_head s change head then s.queue else without_any s change)
+  pub closed : Leaves s (Closed change) (without_any s change)
   -- a label or a review takes it out if it ends the approval
   pub labeled : (label : List ℕ) → Leaves s (Labeled change label) (if is_ended s change (labeled s.desk.settings label) then without s change else s.queue)
   pub reviewed : (person head : List ℕ) (approves : Bool) →

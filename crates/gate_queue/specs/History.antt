@@ -7,14 +7,15 @@ use Rattle.std.specs.List.{fold, filter_map, list_any, count_by, All}
 use Rattle.std.specs.Option.{option_flatten, unwrap_or, option_or, option_map, option_map_or, option_and_then}
 use Rattle.std.specs.Result.{result_ok}
 use Rattle.std.specs.Str.{bytes_eq}
-use Rattle.gate_queue.specs.Vocabulary.{SettingsView, settings_of, same_settings, Approve, ApproveFor, Withdraw, Priority, DelegateAuthor, DelegateTo, DelegateNone, Known, Look, Texts, is_fit, DeskView, role_on, Change, Phase, Repeat, Nobody, RoleOf, Rule, Act, Spoken, Role, Settings, Base, Opened, Pushed, Closed, Labeled, Unlabeled, Review, Staged, Status, Refused, Tick, StatusState, Success, Failure, Error, Pending, Order, Stage, Land, Notice, Reply, Done, Denied, Why, State}
+use Rattle.gate_queue.specs.Vocabulary.{SettingsView, settings_of, same_settings, Approve, ApproveFor, Withdraw, Priority, Try, TryCancel, DelegateAuthor, DelegateTo, DelegateNone, Known, Look, Texts, is_fit, DeskView, role_on, Change, Phase, Repeat, Nobody, RoleOf, Rule, Act, Spoken, Role, Settings, Base, Opened, Pushed, Closed, Labeled, Unlabeled, Review, Staged, Status, Refused, Tick, StatusState, Success, Failure, Error, Pending, Order, Stage, Land, Notice, Reply, Done, Denied, Why, State}
 use Rattle.gate_rules.specs.declared.change.Phase.TheVariants as phase
 use Rattle.gate_rules.specs.declared.change.Repeat.TheVariants as repeat
 use Rattle.gate_queue.specs.Acts.{on}
 use Rattle.gate_queue.specs.Counts.{held, in_landing, of_any_priority}
 use Rattle.gate_queue.specs.Machine.{IsEmpty, broken, missing, meaning, Step}
 use Rattle.gate_queue.specs.State.{IsState}
-use Rattle.gate_queue.specs.declared.batch.Branch.TheVariants.{Staging}
+use Rattle.gate_queue.specs.declared.batch.Branch.{Branch}
+use Rattle.gate_queue.specs.declared.batch.Branch.TheVariants.{Staging, Trying}
 use Rattle.gate_queue.specs.declared.reply.Head.{Head}
 use Rattle.gate_queue.specs.declared.reply.Why.TheVariants as why
 
@@ -177,10 +178,11 @@ priority_said _ = None
 abbrev pub priority_back : List Event → ℕ → ℤ
 priority_back events change = unwrap_or (last_of (said_on change priority_said) events) (pos 0)
 
--- the last `r+` or `r=`
+-- the last `r+`, `r=` or `try`
 abbrev pub repeat_said : Act → Option Repeat
 repeat_said (Spoken change person (Known Approve)) = Some repeat.Approve
 repeat_said (Spoken change person (Known (ApproveFor names))) = Some (repeat.ApproveFor names)
+repeat_said (Spoken change person (Known Try)) = Some repeat.Try
 repeat_said _ = None
 
 abbrev pub repeat_back : List Event → ℕ → Option Repeat
@@ -267,6 +269,8 @@ ends_why why.Closed = false
 ends_why why.Labeled = false
 ends_why why.Reviews = false
 ends_why why.Settings = false
+ends_why why.TryPassed = false
+ends_why why.TryFailed = false
 
 abbrev pub order_ends : ℕ → Order → Bool
 order_ends change (Notice other why) = ends_why why && (change == other)
@@ -289,7 +293,49 @@ standing_back events change = since
 abbrev pub approvers_back : List Event → ℕ → Option (List (List ℕ))
 approvers_back events change = if standing_back events change then last_of (said_on change approval_said) events else None
 
--- A CHANGE that was opened, with all that the history says of it; none is tried yet
+-- TRIES
+abbrev pub try_said : Act → Bool
+try_said (Spoken change person (Known Try)) = true
+try_said _ = false
+
+abbrev pub try_starts : ℕ → Event → List Event → Bool
+try_starts change event before = option_map_or try_said (done_to change event) false
+
+-- what ends one: `try-`, a head move, that the change is closed, and the notice that it has passed or failed
+abbrev pub ends_its_try : ℕ → List Event → Act → Bool
+ends_its_try change before (Spoken other person (Known TryCancel)) = true
+ends_its_try change before (Closed other) = true
+ends_its_try change before act = moves_head change before act
+
+abbrev pub tells_of_try : Why → Bool
+tells_of_try why.Conflict = false
+tells_of_try (why.Failed name) = false
+tells_of_try why.TimedOut = false
+tells_of_try why.Pushed = false
+tells_of_try why.Closed = false
+tells_of_try why.Labeled = false
+tells_of_try why.Reviews = false
+tells_of_try why.Settings = false
+tells_of_try why.TryPassed = true
+tells_of_try why.TryFailed = true
+
+abbrev pub order_ends_try : ℕ → Order → Bool
+order_ends_try change (Notice other why) = tells_of_try why && (change == other)
+order_ends_try change (Stage batch branch base heads) = false
+order_ends_try change (Land batch base commit) = false
+
+abbrev pub try_ends : ℕ → Event → List Event → Bool
+try_ends change (did act) before = option_map_or (ends_its_try change before) (on change act) false
+try_ends change (gave order) before = order_ends_try change order
+
+abbrev pub tried_back : List Event → ℕ → Bool
+tried_back events change = since (try_starts change) (λ event before. not (try_ends change event before)) events
+
+-- A change is tried since a `try` that nothing has ended, unless it has landed.
+abbrev pub trying_back : List Event → ℕ → Bool
+trying_back events change = tried_back events change && not (landed_back events change)
+
+-- A CHANGE that was opened, with all that the history says of it
 abbrev pub change_of : List Event → ℕ → List ℕ → Change
 change_of events change author = record {
   author = author;
@@ -300,7 +346,7 @@ change_of events change author = record {
   reviews = reviews_back events change;
   delegates = delegates_back events change;
   approved = approvers_back events change;
-  trying = false;
+  trying = trying_back events change;
   landing = landing_back events change;
   last = repeat_back events change;
 }
@@ -448,9 +494,19 @@ pub record IsRightLanding (events : List Event) (act : Act) (number : ℕ) (base
   pub tested : IsTested events number base commit
   pub ready : All (IsReadyToLand events number) (heads_back events number)
 
--- An order to stage names the present base, and changes that stand, at their heads; they have one priority.
+-- a change that is staged on the other branch is tried, at its present head
+pub record IsTriedAt (events : List Event) (staged : Head) : Type 0 where
+  pub trying : trying_back events staged.change ≡ true
+  pub head : head_back events staged.change ≡ staged.head
+
+-- On `Staging` all heads are of changes that stand, and these have one priority; on `Trying` it is the head of one change alone.
+abbrev pub AreRightHeads : List Event → Branch → List Head → Type 0
+AreRightHeads events Staging heads = (priority : ℤ) × All (IsStandingAt events priority) heads
+AreRightHeads events Trying heads = (one : Head) × (heads ≡ one ∷ []) × IsTriedAt events one
+
+-- An order to stage names the present base and right heads.
 abbrev pub IsRightOrder : List Event → Act → Order → Type 0
-IsRightOrder events act (Stage batch branch base heads) = (base_back events ≡ Some base) × ((priority : ℤ) × All (IsStandingAt events priority) heads)
+IsRightOrder events act (Stage batch branch base heads) = (base_back events ≡ Some base) × AreRightHeads events branch heads
 IsRightOrder events act (Land batch base commit) = IsRightLanding events act batch base commit
 IsRightOrder events act (Notice change why) = ⊤
 
@@ -508,7 +564,7 @@ pub record EntryTells (history : List Entry) (old : State) (entry : Entry) (new 
   pub base : new.desk.base ≡ base_back (events_of (entry ∷ history))
   pub clock : new.desk.clock ≡ clock_back (events_of (entry ∷ history))
   -- a change is there exactly if it was opened; then its author, head, phase, priority, labels, reviews, delegates, its last
-  -- command, and whether it is landing, are those of the history
+  -- command, and whether it is tried or landing, are those of the history
   pub changes : (change : ℕ) → finite.get new.desk.changes change ≡ change_back (events_of (entry ∷ history)) change
   -- a change has approvers exactly if it is standing, and then those of its last approval
   pub approvers : (change : ℕ) → approvers_on new.desk change ≡ approvers_back (events_of (entry ∷ history)) change
@@ -517,6 +573,8 @@ pub record EntryTells (history : List Entry) (old : State) (entry : Entry) (new 
   pub queued : (change : ℕ) → held of_any_priority change new.queue.staging
       ≡ (if standing_back (events_of (entry ∷ history)) change || landing_back (events_of (entry ∷ history)) change then 1 else 0)
   pub landing : (change : ℕ) → in_landing of_any_priority change new.queue.staging ≡ (if landing_back (events_of (entry ∷ history)) change then 1 else 0)
+  -- it is in exactly one batch on trying if it is tried, and in none if it isn't
+  pub tried : (change : ℕ) → held of_any_priority change new.queue.trying ≡ (if trying_back (events_of (entry ∷ history)) change then 1 else 0)
   -- no number was staged twice, and none was to land twice; each order is right
   pub staged_once : (number : ℕ) → stages number (events_of (entry ∷ history)) ≤ 1
   pub landed_once : (number : ℕ) → landings number (events_of (entry ∷ history)) ≤ 1

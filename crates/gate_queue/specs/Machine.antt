@@ -1,5 +1,6 @@
 -- THE MACHINE: what one act is answered on a state, and the state after it.
 use Rattle.std.specs.Prelude.{◌≡◌, ◌==◌, ◌-◌, ◌++◌, ℕ, ℤ, pos, nat_le, not, Bool, true, false, ◌&&◌, ◌||◌, ⊤, List, [], ◌∷◌, map, slice_get, Option, Some, None, Result, Ok, Err, is_some, is_none, if◌then◌else◌}
+use Rattle.std.proofs.Math.Bool.{beq}
 use Rattle.std.specs.Cmp.Lexicographic.{slice_cmp}
 use Rattle.std.specs.FinMap as finite
 use Rattle.std.specs.FinMap.{FinMap}
@@ -8,19 +9,21 @@ use Rattle.std.specs.List.{fold, filter_map, list_all, list_any}
 use Rattle.std.specs.Option.{option_map, option_map_or, option_and_then, option_or}
 use Rattle.std.specs.Ordering.{int_eq, nat_cmp}
 use Rattle.std.specs.Str.{bytes_eq}
-use Rattle.gate_queue.specs.Vocabulary.{SettingsView, settings_of, fault_number, same_settings, Command, Ping, Approve, ApproveFor, Withdraw, Priority, Try, TryCancel, DelegateAuthor, DelegateTo, DelegateNone, Retry, Known, Unknown, SpokenOf, SettingsFault, Look, asks, last_command, is_known, is_open, is_landed, is_member, is_blocked, has_too_few_reviews, first_failing, DeskView, empty_desk, with_role, with_change, with_settings, with_base, with_clock, with_ended, numbers_where, ended_if, without_approval, look, Change, Repeat, Nobody, Rule, UnknownChange, NotOpen, AlreadyOpen, ChangeLanded, StaleHead, NotMember, OwnChange, BadSettings, ClockBack, NoSuchBatch, SameAsBase, Act, Spoken, Role, Settings, Base, Opened, Pushed, Closed, Labeled, Unlabeled, Review, Staged, Conflict, Status, Refused, Tick, StatusState, Success, Failure, Error, Pending, Order, Stage, Land, Notice, Reply, Done, Denied, Why, State, Outcome}
+use Rattle.gate_queue.specs.Vocabulary.{SettingsView, settings_of, fault_number, same_settings, Command, Ping, Approve, ApproveFor, Withdraw, Priority, Try, TryCancel, DelegateAuthor, DelegateTo, DelegateNone, Retry, Known, Unknown, SettingsFault, Look, asks, last_command, is_known, is_open, is_landed, is_member, is_blocked, has_too_few_reviews, first_failing, DeskView, empty_desk, with_role, with_change, with_settings, with_base, with_clock, with_ended, numbers_where, ended_if, without_approval, look, Change, Repeat, Nobody, Rule, UnknownChange, NotOpen, AlreadyOpen, ChangeLanded, StaleHead, NotMember, OwnChange, BadSettings, ClockBack, NoSuchBatch, SameAsBase, Act, Spoken, Role, Settings, Base, Opened, Pushed, Closed, Labeled, Unlabeled, Review, Staged, Conflict, Status, Refused, Tick, StatusState, Success, Failure, Error, Pending, Order, Stage, Land, Notice, Reply, Done, Denied, Why, State, Outcome}
 use Rattle.gate_rules.specs.Rules as rules
 use Rattle.gate_rules.specs.declared.change.Phase.TheVariants as phase
 use Rattle.gate_rules.specs.declared.change.Repeat.TheVariants as repeat
 use Rattle.gate_queue.specs.Acts.{subject}
 use Rattle.gate_queue.specs.Lanes as lanes
-use Rattle.gate_queue.specs.Queue.{empty_queue, enqueued, taken_out, restarted, requeued, staged, failed, started, reported, landing}
+use Rattle.gate_queue.specs.Queue.{empty_queue, lane_of, enqueued, tried, taken_out, restarted, requeued, staged, failed, started, reported, landing, dropped}
 use Rattle.gate_queue.specs.declared.batch.Batch.{Batch}
-use Rattle.gate_queue.specs.declared.batch.Branch.TheVariants.{Staging}
+use Rattle.gate_queue.specs.declared.batch.Branch.{Branch}
+use Rattle.gate_queue.specs.declared.batch.Branch.TheVariants.{Staging, Trying}
 use Rattle.gate_queue.specs.declared.batch.Report.{Report}
 use Rattle.gate_queue.specs.declared.batch.Report.TheVariants as report
 use Rattle.gate_queue.specs.declared.batch.Stage.{Stage as StageOf}
 use Rattle.gate_queue.specs.declared.batch.Stage.TheVariants as stage
+use Rattle.gate_queue.specs.declared.lane.Lane.{Lane}
 use Rattle.gate_queue.specs.declared.queue.Queue.{Queue}
 use Rattle.gate_queue.specs.declared.reply.Head.{Head}
 use Rattle.gate_queue.specs.declared.reply.Why.TheVariants as why
@@ -62,15 +65,9 @@ review_row s change person head =
     ∷ asks (not (is_author s change person)) OwnChange
     ∷ [])
 
--- `try` and `try-` are still to come: a line that says so counts as no command.
-abbrev pub understood : SpokenOf → SpokenOf
-understood (Known Try) = Unknown
-understood (Known TryCancel) = Unknown
-understood spoken = spoken
-
 -- what an act is judged by, in order
 abbrev pub row : Look → Act → List (Option Rule)
-row s (Spoken change person spoken) = rules.line_row s person change (understood spoken)
+row s (Spoken change person spoken) = rules.line_row s person change spoken
 row s (Role person role) = []
 row s (Settings text) = bad_settings (settings_of text) ∷ []
 row s (Base commit) = asks (not (is_base s commit)) SameAsBase ∷ []
@@ -90,7 +87,7 @@ row s (Tick now) = asks (nat_le s.clock now) ClockBack ∷ []
 abbrev pub broken : Look → Act → Option Rule
 broken s act = first_failing (row s act)
 
--- News of a batch is judged by this before: the running batch has the number, or the commit, and is where the news needs it.
+-- News of a batch is judged by this before: a running batch has the number, or the commit, and is where the news needs it.
 abbrev pub is_ordered : StageOf → Bool
 is_ordered stage.Waiting = false
 is_ordered (stage.Ordered since) = true
@@ -103,23 +100,27 @@ is_staged_with commit (stage.Ordered since) = false
 is_staged_with commit (stage.Staged since other reports) = bytes_eq commit other
 is_staged_with commit (stage.Landing other) = false
 
-abbrev pub has_running : (Batch → Bool) → Queue → Bool
-has_running test queue = option_map_or test queue.staging.running false
+abbrev pub has_running : (Batch → Bool) → Lane → Bool
+has_running test lane = option_map_or test lane.running false
 
-abbrev pub has_ordered : ℕ → Queue → Bool
-has_ordered number queue = has_running (λ batch. (number == batch.number) && is_ordered batch.stage) queue
+abbrev pub has_ordered : ℕ → Lane → Bool
+has_ordered number lane = has_running (λ batch. (number == batch.number) && is_ordered batch.stage) lane
 
-abbrev pub has_staged : List ℕ → Queue → Bool
-has_staged commit queue = has_running (λ batch. is_staged_with commit batch.stage) queue
+abbrev pub has_staged : List ℕ → Lane → Bool
+has_staged commit lane = has_running (λ batch. is_staged_with commit batch.stage) lane
 
-abbrev pub has_landing : ℕ → Queue → Bool
-has_landing number queue = has_running (λ batch. (number == batch.number) && lanes.is_landing batch.stage) queue
+abbrev pub has_landing : ℕ → Lane → Bool
+has_landing number lane = has_running (λ batch. (number == batch.number) && lanes.is_landing batch.stage) lane
 
+abbrev pub on_either : (Lane → Bool) → Queue → Bool
+on_either test queue = test queue.staging || test queue.trying
+
+-- Tries don't land.
 abbrev pub missing : Queue → Act → Option Rule
-missing queue (Staged batch commit) = asks (has_ordered batch queue) NoSuchBatch
-missing queue (Conflict batch) = asks (has_ordered batch queue) NoSuchBatch
-missing queue (Status commit name state) = asks (has_staged commit queue) NoSuchBatch
-missing queue (Refused batch) = asks (has_landing batch queue) NoSuchBatch
+missing queue (Staged batch commit) = asks (on_either (has_ordered batch) queue) NoSuchBatch
+missing queue (Conflict batch) = asks (on_either (has_ordered batch) queue) NoSuchBatch
+missing queue (Status commit name state) = asks (on_either (has_staged commit) queue) NoSuchBatch
+missing queue (Refused batch) = asks (has_landing batch queue.staging) NoSuchBatch
 missing queue act = None
 
 -- the rule that denies an act, if one does
@@ -132,12 +133,11 @@ RefusalMayWantMemory (Settings text) rule = ⊤
 RefusalMayWantMemory act rule = rules.MayWantMemory rule
 
 -- WHAT AN ACT MEANS: `retry` is the command that it repeats, by the person who writes it. With nothing to repeat it never acts.
--- A `try` is still to come, so no history has one to repeat.
 abbrev pub repeated : Option Repeat → Command
 repeated None = Retry
 repeated (Some repeat.Approve) = Approve
 repeated (Some (repeat.ApproveFor names)) = ApproveFor names
-repeated (Some repeat.Try) = Retry
+repeated (Some repeat.Try) = Try
 
 abbrev pub meant : Look → ℕ → Command → Command
 meant s change Retry = repeated (last_command s change)
@@ -150,6 +150,12 @@ meaning s act = act
 -- WHAT AN ACT DOES TO ITS CHANGE
 abbrev pub approved_by : List (List ℕ) → Repeat → Change → Change
 approved_by approvers last change = record change { approved = Some approvers; last = Some last }
+
+abbrev pub with_try : Change → Change
+with_try change = record change { trying = true; last = Some repeat.Try }
+
+abbrev pub without_try : Change → Change
+without_try change = record change { trying = false }
 
 abbrev pub with_priority : ℤ → Change → Change
 with_priority priority change = record change { priority = priority }
@@ -178,20 +184,20 @@ just_opened author head = record {
   last = None;
 }
 
--- Opened again, a change keeps all but its author, its head and its reviews.
+-- Opened again, a change keeps all but its author, its head and its reviews. It wasn't open, so it isn't tried.
 abbrev pub opened : List ℕ → List ℕ → Option Change → Change
 opened author head None = just_opened author head
-opened author head (Some change) = record change { author = author; head = head; phase = phase.Opened; reviews = set.empty }
+opened author head (Some change) = record change { author = author; head = head; phase = phase.Opened; reviews = set.empty; trying = false }
 
--- Another head ends the reviews and the approval; the same head does nothing.
+-- Another head ends the reviews, the approval and the try; the same head does nothing.
 abbrev pub moved_to : List ℕ → Change → Change
-moved_to head change = record change { head = head; reviews = set.empty; approved = None }
+moved_to head change = record change { head = head; reviews = set.empty; approved = None; trying = false }
 
 abbrev pub pushed : List ℕ → Change → Change
 pushed head change = if bytes_eq change.head head then change else moved_to head change
 
 abbrev pub closed : Change → Change
-closed change = record change { phase = phase.Closed; approved = None }
+closed change = record change { phase = phase.Closed; approved = None; trying = false }
 
 -- the approval ends if the settings, if there are any, are against it
 abbrev pub unless_against : (SettingsView → Change → Bool) → Option SettingsView → Change → Change
@@ -241,18 +247,18 @@ abbrev pub are_present : DeskView → SettingsView → Bool
 are_present desk settings = option_map_or (λ present. same_settings present settings) desk.settings false
 
 -- AN ACT ABOUT A CHANGE, on the desk and if no rule denies it
--- `ping` does nothing. An unknown line never acts, and neither do `try` and `try-` yet; a `retry` acts as what it repeats.
+-- `ping` does nothing. An unknown line never acts, and a `retry` acts as what it repeats.
 abbrev pub command_effect : DeskView → List ℕ → ℕ → Command → DeskView
 command_effect desk person change Approve = altered desk change (approved_by (person ∷ []) repeat.Approve)
 command_effect desk person change (ApproveFor names) = altered desk change (approved_by names (repeat.ApproveFor names))
 command_effect desk person change Withdraw = altered desk change without_approval
+command_effect desk person change Try = altered desk change with_try
+command_effect desk person change TryCancel = altered desk change without_try
 command_effect desk person change (Priority priority) = altered desk change (with_priority priority)
 command_effect desk person change DelegateAuthor = altered desk change with_author_as_delegate
 command_effect desk person change (DelegateTo names) = altered desk change (with_delegates names)
 command_effect desk person change DelegateNone = altered desk change without_delegates
 command_effect desk person change Ping = desk
-command_effect desk person change Try = desk
-command_effect desk person change TryCancel = desk
 command_effect desk person change Retry = desk
 
 abbrev pub effect : DeskView → Act → DeskView
@@ -267,29 +273,39 @@ effect desk (Review change person head approves) = altered desk change (reviewed
 -- the others are about no change
 effect desk act = desk
 
--- Its notices: one if the change was approved and no longer is; `r-` gives none.
+-- Its notices: one if the change was approved and no longer is, or was tried and no longer is; `r-` and `try-` give none.
 abbrev pub notice_if : Bool → ℕ → Why → List Order
 notice_if ends number why = if ends then Notice number why ∷ [] else []
 
 abbrev pub ends_approval : (Change → Change) → Change → Bool
 ends_approval alter change = is_some change.approved && not (is_some (alter change).approved)
 
-abbrev pub notice_of : DeskView → ℕ → Why → (Change → Change) → List Order
-notice_of desk number why alter = notice_if (option_map_or (ends_approval alter) (finite.get desk.changes number) false) number why
+abbrev pub ends_try : (Change → Change) → Change → Bool
+ends_try alter change = change.trying && not (alter change).trying
+
+abbrev pub ends_either : (Change → Change) → Change → Bool
+ends_either alter change = ends_approval alter change || ends_try alter change
+
+abbrev pub notice_of : DeskView → ℕ → Why → (Change → Bool) → List Order
+notice_of desk number why ends = notice_if (option_map_or ends (finite.get desk.changes number) false) number why
 
 abbrev pub notices : DeskView → Act → List Order
-notices desk (Pushed change head) = notice_of desk change why.Pushed (pushed head)
-notices desk (Closed change) = notice_of desk change why.Closed closed
-notices desk (Labeled change label) = notice_of desk change why.Labeled (labeled desk.settings label)
-notices desk (Review change person head approves) = notice_of desk change why.Reviews (reviewed desk.settings person approves)
+notices desk (Pushed change head) = notice_of desk change why.Pushed (ends_either (pushed head))
+notices desk (Closed change) = notice_of desk change why.Closed (ends_either closed)
+notices desk (Labeled change label) = notice_of desk change why.Labeled (ends_approval (labeled desk.settings label))
+notices desk (Review change person head approves) = notice_of desk change why.Reviews (ends_approval (reviewed desk.settings person approves))
 notices desk act = []
 
--- THE QUEUE FOLLOWS what an act does to one change: it sees whether the change was approved and is, and its priority.
+-- THE QUEUE FOLLOWS what an act does to one change: it sees whether the change was approved and is, and its priority; and whether
+-- it was tried and is.
 abbrev pub approved_on : DeskView → ℕ → Bool
 approved_on desk change = rules.is_approved (look desk) change
 
 abbrev pub landing_on : DeskView → ℕ → Bool
 landing_on desk change = rules.is_landing (look desk) change
+
+abbrev pub trying_on : DeskView → ℕ → Bool
+trying_on desk change = rules.is_trying (look desk) change
 
 abbrev pub priority_on : DeskView → ℕ → ℤ
 priority_on desk change = option_map_or (λ (c : Change). c.priority) (finite.get desk.changes change) (pos 0)
@@ -308,9 +324,19 @@ followed true false moved size priority change queue = taken_out Staging (all_bu
 followed true true false size priority change queue = queue
 followed true true true size priority change queue = enqueued size priority change (taken_out Staging (all_but change) queue)
 
-abbrev pub followed_on : DeskView → DeskView → ℕ → Queue → Queue
-followed_on old new change queue =
+-- What is tried from now on has a batch of its own on the other branch, and what no longer is is taken out.
+abbrev pub tried_by : Bool → Bool → ℕ → Queue → Queue
+tried_by false false change queue = queue
+tried_by false true change queue = tried change queue
+tried_by true false change queue = taken_out Trying (all_but change) queue
+tried_by true true change queue = queue
+
+abbrev pub approval_followed : DeskView → DeskView → ℕ → Queue → Queue
+approval_followed old new change queue =
     followed (approved_on old change) (approved_on new change) (not (int_eq (priority_on old change) (priority_on new change))) (size_on new) (priority_on new change) change queue
+
+abbrev pub followed_on : DeskView → DeskView → ℕ → Queue → Queue
+followed_on old new change queue = tried_by (trying_on old change) (trying_on new change) change (approval_followed old new change queue)
 
 -- WHAT AN ACT COMES TO: the state after it, and its orders
 abbrev pub quiet : State → Outcome
@@ -334,9 +360,9 @@ about s change act = record {
 }
 
 -- NEW SETTINGS take the place of the present ones, and end the approvals that they are against. The queue loses what isn't
--- approved any longer, and then the running batch waits again.
+-- approved any longer, and then the running batches wait again.
 abbrev pub resettled : DeskView → Queue → Queue
-resettled desk queue = restarted Staging (taken_out Staging (approved_on desk) queue)
+resettled desk queue = restarted Trying (restarted Staging (taken_out Staging (approved_on desk) queue))
 
 abbrev pub settings_notices : List ℕ → List Order
 settings_notices numbers = map (λ number. Notice number why.Settings) numbers
@@ -359,9 +385,9 @@ abbrev pub lone : Option Batch → Option ℕ
 lone None = None
 lone (Some batch) = if lanes.has_several batch then None else slice_get batch.changes 0
 
-abbrev pub without_lone : DeskView → Option ℕ → DeskView
-without_lone desk None = desk
-without_lone desk (Some change) = altered desk change without_approval
+abbrev pub lone_altered : (Change → Change) → DeskView → Option ℕ → DeskView
+lone_altered alter desk None = desk
+lone_altered alter desk (Some change) = altered desk change alter
 
 abbrev pub lone_notices : Why → Option ℕ → List Order
 lone_notices why None = []
@@ -369,12 +395,20 @@ lone_notices why (Some change) = Notice change why ∷ []
 
 abbrev pub failing : Why → State → Outcome
 failing why s = record {
-  state = record { desk = without_lone s.desk (lone s.queue.staging.running); queue = failed Staging s.queue };
+  state = record { desk = lone_altered without_approval s.desk (lone s.queue.staging.running); queue = failed Staging s.queue };
   orders = lone_notices why (lone s.queue.staging.running);
 }
 
--- A STATUS of the commit that is tested: one that isn't required does nothing. One that has failed fails the batch. Another
--- takes the place of the last report of that name; and if all required names now report a success, the batch is to land.
+-- A TRY ENDS, well or not: its batch is dropped, its change is no longer tried, and a notice says so.
+abbrev pub try_ended : Why → State → Outcome
+try_ended why s = record {
+  state = record { desk = lone_altered without_try s.desk (lone s.queue.trying.running); queue = dropped Trying s.queue };
+  orders = lone_notices why (lone s.queue.trying.running);
+}
+
+-- A STATUS of a commit that is tested: one that isn't required does nothing. One that has failed fails the batch. Another
+-- takes the place of the last report of that name; and if all required names now report a success, the batch is to land, or
+-- the try has passed. If a batch of each branch was staged with the commit, that on `Staging` comes first.
 abbrev pub is_required : Option SettingsView → List ℕ → Bool
 is_required settings name = option_map_or (λ (s : SettingsView). list_any (bytes_eq name) s.status) settings false
 
@@ -425,14 +459,36 @@ told_of name Pending s = goes_on name report.Pending s
 told_of name Failure s = failing (why.Failed name) s
 told_of name Error s = failing (why.Failed name) s
 
-abbrev pub told : List ℕ → StatusState → State → Outcome
-told name state s = if is_required s.desk.settings name then told_of name state s else quiet s
+abbrev pub told_staging : List ℕ → List ℕ → StatusState → State → Outcome
+told_staging commit name state s = if has_staged commit s.queue.staging then told_of name state s else quiet s
+
+abbrev pub try_if_passed : State → Option Batch → Outcome
+try_if_passed s None = quiet s
+try_if_passed s (Some batch) = if has_passed s.desk.settings batch.stage then try_ended why.TryPassed s else quiet s
+
+abbrev pub try_goes_on : List ℕ → Report → State → Outcome
+try_goes_on name report s =
+    let after = with_queue s (reported Trying name report s.queue) in
+    try_if_passed after after.queue.trying.running
+
+abbrev pub try_told_of : List ℕ → StatusState → State → Outcome
+try_told_of name Success s = try_goes_on name report.Success s
+try_told_of name Pending s = try_goes_on name report.Pending s
+try_told_of name Failure s = try_ended why.TryFailed s
+try_told_of name Error s = try_ended why.TryFailed s
+
+abbrev pub told_trying : List ℕ → List ℕ → StatusState → State → Outcome
+told_trying commit name state s = if has_staged commit s.queue.trying then try_told_of name state s else quiet s
+
+abbrev pub told : List ℕ → List ℕ → StatusState → State → Outcome
+told commit name state s =
+    if is_required s.desk.settings name then then_next (told_staging commit name state s) (told_trying commit name state) else quiet s
 
 -- THE RUNNING BATCH GOES BACK: the base is new, or the host refuses to land it. If it was landing, its changes no longer are;
 -- they have landed if the new base is the commit that was to land. Those of its changes that are approved then wait again, which
--- is all of them if it wasn't landing.
+-- is all of them if it wasn't landing. What has landed isn't tried any longer; all other tries go on.
 abbrev pub landed : Change → Change
-landed change = record change { phase = phase.Landed; approved = None; landing = false }
+landed change = record change { phase = phase.Landed; approved = None; landing = false; trying = false }
 
 abbrev pub released : Option (List ℕ) → List ℕ → Change → Change
 released None commit change = with_landing false change
@@ -453,24 +509,43 @@ sent_back base s =
     let desk = released_on base s.desk s.queue.staging.running in
     record { desk = desk; queue = requeued Staging (approved_on desk) s.queue }
 
+abbrev pub is_landing_with : List ℕ → StageOf → Bool
+is_landing_with commit stage.Waiting = false
+is_landing_with commit (stage.Ordered since) = false
+is_landing_with commit (stage.Staged since other reports) = false
+is_landing_with commit (stage.Landing other) = bytes_eq commit other
+
+abbrev pub lands_with : List ℕ → Lane → Bool
+lands_with commit lane = has_running (λ batch. is_landing_with commit batch.stage) lane
+
+abbrev pub tries_left : Bool → DeskView → Queue → Queue
+tries_left true desk queue = taken_out Trying (trying_on desk) queue
+tries_left false desk queue = queue
+
 abbrev pub rebased : List ℕ → State → State
 rebased base s =
     let back = sent_back (Some base) s in
-    with_desk back (with_base back.desk base)
+    record { desk = with_base back.desk base; queue = tries_left (lands_with base s.queue.staging) back.desk back.queue }
 
--- A TICK sets the clock. The running batch fails if it has taken too long. Then the first waiting batch is ordered, if none
--- runs.
+-- A TICK sets the clock. On each branch, the running batch fails if it has taken too long. Then, on each branch, the first
+-- waiting batch is ordered, if none runs.
 abbrev pub is_overdue : Option SettingsView → ℕ → StageOf → Bool
 is_overdue settings now stage.Waiting = false
 is_overdue settings now (stage.Ordered since) = option_map_or (λ (s : SettingsView). nat_le s.timeout_sec (now - since)) settings false
 is_overdue settings now (stage.Staged since commit reports) = option_map_or (λ (s : SettingsView). nat_le s.timeout_sec (now - since)) settings false
 is_overdue settings now (stage.Landing commit) = false
 
-abbrev pub has_overdue : ℕ → State → Bool
-has_overdue now s = has_running (λ batch. is_overdue s.desk.settings now batch.stage) s.queue
+abbrev pub has_overdue : ℕ → Option SettingsView → Lane → Bool
+has_overdue now settings lane = has_running (λ batch. is_overdue settings now batch.stage) lane
 
 abbrev pub timed_out : ℕ → State → Outcome
-timed_out now s = if has_overdue now s then failing why.TimedOut s else quiet s
+timed_out now s = if has_overdue now s.desk.settings s.queue.staging then failing why.TimedOut s else quiet s
+
+abbrev pub try_timed_out : ℕ → State → Outcome
+try_timed_out now s = if has_overdue now s.desk.settings s.queue.trying then try_ended why.TryFailed s else quiet s
+
+abbrev pub ended_on_time : ℕ → State → Outcome
+ended_on_time now s = then_next (timed_out now s) (try_timed_out now)
 
 abbrev pub head_on : DeskView → ℕ → Option Head
 head_on desk change = option_map (λ (c : Change). record { change = change; head = c.head }) (finite.get desk.changes change)
@@ -478,16 +553,30 @@ head_on desk change = option_map (λ (c : Change). record { change = change; hea
 abbrev pub stage_order : DeskView → Batch → List Order
 stage_order desk batch = option_map_or (λ base. Stage batch.number batch.branch base (filter_map (head_on desk) batch.changes) ∷ []) desk.base []
 
-abbrev pub stage_orders : DeskView → Option Batch → List Batch → List Order
-stage_orders desk None (batch ∷ waiting) = stage_order desk batch
-stage_orders desk None [] = []
-stage_orders desk (Some batch) waiting = []
+abbrev pub first_order : DeskView → Option Batch → List Batch → List Order
+first_order desk None (batch ∷ waiting) = stage_order desk batch
+first_order desk None [] = []
+first_order desk (Some batch) waiting = []
 
-abbrev pub starting : ℕ → State → Outcome
-starting now s = record {
-  state = with_queue s (started Staging now s.queue);
-  orders = stage_orders s.desk s.queue.staging.running s.queue.staging.waiting;
+abbrev pub stage_orders : DeskView → Lane → List Order
+stage_orders desk lane = first_order desk lane.running lane.waiting
+
+abbrev pub starting : Branch → ℕ → State → Outcome
+starting branch now s = record {
+  state = with_queue s (started branch now s.queue);
+  orders = stage_orders s.desk (lane_of branch s.queue);
 }
+
+abbrev pub all_starting : ℕ → State → Outcome
+all_starting now s = then_next (starting Staging now s) (starting Trying now)
+
+-- NEWS OF A BATCH THAT WAS ORDERED, on the branch on which it was
+abbrev pub ordered_on : ℕ → Queue → Branch
+ordered_on number queue = if has_ordered number queue.staging then Staging else Trying
+
+abbrev pub given_up : Branch → State → Outcome
+given_up Staging s = failing why.Conflict s
+given_up Trying s = try_ended why.TryFailed s
 
 -- ANY ACT that no rule denies
 abbrev pub done : State → Act → Outcome
@@ -501,11 +590,11 @@ done s (Closed change) = about s change (Closed change)
 done s (Labeled change label) = about s change (Labeled change label)
 done s (Unlabeled change label) = about s change (Unlabeled change label)
 done s (Review change person head approves) = about s change (Review change person head approves)
-done s (Staged batch commit) = quiet (with_queue s (staged Staging s.desk.clock commit s.queue))
-done s (Conflict batch) = failing why.Conflict s
-done s (Status commit name state) = told name state s
+done s (Staged batch commit) = quiet (with_queue s (staged (ordered_on batch s.queue) s.desk.clock commit s.queue))
+done s (Conflict batch) = given_up (ordered_on batch s.queue) s
+done s (Status commit name state) = told commit name state s
 done s (Refused batch) = quiet (sent_back None s)
-done s (Tick now) = then_next (timed_out now (with_desk s (with_clock s.desk now))) (starting now)
+done s (Tick now) = then_next (ended_on_time now (with_desk s (with_clock s.desk now))) (all_starting now)
 
 -- WHAT TAKES NO MEMORY: an act that adds nothing to a list, a set or a map, and gives no order
 abbrev pub CommandTakesNoMemory : Command → Type 0
@@ -517,7 +606,7 @@ CommandTakesNoMemory Approve = ⊥
 CommandTakesNoMemory (ApproveFor names) = ⊥
 CommandTakesNoMemory DelegateAuthor = ⊥
 CommandTakesNoMemory (DelegateTo names) = ⊥
-CommandTakesNoMemory Try = ⊤
+CommandTakesNoMemory Try = ⊥
 CommandTakesNoMemory TryCancel = ⊤
 CommandTakesNoMemory Retry = ⊥
 
@@ -541,21 +630,25 @@ DeskTakesNoMemory desk (Refused batch) = ⊤
 DeskTakesNoMemory desk (Tick now) = ⊤
 
 -- The queue needn't follow.
-abbrev pub is_unmoved : Bool → Bool → Bool → Bool
-is_unmoved false false moved = true
-is_unmoved false true moved = false
-is_unmoved true false moved = false
-is_unmoved true true moved = not moved
+abbrev pub needs_no_move : Bool → Bool → Bool → Bool
+needs_no_move false false moved = true
+needs_no_move false true moved = false
+needs_no_move true false moved = false
+needs_no_move true true moved = not moved
 
 abbrev pub is_unmoved_on : DeskView → DeskView → ℕ → Bool
 is_unmoved_on old new change =
-    is_unmoved (approved_on old change) (approved_on new change) (not (int_eq (priority_on old change) (priority_on new change)))
+    needs_no_move (approved_on old change) (approved_on new change) (not (int_eq (priority_on old change) (priority_on new change)))
+    && beq (trying_on old change) (trying_on new change)
 
 -- in the queue: a batch that runs may wait again, and one that waits may be ordered by a tick
+abbrev pub IsIdle : ℕ → DeskView → Lane → Type 0
+IsIdle now desk lane = (has_overdue now desk.settings lane ≡ false) × (stage_orders desk lane ≡ [])
+
 abbrev pub QueueTakesNoMemory : State → Act → Type 0
 QueueTakesNoMemory s (Base commit) = is_none s.queue.staging.running ≡ true
 QueueTakesNoMemory s (Refused batch) = is_none s.queue.staging.running ≡ true
-QueueTakesNoMemory s (Tick now) = (has_overdue now s ≡ false) × (stage_orders s.desk s.queue.staging.running s.queue.staging.waiting ≡ [])
+QueueTakesNoMemory s (Tick now) = IsIdle now s.desk s.queue.staging × IsIdle now s.desk s.queue.trying
 QueueTakesNoMemory s act = option_map_or (is_unmoved_on s.desk (effect s.desk act)) (subject act) true ≡ true
 
 -- A STEP: an act that a rule denies is answered the first that does, and changes nothing. Any other does what it means.

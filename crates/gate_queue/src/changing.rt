@@ -1,10 +1,10 @@
-ghost use Rattle.std.specs.Prelude.{◌≡◌, [], ◌∷◌, not, ◌&&◌, Some, is_some, true, false, IfOk, IsOk, OnOk};
+ghost use Rattle.std.specs.Prelude.{◌≡◌, [], ◌∷◌, not, ◌&&◌, ◌||◌, Some, None, is_some, true, false, IfOk, IsOk, OnOk};
 ghost use Rattle.std.specs.FinMap as finite;
 ghost use Rattle.std.specs.FinSet as set;
 ghost use Rattle.std.specs.List.{fold};
 ghost use Rattle.gate_rules.specs.View.{with_change, without_approval};
 ghost use Rattle.gate_queue.specs.Machine as machine;
-ghost use Rattle.gate_queue.specs.Machine.{altered, notice_if, notice_of};
+ghost use Rattle.gate_queue.specs.Machine.{altered, ends_approval, ends_either, notice_if, notice_of};
 ghost use Rattle.gate_queue.specs.declared.reply.Order.TheVariants.{Notice};
 ghost use Rattle.gate_queue.specs.declared.reply.Why.TheVariants as why;
 
@@ -36,7 +36,7 @@ pub fn one_notice(alloc: Global, change: ChangeNo, why: Why) -> Result<Orders, A
     one_order(alloc, Order::Notice { change, why })
 }
 
-// A notice, if an approval has ended.
+// A notice, if an approval or a try has ended.
 fn ending_notice(
     alloc: Global,
     has_ended: bool,
@@ -88,6 +88,23 @@ pub fn withdraw(desk: &mut Desk, number: ChangeNo)
     desk.alter(number, |change| change.approved = None);
 }
 
+/// Lets a change be tried.
+pub fn start_trying(desk: &mut Desk, number: ChangeNo)
+    ensures { desk.new ≡ altered desk.old number machine.with_try }
+{
+    desk.alter(number, |change| {
+        change.trying = true;
+        change.last = Some(Repeat::Try);
+    });
+}
+
+/// Ends that a change is tried.
+pub fn stop_trying(desk: &mut Desk, number: ChangeNo)
+    ensures { desk.new ≡ altered desk.old number machine.without_try }
+{
+    desk.alter(number, |change| change.trying = false);
+}
+
 /// Marks changes as landing.
 pub fn mark_landing(desk: &mut Desk, changes: &[ChangeNo])
     ensures { desk.new ≡ machine.all_altered (machine.with_landing true) desk.old changes.now }
@@ -97,7 +114,8 @@ pub fn mark_landing(desk: &mut Desk, changes: &[ChangeNo])
     }
 }
 
-/// Ends that changes are landing that were to land with a commit. If it is the new base, they have landed.
+/// Ends that changes are landing that were to land with a commit. If it is the new base, they have landed, and aren't tried any
+/// longer.
 pub fn release(desk: &mut Desk, changes: &[ChangeNo], commit: Commit, base: Option<Commit>)
     ensures { desk.new ≡ machine.all_altered (machine.released base commit) desk.old changes.now }
 {
@@ -113,6 +131,7 @@ fn release_one(change: &mut Change, commit: Commit, base: Option<Commit>)
     if base == Some(commit) {
         change.phase = Phase::Landed;
         change.approved = None;
+        change.trying = false;
     }
 }
 
@@ -199,6 +218,7 @@ fn reopened(mut change: Change, alloc: Global, author: Name, head: Commit) -> Ch
     change.head = head;
     change.phase = Phase::Opened;
     change.reviews = NameSet::new(alloc);
+    change.trying = false;
     change
 }
 
@@ -220,7 +240,7 @@ fn just_opened(alloc: Global, author: Name, head: Commit) -> Change
     }
 }
 
-/// Gives a change a head. Another one ends its reviews and its approval.
+/// Gives a change a head. Another one ends its reviews, its approval and its try.
 pub fn push(
     desk: &mut Desk,
     alloc: Global,
@@ -228,47 +248,55 @@ pub fn push(
     head: Commit,
 ) -> Result<Orders, AllocError>
     ensures desk { OnOk result (desk.new ≡ altered desk.old number (machine.pushed head)) }
-    ensures orders { IfOk result (λ orders. orders ≡ notice_of desk.old number why.Pushed (machine.pushed head)) }
-    ensures no_memory { notice_of desk.old number why.Pushed (machine.pushed head) ≡ [] → IsOk result }
+    ensures orders { IfOk result (λ orders. orders ≡ notice_of desk.old number why.Pushed (ends_either (machine.pushed head))) }
+    ensures no_memory { notice_of desk.old number why.Pushed (ends_either (machine.pushed head)) ≡ [] → IsOk result }
 {
     let has_ended = desk.alter(number, |change| move_to(change, alloc, head));
     ending_notice(alloc, has_ended.unwrap_or(false), number, Why::Pushed)
 }
 
-// Whether the approval of the change has ended by its new head.
+// Whether the approval of the change or its try has ended by its new head.
 fn move_to(change: &mut Change, alloc: Global, head: Commit) -> bool
     ensures change { change.new ≡ machine.pushed head change.old }
-    ensures ended { result ≡ machine.ends_approval (machine.pushed head) change.old }
+    ensures ended { result ≡ ends_either (machine.pushed head) change.old }
 {
     if change.head == head {
         return false;
     }
-    let was_approved = change.approved.is_some();
+    let has_ended = end_both(change);
     change.head = head;
     change.reviews = NameSet::new(alloc);
-    change.approved = None;
-    was_approved
+    has_ended
 }
 
-/// Closes a change.
+// Ends the approval of a change and its try. Whether it had one of the two.
+fn end_both(change: &mut Change) -> bool
+    ensures change { change.new ≡ record change.old { approved = None; trying = false } }
+    ensures ended { result ≡ (is_some change.old.approved || change.old.trying) }
+{
+    let has_ended = change.approved.is_some() || change.trying;
+    change.approved = None;
+    change.trying = false;
+    has_ended
+}
+
+/// Closes a change, which ends its approval and its try.
 pub fn close(desk: &mut Desk, alloc: Global, number: ChangeNo) -> Result<Orders, AllocError>
     ensures desk { OnOk result (desk.new ≡ altered desk.old number machine.closed) }
-    ensures orders { IfOk result (λ orders. orders ≡ notice_of desk.old number why.Closed machine.closed) }
-    ensures no_memory { notice_of desk.old number why.Closed machine.closed ≡ [] → IsOk result }
+    ensures orders { IfOk result (λ orders. orders ≡ notice_of desk.old number why.Closed (ends_either machine.closed)) }
+    ensures no_memory { notice_of desk.old number why.Closed (ends_either machine.closed) ≡ [] → IsOk result }
 {
     let has_ended = desk.alter(number, shut);
     ending_notice(alloc, has_ended.unwrap_or(false), number, Why::Closed)
 }
 
-// Whether the approval of the change has ended by its closing.
+// Whether the approval of the change or its try has ended by its closing.
 fn shut(change: &mut Change) -> bool
     ensures change { change.new ≡ machine.closed change.old }
-    ensures ended { result ≡ machine.ends_approval machine.closed change.old }
+    ensures ended { result ≡ ends_either machine.closed change.old }
 {
-    let was_approved = change.approved.is_some();
     change.phase = Phase::Closed;
-    change.approved = None;
-    was_approved
+    end_both(change)
 }
 
 /// Gives a change a label. A blocking one ends its approval.
@@ -279,7 +307,7 @@ pub fn add_label(
     label: &Label,
 ) -> Result<Orders, AllocError>
     ensures desk { OnOk result (desk.new ≡ altered desk.old number (machine.labeled desk.old.settings label.now)) }
-    ensures orders { IfOk result (λ orders. orders ≡ notice_of desk.old number why.Labeled (machine.labeled desk.old.settings label.now)) }
+    ensures orders { IfOk result (λ orders. orders ≡ notice_of desk.old number why.Labeled (ends_approval (machine.labeled desk.old.settings label.now))) }
 {
     let Some(change) = desk.change(number) else {
         return Ok(no_orders(alloc));
@@ -311,7 +339,7 @@ pub fn review(
     approves: bool,
 ) -> Result<Orders, AllocError>
     ensures desk { OnOk result (desk.new ≡ altered desk.old number (machine.reviewed desk.old.settings person.now approves)) }
-    ensures orders { IfOk result (λ orders. orders ≡ notice_of desk.old number why.Reviews (machine.reviewed desk.old.settings person.now approves)) }
+    ensures orders { IfOk result (λ orders. orders ≡ notice_of desk.old number why.Reviews (ends_approval (machine.reviewed desk.old.settings person.now approves))) }
 {
     let Some(change) = desk.change(number) else {
         return Ok(no_orders(alloc));

@@ -46,3 +46,20 @@ impl Choice for Approved<'_> {
         self.desk.is_approved(change)
     }
 }
+
+/// The changes that are tried on a desk.
+#[derive(Clone, Copy)]
+pub struct Tried<'a> {
+    /// The desk.
+    pub desk: &'a Desk,
+}
+
+impl Choice for Tried<'_> {
+    ghost use Rattle.gate_queue.specs.Machine.{trying_on};
+
+    ghost chooses = { λ change tried. trying_on tried.desk.now change };
+
+    fn has(&self, change: ChangeNo) -> bool {
+        self.desk.is_trying(change)
+    }
+}

@@ -1,6 +1,6 @@
 ghost use Rattle.std.specs.Prelude.{◌≡◌, [], IfOk, IfErr, IsOk};
 ghost use Rattle.gate_text.specs.Settings.{settings_of};
-ghost use Rattle.gate_rules.specs.Rules.{MayWantMemory, first_failing};
+ghost use Rattle.gate_rules.specs.Rules.{first_failing};
 ghost use Rattle.gate_rules.specs.View.{look};
 ghost use Rattle.gate_queue.specs.Machine as machine;
 ghost use Rattle.gate_queue.specs.Machine.{RefusalMayWantMemory, DeskTakesNoMemory, denial, bad_settings, is_ordered, is_staged_with, of_open_change, opening_row, review_row, row};
@@ -8,10 +8,11 @@ ghost use Rattle.gate_queue.specs.declared.act.Act.TheVariants as act;
 
 use crate::act::Act;
 use crate::batch::Stage;
+use crate::lane::Lane;
 use crate::queue::Queue;
 use crate::waiting::is_landing;
 use gate_rules::{Desk, Rule};
-use gate_text::{ChangeNo, Command, Commit, Name, SettingsFault, Spoken, Text, read_settings};
+use gate_text::{ChangeNo, Commit, Name, SettingsFault, Text, read_settings};
 use std::alloc::{AllocError, Global};
 
 /// The rule that denies an act: the first of its row that fails, and nothing if all hold. `AllocError` if there is
@@ -31,7 +32,7 @@ pub fn rule_of(
             change,
             person,
             spoken,
-        } => line_rule(desk, alloc, person, *change, spoken),
+        } => desk.rule(alloc, person, *change, spoken),
         Act::Role { .. } => Ok(None),
         Act::Settings { text } => settings_rule(alloc, text),
         Act::Base { commit } => Ok(base_rule(desk, *commit)),
@@ -46,43 +47,34 @@ pub fn rule_of(
             head,
             ..
         } => Ok(review_rule(desk, *change, person, *head)),
-        Act::Staged { batch, .. } | Act::Conflict { batch } if !has_ordered(queue, *batch) => {
+        Act::Staged { batch, .. } | Act::Conflict { batch } if !any_ordered(queue, *batch) => {
             Ok(Some(Rule::NoSuchBatch))
         }
         Act::Staged { commit, .. } => Ok(base_rule(desk, *commit)),
         Act::Conflict { .. } => Ok(None),
-        Act::Status { commit, .. } if !has_staged(queue, *commit) => Ok(Some(Rule::NoSuchBatch)),
-        Act::Refused { batch } if !has_landing(queue, *batch) => Ok(Some(Rule::NoSuchBatch)),
+        Act::Status { commit, .. } if !any_staged(queue, *commit) => Ok(Some(Rule::NoSuchBatch)),
+        // Tries don't land.
+        Act::Refused { batch } if !has_landing(&queue.staging, *batch) => {
+            Ok(Some(Rule::NoSuchBatch))
+        }
         Act::Status { .. } | Act::Refused { .. } => Ok(None),
         Act::Tick { now } if *now < desk.clock() => Ok(Some(Rule::ClockBack)),
         Act::Tick { .. } => Ok(None),
     }
 }
 
-// The rule on what a person says; `try` and `try-` are still to come.
-fn line_rule(
-    desk: &Desk,
-    alloc: Global,
-    person: &Name,
-    change: ChangeNo,
-    spoken: &Spoken,
-) -> Result<Option<Rule>, AllocError>
-    ensures value { IfOk result (λ rule. rule ≡ first_failing (row (look desk.now) (act.Spoken change person.now spoken.now))) }
-    ensures cause { IfErr result (λ _. MayWantMemory (first_failing (row (look desk.now) (act.Spoken change person.now spoken.now)))) }
+// Whether the host was ordered to stage the batch of this number, on either branch, and hasn't answered yet.
+fn any_ordered(queue: &Queue, number: u64) -> bool
+    ensures { result ≡ machine.on_either (machine.has_ordered number) queue.now }
 {
-    match spoken {
-        Spoken::Known(Command::Try | Command::TryCancel) => {
-            desk.rule(alloc, person, change, &Spoken::Unknown)
-        }
-        _ => desk.rule(alloc, person, change, spoken),
-    }
+    has_ordered(&queue.staging, number) || has_ordered(&queue.trying, number)
 }
 
-// Whether the host was ordered to stage the batch of this number, and hasn't answered yet.
-fn has_ordered(queue: &Queue, number: u64) -> bool
-    ensures { result ≡ machine.has_ordered number queue.now }
+/// Whether the host was ordered to stage the batch of this number on a branch, and hasn't answered yet.
+pub fn has_ordered(lane: &Lane, number: u64) -> bool
+    ensures { result ≡ machine.has_ordered number lane.now }
 {
-    match &queue.staging.running {
+    match &lane.running {
         Some(batch) => number == batch.number && is_ordered(&batch.stage),
         None => false,
     }
@@ -97,11 +89,18 @@ fn is_ordered(stage: &Stage) -> bool
     }
 }
 
-// Whether the batch that is tested was staged with this commit.
-fn has_staged(queue: &Queue, commit: Commit) -> bool
-    ensures { result ≡ machine.has_staged commit queue.now }
+// Whether a batch that is tested, on either branch, was staged with this commit.
+fn any_staged(queue: &Queue, commit: Commit) -> bool
+    ensures { result ≡ machine.on_either (machine.has_staged commit) queue.now }
 {
-    match &queue.staging.running {
+    has_staged(&queue.staging, commit) || has_staged(&queue.trying, commit)
+}
+
+/// Whether the batch that is tested on a branch was staged with this commit.
+pub fn has_staged(lane: &Lane, commit: Commit) -> bool
+    ensures { result ≡ machine.has_staged commit lane.now }
+{
+    match &lane.running {
         Some(batch) => is_staged_with(&batch.stage, commit),
         None => false,
     }
@@ -117,10 +116,10 @@ fn is_staged_with(stage: &Stage, commit: Commit) -> bool
 }
 
 // Whether the host was ordered to land the batch of this number, and hasn't answered yet.
-fn has_landing(queue: &Queue, number: u64) -> bool
-    ensures { result ≡ machine.has_landing number queue.now }
+fn has_landing(lane: &Lane, number: u64) -> bool
+    ensures { result ≡ machine.has_landing number lane.now }
 {
-    match &queue.staging.running {
+    match &lane.running {
         Some(batch) => number == batch.number && is_landing(batch),
         None => false,
     }

@@ -25,7 +25,7 @@ mod waiting;
 
 pub use act::{Act, StatusState};
 pub use batch::{Batch, Branch, Changes, Report, Reports, Stage};
-pub use choice::{AllBut, Approved, Choice};
+pub use choice::{AllBut, Approved, Choice, Tried};
 pub use fault::Fault;
 pub use gate::{Gate, empty_history_is_legal};
 pub use lane::{Batches, Lane};

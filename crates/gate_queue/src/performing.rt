@@ -77,12 +77,14 @@ fn perform_command(
             changing::approve(desk, change, names.copy(alloc)?, last);
         }
         Command::Withdraw => changing::withdraw(desk, change),
+        Command::Try => changing::start_trying(desk, change),
+        Command::TryCancel => changing::stop_trying(desk, change),
         Command::Priority(priority) => changing::set_priority(desk, change, *priority),
         Command::DelegateAuthor => changing::delegate_author(desk, alloc, change)?,
         Command::DelegateTo(names) => changing::delegate_to(desk, alloc, change, names)?,
         Command::DelegateNone => changing::delegate_none(desk, alloc, change),
-        // `ping` does nothing. A `retry` that acts comes as what it repeats, and the others can't act yet.
-        Command::Ping | Command::Try | Command::TryCancel | Command::Retry => {}
+        // `ping` does nothing, and a `retry` that acts comes as what it repeats.
+        Command::Ping | Command::Retry => {}
     }
     Ok(())
 }

@@ -33,6 +33,16 @@ impl Queue {
         }
     }
 
+    /// The batches of a branch.
+    pub fn lane(&self, branch: Branch) -> &Lane
+        ensures value { result.now ≡ specs.lane_of branch self.now }
+    {
+        match branch {
+            Branch::Staging => &self.staging,
+            Branch::Trying => &self.trying,
+        }
+    }
+
     /// The numbers of all batches, in order of service: those of `Staging` first, and of a branch the running batch first.
     /// `AllocError` if there is no memory for them.
     pub fn numbers(&self, alloc: Global) -> Result<Vec<u64>, AllocError>

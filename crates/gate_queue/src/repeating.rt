@@ -38,23 +38,20 @@ fn repeated_line(
     let Some(repeat) = desk.last_command(change) else {
         return Ok(None);
     };
-    let Some(command) = command_of(alloc, repeat)? else {
-        return Ok(None);
-    };
     Ok(Some(Act::Spoken {
         change,
         person: person.copy(alloc)?,
-        spoken: Spoken::Known(command),
+        spoken: Spoken::Known(command_of(alloc, repeat)?),
     }))
 }
 
-// The command that is repeated, if it is one that can act: a `try` can't yet.
-fn command_of(alloc: Global, repeat: &Repeat) -> Result<Option<Command>, AllocError>
-    ensures { IfOk result (λ repeated. unwrap_or repeated command.Retry ≡ machine.repeated (Some repeat.now)) }
+// The command that is repeated.
+fn command_of(alloc: Global, repeat: &Repeat) -> Result<Command, AllocError>
+    ensures { IfOk result (λ repeated. repeated ≡ machine.repeated (Some repeat.now)) }
 {
     Ok(match repeat {
-        Repeat::Approve => Some(Command::Approve),
-        Repeat::ApproveFor(names) => Some(Command::ApproveFor(names.copy(alloc)?)),
-        Repeat::Try => None,
+        Repeat::Approve => Command::Approve,
+        Repeat::ApproveFor(names) => Command::ApproveFor(names.copy(alloc)?),
+        Repeat::Try => Command::Try,
     })
 }

@@ -2,7 +2,7 @@ use crate::batch::Branch;
 use gate_rules::Rule;
 use gate_text::{ChangeNo, Commit, Context, List};
 
-/// Why a change's approval has ended without a command.
+/// Why a change's approval or try has ended without a command.
 #[derive(Debug, Drop, PartialEq, Eq)]
 pub enum Why {
     /// Its batch, in which it was alone, can't be merged.
@@ -21,6 +21,10 @@ pub enum Why {
     Reviews,
     /// New settings block one of its labels, or ask for more reviews.
     Settings,
+    /// It was tried, and all required statuses have succeeded.
+    TryPassed,
+    /// It was tried, and couldn't be merged, or a required status has failed, or it has taken longer than the settings allow.
+    TryFailed,
 }
 
 /// A change and the head at which it is to be merged.
@@ -58,7 +62,7 @@ pub enum Order {
         /// The commit that it is to stand at.
         commit: Commit,
     },
-    /// To tell the people of a change that its approval has ended.
+    /// To tell the people of a change that its approval or its try has ended.
     Notice {
         /// The change.
         change: ChangeNo,

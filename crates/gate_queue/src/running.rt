@@ -9,8 +9,9 @@ use crate::batch::{Batch, Branch, Report, Reports, Stage};
 use crate::changing;
 use crate::changing::{no_orders, one_notice, one_order};
 use crate::choice::Approved;
+use crate::judging::has_staged;
 use crate::reply::{Order, Orders, Why};
-use crate::state::{Outcome, State, quiet};
+use crate::state::{Outcome, State, quiet, with_first};
 use crate::waiting::has_several;
 use gate_rules::Desk;
 use gate_text::{ChangeNo, Commit, Context};
@@ -26,8 +27,8 @@ fn lone(running: &Option<Batch>) -> Option<ChangeNo>
     }
 }
 
-/// Ends the running batch: one of several changes is split; another is dropped, which ends the approval of its change, and
-/// this is why. `AllocError` if there is no memory for it.
+/// Ends the running batch on `Staging`: one of several changes is split; another is dropped, which ends the approval of its
+/// change, and this is why. `AllocError` if there is no memory for it.
 pub fn give_up(state: State, alloc: Global, why: Why) -> Result<Outcome, AllocError>
     requires { state.queue.next ≤ 8_999_999_999_999_996 }
     ensures value { IfOk result (λ outcome. outcome ≡ machine.failing why state) }
@@ -47,20 +48,75 @@ pub fn give_up(state: State, alloc: Global, why: Why) -> Result<Outcome, AllocEr
     })
 }
 
-/// Takes what a status of the tested commit says. One that isn't required does nothing. One that has failed ends the running
-/// batch. Another is kept, and if all required ones have succeeded then, the batch is to land. `AllocError` if there is no
-/// memory for it.
+/// Ends the running try, well or not: its batch is dropped, its change is no longer tried, and this is why. `AllocError` if there
+/// is no memory for it.
+pub fn end_try(state: State, alloc: Global, why: Why) -> Result<Outcome, AllocError>
+    ensures { IfOk result (λ outcome. outcome ≡ machine.try_ended why state) }
+{
+    let State { mut desk, queue } = state;
+    let orders = match lone(&queue.trying.running) {
+        Some(change) => {
+            changing::stop_trying(&mut desk, change);
+            one_notice(alloc, change, why)?
+        }
+        None => no_orders(alloc),
+    };
+    let queue = queue.drop_running(Branch::Trying);
+    Ok(Outcome {
+        state: State { desk, queue },
+        orders,
+    })
+}
+
+/// Takes what a status of a tested commit says. One that isn't required does nothing. One that has failed ends the running
+/// batch. Another is kept, and if all required ones have succeeded then, the batch is to land, or the try has passed. A batch on
+/// `Staging` comes before one on `Trying`. `AllocError` if there is no memory for it.
 pub fn take_status(
     state: State,
     alloc: Global,
+    commit: Commit,
     name: &Context,
     said: StatusState,
 ) -> Result<Outcome, AllocError>
     requires { state.queue.next ≤ 8_999_999_999_999_996 }
-    ensures value { IfOk result (λ outcome. outcome ≡ machine.told name.now said state) }
+    ensures value { IfOk result (λ outcome. outcome ≡ machine.told commit name.now said state) }
     ensures no_memory { machine.is_required state.desk.settings name.now ≡ false → IsOk result }
 {
-    if !is_required(&state.desk, name) {
+    if is_required(&state.desk, name) {
+        tell_both(state, alloc, commit, name, said)
+    } else {
+        Ok(quiet(state, alloc))
+    }
+}
+
+// Takes what a required status says, for both branches.
+fn tell_both(
+    state: State,
+    alloc: Global,
+    commit: Commit,
+    name: &Context,
+    said: StatusState,
+) -> Result<Outcome, AllocError>
+    requires { state.queue.next ≤ 8_999_999_999_999_996 }
+    ensures { IfOk result (λ outcome. outcome ≡ machine.then_next (machine.told_staging commit name.now said state) (machine.told_trying commit name.now said)) }
+{
+    let told = tell_staging(state, alloc, commit, name, said)?;
+    let next = tell_trying(told.state, alloc, commit, name, said)?;
+    with_first(told.orders, next)
+}
+
+// Takes what a status says for the running batch on `Staging`, if that was staged with its commit.
+fn tell_staging(
+    state: State,
+    alloc: Global,
+    commit: Commit,
+    name: &Context,
+    said: StatusState,
+) -> Result<Outcome, AllocError>
+    requires { state.queue.next ≤ 8_999_999_999_999_996 }
+    ensures { IfOk result (λ outcome. outcome ≡ machine.told_staging commit name.now said state) }
+{
+    if !has_staged(&state.queue.staging, commit) {
         return Ok(quiet(state, alloc));
     }
     match said {
@@ -69,6 +125,26 @@ pub fn take_status(
         StatusState::Failure | StatusState::Error => {
             give_up(state, alloc, Why::Failed(name.copy(alloc)?))
         }
+    }
+}
+
+// Takes what a status says for the running try, if that was staged with its commit.
+fn tell_trying(
+    state: State,
+    alloc: Global,
+    commit: Commit,
+    name: &Context,
+    said: StatusState,
+) -> Result<Outcome, AllocError>
+    ensures { IfOk result (λ outcome. outcome ≡ machine.told_trying commit name.now said state) }
+{
+    if !has_staged(&state.queue.trying, commit) {
+        return Ok(quiet(state, alloc));
+    }
+    match said {
+        StatusState::Success => keep_try_report(state, alloc, name, Report::Success),
+        StatusState::Pending => keep_try_report(state, alloc, name, Report::Pending),
+        StatusState::Failure | StatusState::Error => end_try(state, alloc, Why::TryFailed),
     }
 }
 
@@ -81,7 +157,7 @@ fn is_required(desk: &Desk, name: &Context) -> bool
     }
 }
 
-// Keeps a report of the running batch, and has it land if all required statuses have succeeded.
+// Keeps a report of the running batch on `Staging`, and has it land if all required statuses have succeeded.
 fn keep_report(
     state: State,
     alloc: Global,
@@ -93,6 +169,20 @@ fn keep_report(
     let State { desk, queue } = state;
     let queue = queue.report(Branch::Staging, name.copy(alloc)?, report)?;
     land_if_passed(State { desk, queue }, alloc)
+}
+
+// Keeps a report of the running try, and ends it if all required statuses have succeeded.
+fn keep_try_report(
+    state: State,
+    alloc: Global,
+    name: &Context,
+    report: Report,
+) -> Result<Outcome, AllocError>
+    ensures { IfOk result (λ outcome. outcome ≡ machine.try_goes_on name.now report state) }
+{
+    let State { desk, queue } = state;
+    let queue = queue.report(Branch::Trying, name.copy(alloc)?, report)?;
+    end_if_passed(State { desk, queue }, alloc)
 }
 
 // Whether all required statuses have succeeded.
@@ -135,6 +225,17 @@ fn land_if_passed(state: State, alloc: Global) -> Result<Outcome, AllocError>
     }
 }
 
+fn end_if_passed(state: State, alloc: Global) -> Result<Outcome, AllocError>
+    ensures { IfOk result (λ outcome. outcome ≡ machine.try_if_passed state state.queue.trying.running) }
+{
+    match &state.queue.trying.running {
+        Some(batch) if has_passed(&state.desk, &batch.stage) => {
+            end_try(state, alloc, Why::TryPassed)
+        }
+        _ => Ok(quiet(state, alloc)),
+    }
+}
+
 // The order to land a batch that is tested.
 fn land_orders(desk: &Desk, alloc: Global, batch: &Batch) -> Result<Orders, AllocError>
     ensures { IfOk result (λ orders. orders ≡ machine.land_order desk.now batch.now.number batch.now.stage) }
@@ -153,7 +254,7 @@ fn land_orders(desk: &Desk, alloc: Global, batch: &Batch) -> Result<Orders, Allo
     one_order(alloc, order)
 }
 
-// Has the running batch land.
+// Has the running batch on `Staging` land.
 fn to_land(state: State) -> State
     ensures { IfSome state.queue.staging.running (λ batch. result ≡ (machine.to_land batch state).state) }
 {
@@ -165,9 +266,9 @@ fn to_land(state: State) -> State
     State { desk, queue }
 }
 
-/// Lets the running batch wait again with those of its changes that are approved. If it is landing, its changes no longer are:
-/// they have landed if this is the new base and the commit that was to land. `AllocError` if there is no memory for it; if no
-/// batch runs, it takes none.
+/// Lets the running batch on `Staging` wait again with those of its changes that are approved. If it is landing, its changes no
+/// longer are: they have landed if this is the new base and the commit that was to land. `AllocError` if there is no memory for
+/// it; if no batch runs, it takes none.
 pub fn send_back(state: State, alloc: Global, base: Option<Commit>) -> Result<State, AllocError>
     requires { state.queue.next ≤ 8_999_999_999_999_996 }
     ensures value { IfOk result (λ after. after ≡ machine.sent_back base state) }

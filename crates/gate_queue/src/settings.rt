@@ -2,8 +2,8 @@ ghost use Rattle.std.specs.Prelude.{◌≡◌, ◌≤◌, Ok, IfOk};
 ghost use Rattle.gate_text.specs.Settings.{settings_of};
 ghost use Rattle.gate_queue.specs.Machine as machine;
 ghost use Rattle.gate_queue.specs.Machine.{settings_notices};
-ghost use Rattle.gate_queue.specs.Queue as queue_specs;
-ghost use Rattle.gate_queue.specs.declared.batch.Branch.TheVariants.{Staging};
+ghost use Rattle.gate_queue.specs.Queue.{restarted};
+ghost use Rattle.gate_queue.specs.declared.batch.Branch.TheVariants.{Staging, Trying};
 ghost use Rattle.gate_queue.specs.declared.reply.Order.TheVariants.{Notice};
 ghost use Rattle.gate_queue.specs.declared.reply.Why.TheVariants as why;
 
@@ -74,14 +74,20 @@ fn take_settings(state: State, alloc: Global, settings: Settings) -> Result<Outc
     })
 }
 
-// Takes out what isn't approved any longer, and lets the running batch wait again.
+// Takes out what isn't approved any longer, and lets the running batches wait again.
 fn resettle(queue: Queue, alloc: Global, desk: &Desk) -> Result<Queue, AllocError>
     requires { queue.next ≤ 8_999_999_999_999_996 }
-    ensures { IfOk result (λ after. after ≡ queue_specs.restarted Staging (queue_specs.taken_out Staging (machine.approved_on desk.now) queue)) }
+    ensures { IfOk result (λ after. after ≡ machine.resettled desk.now queue) }
 {
-    queue
-        .take_out(alloc, Branch::Staging, &Approved { desk })?
-        .restart(Branch::Staging)
+    restart_both(queue.take_out(alloc, Branch::Staging, &Approved { desk })?)
+}
+
+// Lets the running batches of both branches wait again.
+fn restart_both(queue: Queue) -> Result<Queue, AllocError>
+    requires { queue.next ≤ 8_999_999_999_999_998 }
+    ensures { IfOk result (λ after. after ≡ restarted Trying (restarted Staging queue)) }
+{
+    queue.restart(Branch::Staging)?.restart(Branch::Trying)
 }
 
 // A notice for each of these changes, in their order.

@@ -1,23 +1,26 @@
-ghost use Rattle.std.specs.Prelude.{◌≡◌, ◌≤◌, true, is_none, Some, IfOk, IfErr, IsNone, IsOk};
+ghost use Rattle.std.specs.Prelude.{◌≡◌, ◌≤◌, ◌<◌, true, false, is_none, Some, IfOk, IfErr, IsNone, IsOk};
 ghost use Rattle.gate_rules.specs.View.{look};
 ghost use Rattle.gate_rules.specs.declared.rule.Rule.{Rule};
 ghost use Rattle.gate_queue.specs.Acts.{subject};
 ghost use Rattle.gate_queue.specs.Machine as machine;
 ghost use Rattle.gate_queue.specs.Machine.{DeskTakesNoMemory, QueueTakesNoMemory, RefusalMayWantMemory, Step, broken, denial, effect, is_unmoved_on};
 ghost use Rattle.gate_queue.specs.Queue.{staged};
-ghost use Rattle.gate_queue.specs.declared.batch.Branch.TheVariants.{Staging};
 
 use crate::act::Act;
-use crate::batch::Branch;
-use crate::judging::rule_of;
+use crate::batch::{Branch, Stage};
+use crate::choice::Tried;
+use crate::judging::{has_ordered, rule_of};
+use crate::lane::Lane;
 use crate::marks::{follow, mark_on};
 use crate::performing::perform;
+use crate::queue::Queue;
 use crate::repeating::repeated_act;
 use crate::reply::{Reply, Why};
-use crate::running::{give_up, send_back, take_status};
+use crate::running::{end_try, give_up, send_back, take_status};
 use crate::settings::accept_settings;
 use crate::state::{Outcome, State, quiet};
 use crate::ticking::tick;
+use gate_rules::Desk;
 use gate_text::{ChangeNo, Commit};
 use std::alloc::{AllocError, Global};
 
@@ -70,13 +73,13 @@ fn act_on(state: State, alloc: Global, act: &Act) -> Result<Outcome, AllocError>
         }
         Act::Settings { text } => accept_settings(state, alloc, text),
         Act::Base { commit } => Ok(quiet(move_base(state, alloc, *commit)?, alloc)),
-        Act::Staged { commit, .. } => Ok(quiet(stage(state, alloc, *commit), alloc)),
-        Act::Conflict { .. } => give_up(state, alloc, Why::Conflict),
+        Act::Staged { batch, commit } => Ok(quiet(stage(state, alloc, *batch, *commit), alloc)),
+        Act::Conflict { batch } => give_up_ordered(state, alloc, *batch),
         Act::Status {
+            commit,
             name,
             state: said,
-            ..
-        } => take_status(state, alloc, name, *said),
+        } => take_status(state, alloc, *commit, name, *said),
         Act::Refused { .. } => Ok(quiet(send_back(state, alloc, None)?, alloc)),
         Act::Tick { now } => tick(state, alloc, *now),
     }
@@ -105,22 +108,84 @@ fn act_on_change(
     })
 }
 
-// Sets the base, on which what runs has to be tested anew, or has landed.
+// Sets the base, on which what runs has to be tested anew, or has landed. What has landed isn't tried any longer.
 fn move_base(state: State, alloc: Global, base: Commit) -> Result<State, AllocError>
     requires { state.queue.next ≤ 8_999_999_999_999_996 }
     ensures value { IfOk result (λ after. after ≡ machine.rebased base state) }
     ensures no_memory { is_none state.queue.staging.running ≡ true → IsOk result }
 {
+    let lands = lands_with(&state.queue.staging, base);
     let State { mut desk, queue } = send_back(state, alloc, Some(base))?;
+    let queue = leave_tries(queue, alloc, &desk, lands)?;
     desk.set_base(base);
     Ok(State { desk, queue })
 }
 
-// The host has made the staging commit of the running batch.
-fn stage(state: State, alloc: Global, commit: Commit) -> State
-    ensures { result ≡ machine.with_queue state (staged Staging state.desk.clock commit state.queue) }
+// Whether the running batch is to land with this commit.
+fn lands_with(lane: &Lane, commit: Commit) -> bool
+    ensures { result ≡ machine.lands_with commit lane.now }
+{
+    match &lane.running {
+        Some(batch) => is_landing_with(&batch.stage, commit),
+        None => false,
+    }
+}
+
+fn is_landing_with(stage: &Stage, commit: Commit) -> bool
+    ensures { result ≡ machine.is_landing_with commit stage.now }
+{
+    match stage {
+        Stage::Landing { commit: landing } => commit == *landing,
+        Stage::Waiting | Stage::Ordered { .. } | Stage::Staged { .. } => false,
+    }
+}
+
+// Takes out what isn't tried any longer, if a batch has landed.
+fn leave_tries(
+    queue: Queue,
+    alloc: Global,
+    desk: &Desk,
+    has_landed: bool,
+) -> Result<Queue, AllocError>
+    requires { queue.next < 9_000_000_000_000_000 }
+    ensures value { IfOk result (λ after. after ≡ machine.tries_left has_landed desk.now queue) }
+    ensures no_memory { has_landed ≡ false → IsOk result }
+{
+    if has_landed {
+        queue.take_out(alloc, Branch::Trying, &Tried { desk })
+    } else {
+        Ok(queue)
+    }
+}
+
+// The branch on which the host was ordered to stage the batch of this number.
+fn ordered_on(queue: &Queue, number: u64) -> Branch
+    ensures { result ≡ machine.ordered_on number queue.now }
+{
+    if has_ordered(&queue.staging, number) {
+        Branch::Staging
+    } else {
+        Branch::Trying
+    }
+}
+
+// The host has made the staging commit of the batch that it was ordered to stage.
+fn stage(state: State, alloc: Global, number: u64, commit: Commit) -> State
+    ensures { result ≡ machine.with_queue state (staged (machine.ordered_on number state.queue) state.desk.clock commit state.queue) }
 {
     let State { desk, queue } = state;
-    let queue = queue.stage(alloc, Branch::Staging, desk.clock(), commit);
+    let branch = ordered_on(&queue, number);
+    let queue = queue.stage(alloc, branch, desk.clock(), commit);
     State { desk, queue }
+}
+
+// The host can't merge the changes of the batch that it was ordered to stage.
+fn give_up_ordered(state: State, alloc: Global, number: u64) -> Result<Outcome, AllocError>
+    requires { state.queue.next ≤ 8_999_999_999_999_996 }
+    ensures { IfOk result (λ outcome. outcome ≡ machine.given_up (machine.ordered_on number state.queue) state) }
+{
+    match ordered_on(&state.queue, number) {
+        Branch::Staging => give_up(state, alloc, Why::Conflict),
+        Branch::Trying => end_try(state, alloc, Why::TryFailed),
+    }
 }

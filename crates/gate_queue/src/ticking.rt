@@ -1,68 +1,77 @@
-ghost use Rattle.std.specs.Prelude.{◌≡◌, ◌≤◌, ◌++◌, [], false, IfOk, IsOk};
+ghost use Rattle.std.specs.Prelude.{◌≡◌, ◌≤◌, [], false, Ok, IfOk, IsOk};
 ghost use Rattle.std.specs.List.{filter_map};
 ghost use Rattle.gate_rules.specs.View.{with_clock};
 ghost use Rattle.gate_queue.specs.Machine as machine;
+ghost use Rattle.gate_queue.specs.Machine.{IsIdle};
+ghost use Rattle.gate_queue.specs.Queue.{lane_of};
 
 use crate::batch::{Batch, Branch, Stage};
 use crate::changing::{no_orders, one_order};
 use crate::lane::Lane;
 use crate::reply::{Head, Heads, Order, Orders, Why};
-use crate::running::give_up;
-use crate::state::{Outcome, State, quiet};
+use crate::running::{end_try, give_up};
+use crate::state::{Outcome, State, quiet, with_first};
 use gate_rules::Desk;
 use gate_text::ChangeNo;
 use std::alloc::{AllocError, Global};
 
-/// Sets the clock; ends the running batch if it has taken too long; and then orders the first waiting batch, if none runs.
-/// `AllocError` if there is no memory for it.
+/// Sets the clock; on each branch, ends the running batch if it has taken too long; and then, on each branch, orders the first
+/// waiting batch, if none runs. `AllocError` if there is no memory for it.
 pub fn tick(state: State, alloc: Global, now: u64) -> Result<Outcome, AllocError>
     requires clock { state.desk.clock ≤ now }
     requires room { state.queue.next ≤ 8_999_999_999_999_996 }
-    ensures value { IfOk result (λ outcome. outcome ≡ machine.then_next (machine.timed_out now (machine.with_desk state (with_clock state.desk now))) (machine.starting now)) }
-    ensures no_memory { machine.has_overdue now state ≡ false → machine.stage_orders state.desk state.queue.staging.running state.queue.staging.waiting ≡ [] → IsOk result }
+    ensures value { IfOk result (λ outcome. outcome ≡ machine.then_next (machine.ended_on_time now (machine.with_desk state (with_clock state.desk now))) (machine.all_starting now)) }
+    ensures no_memory { IsIdle now state.desk state.queue.staging → IsIdle now state.desk state.queue.trying → IsOk result }
 {
     let State { mut desk, queue } = state;
     desk.set_clock(now);
-    let ended = time_out(State { desk, queue }, alloc, now)?;
-    let started = start(ended.state, alloc, now)?;
-    Ok(Outcome {
-        state: started.state,
-        orders: join(ended.orders, started.orders)?,
-    })
+    let ended = end_on_time(State { desk, queue }, alloc, now)?;
+    let started = start_all(ended.state, alloc, now)?;
+    with_first(ended.orders, started)
 }
 
-// These orders, and then those.
-fn join(mut first: Orders, second: Orders) -> Result<Orders, AllocError>
-    ensures orders { IfOk result (λ orders. orders ≡ first ++ second) }
-    ensures no_memory { second ≡ [] → IsOk result }
+// Ends the running batch of each branch, if it has taken too long.
+fn end_on_time(state: State, alloc: Global, now: u64) -> Result<Outcome, AllocError>
+    requires { state.queue.next ≤ 8_999_999_999_999_996 }
+    ensures value { IfOk result (λ outcome. outcome ≡ machine.ended_on_time now state) }
+    ensures no_memory { machine.has_overdue now state.desk.settings state.queue.staging ≡ false → machine.has_overdue now state.desk.settings state.queue.trying ≡ false → result ≡ Ok (machine.quiet state) }
 {
-    if second.as_slice().is_empty() {
-        return Ok(first);
-    }
-    for order in second.into_vec() {
-        first.push(order)?;
-    }
-    Ok(first)
+    let ended = time_out(state, alloc, now)?;
+    let next = time_out_try(ended.state, alloc, now)?;
+    with_first(ended.orders, next)
 }
 
-// Ends the running batch if it has taken too long.
+// Ends the running batch on `Staging` if it has taken too long.
 fn time_out(state: State, alloc: Global, now: u64) -> Result<Outcome, AllocError>
     requires { state.queue.next ≤ 8_999_999_999_999_996 }
     ensures value { IfOk result (λ outcome. outcome ≡ machine.timed_out now state) }
-    ensures no_memory { machine.has_overdue now state ≡ false → IsOk result }
+    ensures no_memory { machine.has_overdue now state.desk.settings state.queue.staging ≡ false → result ≡ Ok (machine.quiet state) }
 {
-    if has_overdue(&state, now) {
+    if has_overdue(&state.desk, now, &state.queue.staging) {
         give_up(state, alloc, Why::TimedOut)
     } else {
         Ok(quiet(state, alloc))
     }
 }
 
-fn has_overdue(state: &State, now: u64) -> bool
-    ensures { result ≡ machine.has_overdue now state.now }
+// Ends the running try if it has taken too long.
+fn time_out_try(state: State, alloc: Global, now: u64) -> Result<Outcome, AllocError>
+    ensures value { IfOk result (λ outcome. outcome ≡ machine.try_timed_out now state) }
+    ensures no_memory { machine.has_overdue now state.desk.settings state.queue.trying ≡ false → result ≡ Ok (machine.quiet state) }
 {
-    match &state.queue.staging.running {
-        Some(batch) => is_overdue(&state.desk, now, &batch.stage),
+    if has_overdue(&state.desk, now, &state.queue.trying) {
+        end_try(state, alloc, Why::TryFailed)
+    } else {
+        Ok(quiet(state, alloc))
+    }
+}
+
+// Whether the running batch of a branch has taken too long.
+fn has_overdue(desk: &Desk, now: u64, lane: &Lane) -> bool
+    ensures { result ≡ machine.has_overdue now desk.now.settings lane.now }
+{
+    match &lane.running {
+        Some(batch) => is_overdue(desk, now, &batch.stage),
         None => false,
     }
 }
@@ -80,14 +89,24 @@ fn is_overdue(desk: &Desk, now: u64, stage: &Stage) -> bool
     }
 }
 
-// Orders the first waiting batch, if none runs.
-fn start(state: State, alloc: Global, now: u64) -> Result<Outcome, AllocError>
-    ensures value { IfOk result (λ outcome. outcome ≡ machine.starting now state) }
-    ensures no_memory { machine.stage_orders state.desk state.queue.staging.running state.queue.staging.waiting ≡ [] → IsOk result }
+// Orders the first waiting batch of each branch, if none runs there.
+fn start_all(state: State, alloc: Global, now: u64) -> Result<Outcome, AllocError>
+    ensures value { IfOk result (λ outcome. outcome ≡ machine.all_starting now state) }
+    ensures no_memory { machine.stage_orders state.desk state.queue.staging ≡ [] → machine.stage_orders state.desk state.queue.trying ≡ [] → IsOk result }
+{
+    let first = start(Branch::Staging, state, alloc, now)?;
+    let next = start(Branch::Trying, first.state, alloc, now)?;
+    with_first(first.orders, next)
+}
+
+// Orders the first waiting batch of a branch, if none runs there.
+fn start(branch: Branch, state: State, alloc: Global, now: u64) -> Result<Outcome, AllocError>
+    ensures value { IfOk result (λ outcome. outcome ≡ machine.starting branch now state) }
+    ensures no_memory { machine.stage_orders state.desk (lane_of branch state.queue) ≡ [] → IsOk result }
 {
     let State { desk, queue } = state;
-    let orders = stage_orders(&desk, alloc, &queue.staging)?;
-    let queue = queue.start(Branch::Staging, now);
+    let orders = stage_orders(&desk, alloc, queue.lane(branch))?;
+    let queue = queue.start(branch, now);
     Ok(Outcome {
         state: State { desk, queue },
         orders,
@@ -96,8 +115,8 @@ fn start(state: State, alloc: Global, now: u64) -> Result<Outcome, AllocError>
 
 // The order to stage the first waiting batch, if none runs.
 fn stage_orders(desk: &Desk, alloc: Global, lane: &Lane) -> Result<Orders, AllocError>
-    ensures orders { IfOk result (λ orders. orders ≡ machine.stage_orders desk.now lane.now.running lane.now.waiting) }
-    ensures no_memory { machine.stage_orders desk.now lane.now.running lane.now.waiting ≡ [] → IsOk result }
+    ensures orders { IfOk result (λ orders. orders ≡ machine.stage_orders desk.now lane.now) }
+    ensures no_memory { machine.stage_orders desk.now lane.now ≡ [] → IsOk result }
 {
     if lane.running.is_some() {
         return Ok(no_orders(alloc));

@@ -9,6 +9,7 @@ mod same;
 mod service;
 mod settings;
 mod stories;
+mod tries;
 
 use crate::readers::{check_that, check_words, cut, is_change, name, number, row_of};
 use gate_queue::{Fault, Gate, Reply};

@@ -6,8 +6,8 @@ fn commands(rt: HostRuntime) {
         1 eve bors ping => done => 1 carol a opened 0 - - - - -
         9 eve bors ping => UnknownChange => 9 none
         1 alice bors dance => NotACommand => 1 carol a opened 0 - - - - -
-        1 alice bors try => NotACommand => 1 carol a opened 0 - - - - -
-        1 alice bors try- => NotACommand => 1 carol a opened 0 - - - - -
+        1 eve bors try => NotPermitted MemberOrDelegate => 1 carol a opened 0 - - - - -
+        1 mia bors try- => NotTrying => 1 carol a opened 0 - - - - -
         9 alice bors try => UnknownChange => 1 carol a opened 0 - - - - -
         1 carol bors r+ => NotPermitted ReviewerOrDelegate => 1 carol a opened 0 - - - - -
         1 mia bors p=5 => NotPermitted ReviewerOrDelegate => 1 carol a opened 0 - - - - -

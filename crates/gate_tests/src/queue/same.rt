@@ -140,6 +140,8 @@ fn why(rt: &impl Abort, alloc: Global, text: &str) -> Why {
         "Closed" => Why::Closed,
         "Failed" => Why::Failed(context(rt, alloc, name)),
         "TimedOut" => Why::TimedOut,
+        "TryPassed" => Why::TryPassed,
+        "TryFailed" => Why::TryFailed,
         _ => Why::Pushed,
     }
 }
@@ -229,7 +231,7 @@ fn is_reply(rt: &impl Abort, alloc: Global, found: &Reply, text: &str) -> bool {
 #[test]
 fn replies_that_are_equal(rt: HostRuntime) {
     let replies = "\
-        |1 Closed|2 Closed|1 Pushed|1 Closed, 2 Pushed|2 Pushed, 1 Closed|1 Closed, 1 Closed|1 TimedOut|1 Failed ci|2 Failed ci\
+        |1 Closed|2 Closed|1 Pushed|1 Closed, 2 Pushed|2 Pushed, 1 Closed|1 Closed, 1 Closed|1 TimedOut|1 TryPassed|1 TryFailed|1 Failed ci|2 Failed ci\
         |1 Failed lint|unknown|closed|few|fewer|stage 1 staging 0 a 1|stage 2 staging 0 a 1|stage 1 trying 0 a 1\
         |stage 1 staging 1 a 1|stage 1 staging 0 b 1|stage 1 staging 0 a 1,2|stage 1 staging 0 a 2,1|land 1 0 a|land 2 0 a\
         |land 1 1 a|land 1 0 b|1 Closed, land 1 0 a";

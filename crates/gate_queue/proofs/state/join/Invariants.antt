@@ -1,6 +1,6 @@
 use Rattle.std.proofs.Common.{◌≡◌, ◌++◌}
 use Rattle.std.specs.Vec.Iter.{into_iter_items}
-use Rattle.gate_queue.proofs.ticking.join.Given as goal
+use Rattle.gate_queue.proofs.state.join.Given as goal
 
 -- the orders so far, and then those that are left
 abbrev pub invariant-loop-order : goal.invariant-loop-order

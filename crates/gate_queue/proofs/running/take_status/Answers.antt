@@ -1,0 +1,15 @@
+use Rattle.std.proofs.Common.{◌≡◌, Bool, true, if◌then◌else◌, IfOk, sym, ◌∙◌, ap, subst}
+use Rattle.gate_queue.specs.Machine.{is_required, told_staging, told_trying, told, then_next, quiet}
+use Rattle.gate_queue.specs.declared.state.Outcome.{Outcome}
+use Rattle.gate_queue.proofs.running.take_status.Goals as goal
+
+pub returns-then-is_required-clause-value : goal.returns-then-is_required-clause-value
+returns-then-is_required-clause-value c =
+    let s = c.args.state in
+    let commit = c.args.commit in
+    let name = c.args.name.now in
+    let said = c.args.said in
+    let both : Outcome = then_next (told_staging commit name said s) (told_trying commit name said) in
+    let required : is_required s.desk.settings name ≡ true = sym c.is_required.ensures ∙ c.if-is_required.true in
+    let same : both ≡ told commit name said s = sym (ap (λ (b : Bool). if b then both else quiet s) required) in
+    subst (λ (o : Outcome). IfOk c.tell_both.result (λ outcome. outcome ≡ o)) same c.tell_both.ensures
