@@ -16,9 +16,9 @@ use Rattle.gate_rules.specs.declared.role.Role.{Role as RoleOf}
 use Rattle.gate_rules.specs.declared.role.Role.TheVariants.{Nobody, Member, Reviewer}
 use Rattle.gate_queue.specs.declared.act.StatusState.{StatusState}
 use Rattle.gate_queue.specs.declared.act.StatusState.TheVariants.{Success, Failure, Error, Pending}
-use Rattle.gate_bot.specs.declared.delivery.Delivery.{Delivery}
-use Rattle.gate_bot.specs.declared.delivery.Event.{Event}
-use Rattle.gate_bot.specs.declared.delivery.Event.TheVariants.{Comment, Role, Settings, Base, Opened, Pushed, Closed, Labeled, Unlabeled, Review, Staged, Conflict, Status, Refused, Tick}
+use Rattle.gate_store.specs.declared.delivery.Delivery.{Delivery}
+use Rattle.gate_store.specs.declared.delivery.Event.{Event}
+use Rattle.gate_store.specs.declared.delivery.Event.TheVariants.{Comment, Role, Settings, Base, Opened, Pushed, Closed, Labeled, Unlabeled, Review, Staged, Conflict, Status, Refused, Tick}
 use Rattle.gate_bot.specs.declared.field.Field.{Field}
 use Rattle.gate_bot.specs.declared.field.Field.TheVariants as field
 use Rattle.gate_bot.specs.declared.reading.DeliveryFault.{DeliveryFault}

@@ -1,18 +1,16 @@
-ghost use Rattle.std.specs.Prelude.{◌≡◌, ◌+◌, ◌<◌, ◌≤◌, ◌^◌, ◌++◌, ◌∷◌, ℕ, [], List, Option, length, IfOk, IfErr, OnOk, Ok, Some, ◌⊎◌};
+ghost use Rattle.std.specs.Prelude.{◌≡◌, ◌+◌, ◌<◌, ◌≤◌, ◌^◌, ◌++◌, ◌∷◌, ℕ, [], List, Option, length, IfOk, IfErr, OnOk, Ok, ◌⊎◌};
 ghost use Rattle.std.specs.String.{string_bytes};
 ghost use Rattle.std.specs.Io.KnownBytes.{Consumes, IsAtEnd};
+ghost use Rattle.gate_store.specs.Run.{Records, EndsBy, IsOfKeepers, meets_full};
 ghost use Rattle.gate_bot.specs.Lines.{line_text, after_line, text_answered, after_reading, MayEnd, StopsAtLine, IsServed, IsWithinLimit};
-ghost use Rattle.gate_bot.specs.Serving.{IsAnswered, IsUpTo, IsRead, TakesByte, TakesBytes};
-ghost use Rattle.gate_bot.specs.Shown.{Shown};
+ghost use Rattle.gate_bot.specs.Serving.{IsAnswered, IsUpTo, IsRead, MayStop, TakesByte, TakesBytes};
 
-use crate::answers::answer_text;
-use crate::deliver::Deliver;
-use crate::delivery::Delivery;
 use crate::errors::error_text;
 use crate::line::Line;
 use crate::reading::{DeliveryFault, read_delivery};
 use crate::sending::send;
 use gate_queue::Fault;
+use gate_store::{Book, Delivery, Keeper, answer_text};
 use std::alloc::{AllocError, Global};
 use std::io::{Read, Write};
 use thiserror::Error;
@@ -52,33 +50,36 @@ fn with_line_feed(text: String) -> Result<String, AllocError>
 }
 
 // The text of the answer to a delivery, with its line feed.
-fn delivery_answer<D: Deliver>(
+fn delivery_answer<B: Book>(
     alloc: Global,
-    bot: &mut D,
+    keeper: &mut Keeper<B>,
     delivery: &Delivery,
 ) -> Result<String, Fault>
-    ensures text { IfOk result (λ text. string_bytes text ≡ text_answered (D.shows bot.old) (Ok delivery.now) ++ 10 ∷ []) }
-    ensures bot { OnOk result (D.shows bot.new ≡ after_reading (D.shows bot.old) (Ok delivery.now)) }
-    ensures cause { IfErr result (MayEnd D.may_answer) }
-    ensures stops { IfErr result (λ fault. ((fault ≡ Fault.Memory) × (D.shows bot.new ≡ after_reading (D.shows bot.old) (Ok delivery.now))) ⊎ ((D.shows bot.new).stopped ≡ Some fault)) }
+    ensures text { B.is_sound keeper.new → IfOk result (λ text. string_bytes text ≡ text_answered (B.shows keeper.old) (Ok delivery.now) ++ 10 ∷ []) }
+    ensures records { B.is_sound keeper.new → OnOk result (B.shows keeper.new ≡ after_reading (B.shows keeper.old) (Ok delivery.now)) }
+    ensures stops { B.is_sound keeper.new → IfErr result (λ fault. (B.shows keeper.new ≡ B.shows keeper.old) ⊎ ((fault ≡ Fault.Memory) × (B.shows keeper.new ≡ after_reading (B.shows keeper.old) (Ok delivery.now)))) }
+    ensures full { B.is_sound keeper.new → EndsBy result (meets_full (B.shows keeper.old) delivery.now) }
+    ensures was { B.is_sound keeper.new → B.is_sound keeper.old }
+    ensures cause { IfErr result (IsOfKeepers B.may_answer) }
 {
-    let answer = bot.answer(alloc, delivery)?;
-    let text = answer_text(alloc, answer.as_slice())?;
+    let answer = keeper.deliver(alloc, delivery)?;
+    let text = answer_text(alloc, &answer)?;
     Ok(with_line_feed(text)?)
 }
 
 // The text of the answer to a line, with its line feed.
-fn line_answer<D: Deliver>(alloc: Global, bot: &mut D, line: &Line) -> Result<String, Fault>
-    ensures text { IfOk result (λ text. string_bytes text ≡ line_text (D.shows bot.old) line.now ++ 10 ∷ []) }
-    ensures bot { OnOk result (D.shows bot.new ≡ after_line (D.shows bot.old) line.now) }
-    ensures cause { IfErr result (MayEnd D.may_answer) }
-    ensures stops { IfErr result (λ fault. StopsAtLine fault (D.shows bot.old) line.now (D.shows bot.new)) }
+fn line_answer<B: Book>(alloc: Global, keeper: &mut Keeper<B>, line: &Line) -> Result<String, Fault>
+    ensures text { B.is_sound keeper.new → IfOk result (λ text. string_bytes text ≡ line_text (B.shows keeper.old) line.now ++ 10 ∷ []) }
+    ensures records { B.is_sound keeper.new → OnOk result (B.shows keeper.new ≡ after_line (B.shows keeper.old) line.now) }
+    ensures stops { B.is_sound keeper.new → IfErr result (λ fault. StopsAtLine fault (B.shows keeper.old) line.now (B.shows keeper.new)) }
+    ensures was { B.is_sound keeper.new → B.is_sound keeper.old }
+    ensures cause { IfErr result (IsOfKeepers B.may_answer) }
 {
     if line.is_too_long() {
         return Ok(String::from_str(alloc, TOO_LONG)?);
     }
     match read_delivery(alloc, line.as_bytes()) {
-        Ok(delivery) => delivery_answer(alloc, bot, &delivery),
+        Ok(delivery) => delivery_answer(alloc, keeper, &delivery),
         Err(DeliveryFault::Memory) => Err(Fault::Memory),
         Err(fault) => {
             let text = error_text(alloc, &fault)?;
@@ -109,26 +110,27 @@ fn read_part<R: Read>(reader: &mut R, buffer: &mut [u8], room: usize) -> Result<
     }
 }
 
-// What one call has at hand: what answers deliveries, the line that is open, how many lines have ended, and where the
-// answers go.
+// What one call has at hand: the keeper, the line that is open, how many lines have ended, and where the answers go.
 #[derive(Drop)]
-struct Session<'d, 'w, D, W> {
-    bot: &'d mut D,
+struct Session<'k, 'w, B: Book, W> {
+    keeper: &'k mut Keeper<B>,
     line: Line,
     count: u64,
     writer: &'w mut W,
 }
 
-impl<D: Deliver, W: Write> Session<'_, '_, D, W> {
+impl<B: Book, W: Write> Session<'_, '_, B, W> {
     // Answers the line that is open: its text goes out whole, and a part of it if the writer refuses the rest.
     fn answer_line(&mut self, alloc: Global) -> Result<(), HookFault>
-        ensures answered { IsAnswered D.may_answer result (D.shows self.old.bot.now) self.old.line (D.shows self.new.bot.now) (W.contents self.old.writer.now) (W.contents self.new.writer.now) }
+        ensures answered { B.is_sound self.new.keeper.now → IsAnswered result (B.shows self.old.keeper.now) self.old.line (B.shows self.new.keeper.now) (W.contents self.old.writer.now) (W.contents self.new.writer.now) }
+        ensures was { B.is_sound self.new.keeper.now → B.is_sound self.old.keeper.now }
+        ensures cause { IfErr result (MayStop B.may_answer) }
         ensures line { self.new.line ≡ self.old.line }
         ensures count { self.new.count ≡ self.old.count }
-        ensures same_bot { self.new.bot.ghost_name ≡ self.old.bot.ghost_name }
+        ensures same_keeper { self.new.keeper.ghost_name ≡ self.old.keeper.ghost_name }
         ensures same_writer { self.new.writer.ghost_name ≡ self.old.writer.ghost_name }
     {
-        let text = match line_answer(alloc, self.bot, &self.line) {
+        let text = match line_answer(alloc, self.keeper, &self.line) {
             Ok(text) => text,
             Err(fault) => return Err(HookFault::Gate(fault)),
         };
@@ -141,11 +143,13 @@ impl<D: Deliver, W: Write> Session<'_, '_, D, W> {
     // Takes one byte: a line feed ends the line that is open, which is answered; any other byte goes on with it.
     fn take_byte(&mut self, alloc: Global, byte: u8) -> Result<(), HookFault>
         requires { self.old.count < 2 ^ 32 }
-        ensures taken { (opened : Shown) (input : List ℕ) (before : Option (List ℕ))
-            → IsUpTo opened input (D.shows self.old.bot.now) self.old.line self.old.count before (W.contents self.old.writer.now)
-            → TakesByte D.may_answer result opened input byte (D.shows self.new.bot.now) self.new.line self.new.count before (W.contents self.new.writer.now) }
+        ensures taken { (opened : Records) (input : List ℕ) (before : Option (List ℕ))
+            → IsUpTo (B.is_sound self.old.keeper.now) opened input (B.shows self.old.keeper.now) self.old.line self.old.count before (W.contents self.old.writer.now)
+            → TakesByte (B.is_sound self.new.keeper.now) result opened input byte (B.shows self.new.keeper.now) self.new.line self.new.count before (W.contents self.new.writer.now) }
+        ensures was { B.is_sound self.new.keeper.now → B.is_sound self.old.keeper.now }
+        ensures cause { IfErr result (MayStop B.may_answer) }
         ensures count { self.new.count ≤ self.old.count + 1 }
-        ensures same_bot { self.new.bot.ghost_name ≡ self.old.bot.ghost_name }
+        ensures same_keeper { self.new.keeper.ghost_name ≡ self.old.keeper.ghost_name }
         ensures same_writer { self.new.writer.ghost_name ≡ self.old.writer.ghost_name }
     {
         if byte != b'\n' {
@@ -165,11 +169,13 @@ impl<D: Deliver, W: Write> Session<'_, '_, D, W> {
     // Takes the bytes of a chunk, in order.
     fn take_chunk(&mut self, alloc: Global, bytes: &[u8]) -> Result<(), HookFault>
         requires { self.old.count + length bytes.now ≤ 2 ^ 32 }
-        ensures taken { (opened : Shown) (input : List ℕ) (before : Option (List ℕ))
-            → IsUpTo opened input (D.shows self.old.bot.now) self.old.line self.old.count before (W.contents self.old.writer.now)
-            → TakesBytes D.may_answer result opened input bytes.now (D.shows self.new.bot.now) self.new.line self.new.count before (W.contents self.new.writer.now) }
+        ensures taken { (opened : Records) (input : List ℕ) (before : Option (List ℕ))
+            → IsUpTo (B.is_sound self.old.keeper.now) opened input (B.shows self.old.keeper.now) self.old.line self.old.count before (W.contents self.old.writer.now)
+            → TakesBytes (B.is_sound self.new.keeper.now) result opened input bytes.now (B.shows self.new.keeper.now) self.new.line self.new.count before (W.contents self.new.writer.now) }
+        ensures was { B.is_sound self.new.keeper.now → B.is_sound self.old.keeper.now }
+        ensures cause { IfErr result (MayStop B.may_answer) }
         ensures count { self.new.count ≤ self.old.count + length bytes.now }
-        ensures same_bot { self.new.bot.ghost_name ≡ self.old.bot.ghost_name }
+        ensures same_keeper { self.new.keeper.ghost_name ≡ self.old.keeper.ghost_name }
         ensures same_writer { self.new.writer.ghost_name ≡ self.old.writer.ghost_name }
     {
         for byte in bytes {
@@ -185,10 +191,13 @@ impl<D: Deliver, W: Write> Session<'_, '_, D, W> {
     fn finish(&mut self, alloc: Global) -> Result<u64, HookFault>
         requires { self.old.count ≤ 2 ^ 32 }
         ensures within { (input : List ℕ) → length input ≤ MAX_INPUT → IsWithinLimit result input }
-        ensures served { (opened : Shown) (input : List ℕ) (left before : Option (List ℕ))
-            → IsUpTo opened input (D.shows self.old.bot.now) self.old.line self.old.count before (W.contents self.old.writer.now) → IsAtEnd left
-            → IsServed D.may_answer result opened input left (D.shows self.new.bot.now) before (W.contents self.new.writer.now) }
-        ensures same_bot { self.new.bot.ghost_name ≡ self.old.bot.ghost_name }
+        ensures served { (opened : Records) (input : List ℕ) (left before : Option (List ℕ))
+            → IsUpTo (B.is_sound self.old.keeper.now) opened input (B.shows self.old.keeper.now) self.old.line self.old.count before (W.contents self.old.writer.now)
+            → IsAtEnd left → B.is_sound self.new.keeper.now
+            → IsServed result opened input left (B.shows self.new.keeper.now) before (W.contents self.new.writer.now) }
+        ensures was { B.is_sound self.new.keeper.now → B.is_sound self.old.keeper.now }
+        ensures cause { IfErr result (MayEnd B.may_answer) }
+        ensures same_keeper { self.new.keeper.ghost_name ≡ self.old.keeper.ghost_name }
         ensures same_writer { self.new.writer.ghost_name ≡ self.old.writer.ghost_name }
     {
         if self.line.is_empty() {
@@ -202,12 +211,15 @@ impl<D: Deliver, W: Write> Session<'_, '_, D, W> {
 
     // Takes the whole input of a reader, chunk by chunk.
     fn serve<R: Read>(&mut self, alloc: Global, reader: &mut R) -> Result<u64, HookFault>
-        requires { IsUpTo (D.shows self.old.bot.now) [] (D.shows self.old.bot.now) self.old.line self.old.count (W.contents self.old.writer.now) (W.contents self.old.writer.now) }
+        requires { IsUpTo (B.is_sound self.old.keeper.now) (B.shows self.old.keeper.now) [] (B.shows self.old.keeper.now) self.old.line self.old.count (W.contents self.old.writer.now) (W.contents self.old.writer.now) }
         ensures served { (input : List ℕ) × Consumes (R.remaining reader.old) (R.remaining reader.new) input
             × IsWithinLimit result input
-            × IsServed D.may_answer result (D.shows self.old.bot.now) input (R.remaining reader.new) (D.shows self.new.bot.now) (W.contents self.old.writer.now) (W.contents self.new.writer.now) }
+            × (B.is_sound self.new.keeper.now
+            → IsServed result (B.shows self.old.keeper.now) input (R.remaining reader.new) (B.shows self.new.keeper.now) (W.contents self.old.writer.now) (W.contents self.new.writer.now)) }
         ensures end { OnOk result (IsAtEnd (R.remaining reader.new)) }
-        ensures same_bot { self.new.bot.ghost_name ≡ self.old.bot.ghost_name }
+        ensures was { B.is_sound self.new.keeper.now → B.is_sound self.old.keeper.now }
+        ensures cause { IfErr result (MayEnd B.may_answer) }
+        ensures same_keeper { self.new.keeper.ghost_name ≡ self.old.keeper.ghost_name }
         ensures same_writer { self.new.writer.ghost_name ≡ self.old.writer.ghost_name }
     {
         let mut buffer = [0; CHUNK];
@@ -234,26 +246,37 @@ impl<D: Deliver, W: Write> Session<'_, '_, D, W> {
 ///
 /// Each fault ends the call; the lines before the one that it came at are answered. After `Read` and `TooMuch` a line
 /// that isn't complete is dropped. After `Write` the line has acted, and a part of its answer, but not all, is written.
-/// After `Gate`, which is `Memory` or what the bot may answer, nothing of the answer is written; the line may have acted,
-/// and the bot may have stopped. Of the reader up to 8,191 bytes behind that line may be taken.
+/// After `Gate`, which has a fault of the keeper's, nothing of the answer is written, and the line has changed nothing; but
+/// after `Memory` it may have acted, with its answer kept. Whatever the fault, an answer that is kept is written if the
+/// delivery is handed in again. Of the reader up to 8,191 bytes behind that line may be taken.
+///
+/// What is said of answers, of the count and of the book holds if the book's premise does; how much is read, and which faults
+/// may come, holds without it.
 ///
 /// The buffers have a fixed size, whatever the input. The writer isn't flushed, so it shouldn't keep bytes back.
-pub fn serve_lines<D: Deliver, R: Read, W: Write>(
+pub fn serve_lines<B: Book, R: Read, W: Write>(
     alloc: Global,
-    bot: &mut D,
+    keeper: &mut Keeper<B>,
     reader: &mut R,
     writer: &mut W,
 ) -> Result<u64, HookFault>
-    // What is written is the text for the lines that were consumed.
+    // Within the limit, input was consumed. If the book is sound, what is written is the text for its lines.
     ensures served { (input : List ℕ) × Consumes (R.remaining reader.old) (R.remaining reader.new) input
         × IsWithinLimit result input
-        × IsServed D.may_answer result (D.shows bot.old) input (R.remaining reader.new) (D.shows bot.new) (W.contents writer.old) (W.contents writer.new) }
+        × (B.is_sound keeper.new
+        → IsServed result (B.shows keeper.old) input (R.remaining reader.new) (B.shows keeper.new) (W.contents writer.old) (W.contents writer.new)) }
 
     // It succeeds at the end of the input alone.
     ensures end { OnOk result (IsAtEnd (R.remaining reader.new)) }
+
+    // A fault of the gate is one that the keeper may answer.
+    ensures cause { IfErr result (MayEnd B.may_answer) }
+
+    // A book that is sound in the end was sound before.
+    ensures was { B.is_sound keeper.new → B.is_sound keeper.old }
 {
     let mut session = Session {
-        bot,
+        keeper,
         line: Line::new(),
         count: 0,
         writer,

@@ -4,11 +4,10 @@ ghost use Rattle.serde_json.specs.View.{view};
 ghost use Rattle.gate_bot.specs.Deliveries as deliveries;
 ghost use Rattle.gate_bot.specs.Deliveries.{Reads, delivery_of};
 
-use crate::delivery::{Delivery, Event};
 use crate::field::Field;
-use crate::moment::Moment;
 use gate_queue::StatusState;
 use gate_rules::Role;
+use gate_store::{Delivery, Event, Moment};
 use gate_text::{ChangeNo, Commit, Context, DeliveryId, Label, Name, Text, TextFault, unless_bad};
 use serde_json::Value;
 use std::alloc::{AllocError, Global};

@@ -508,6 +508,13 @@ on_time on old new lane settings clock is =
 abbrev OthersStay : ℕ → DeskView → DeskView → Type 0
 OthersStay change old new = (other : ℕ) → eqb other change ≡ false → finite.get new.changes other ≡ finite.get old.changes other
 
+-- what is done to tries leaves the other branch
+pub tried_by_staging : (was is : Bool) (change : ℕ) (queue : Queue) → (tried_by was is change queue).staging ≡ queue.staging
+tried_by_staging false false change queue = refl
+tried_by_staging false true change queue = refl
+tried_by_staging true false change queue = refl
+tried_by_staging true true change queue = refl
+
 -- what an act about one change leaves as it was; one that is landing isn't approved anew, and keeps its priority
 pub record OnlyAt (change : ℕ) (old new : DeskView) : Type 0 where
   pub settings : new.settings ≡ old.settings
@@ -641,12 +648,6 @@ module _ (old new : DeskView) (change : ℕ) (only : OnlyAt change old new) wher
   still_tried true true false size priority queue = refl
   still_tried true true true size priority queue = refl
 
-  still_staged : (was now : Bool) (queue : Queue) → (tried_by was now change queue).staging ≡ queue.staging
-  still_staged false false queue = refl
-  still_staged false true queue = refl
-  still_staged true false queue = refl
-  still_staged true true queue = refl
-
   -- both stay in order, and tries alone
   followed_order : (was now moved : Bool) (size : Option ℕ) (priority : ℤ) (queue : Queue) → QueueIsInOrder queue → QueueIsInOrder (followed was now moved size priority change queue)
   followed_order false false moved size priority queue order = order
@@ -677,7 +678,7 @@ module _ (old new : DeskView) (change : ℕ) (only : OnlyAt change old new) wher
       let same = still_tried was now moved (size_on new) (priority_on new change) queue in
       record {
         order = tried_order_by (trying_on old change) (trying_on new change) middle (followed_order was now moved (size_on new) (priority_on new change) queue is.order);
-        staging = on_time Staging old new _ only.settings only.clock (subst (IsBranch Staging old.clock old.settings (marks_on Staging new)) (sym (still_staged (trying_on old change) (trying_on new change) middle)) (approval_keeps queue is.staging));
+        staging = on_time Staging old new _ only.settings only.clock (subst (IsBranch Staging old.clock old.settings (marks_on Staging new)) (sym (tried_by_staging (trying_on old change) (trying_on new change) change middle)) (approval_keeps queue is.staging));
         trying = on_time Trying old new _ only.settings only.clock (try_keeps middle (subst (IsBranch Trying old.clock old.settings (marks_on Trying old)) (sym same) is.trying));
         alone = tried_alone_by (trying_on old change) (trying_on new change) middle (subst AreAlone (sym same) is.alone);
       }

@@ -24,7 +24,7 @@ use Rattle.gate_rules.specs.declared.rule.Rule.{Rule}
 use Rattle.gate_rules.specs.declared.rule.Rule.TheVariants.{ClockBack, NoSuchBatch}
 use Rattle.gate_queue.specs.Acts.{IsMoment}
 use Rattle.gate_queue.specs.Counts.{occurs, in_landing, held, held_by, of_any_priority, uses}
-use Rattle.gate_queue.specs.History.{Entry, Event, did, gave, given, ends_why, happened, events_of, last_of, said_on, author_back, head_back, settings_back, phase_back, labels_back, reviews_back, approval_said, standing_back, approvers_back, landing_back, trying_back, approvers_on, change_of, change_back, look_back, stages, keeps_order, keeps_staged, state_said, base_back, IsStandingAt, IsTriedAt, AreRightHeads, IsRightOrder, Legal, EntryTells, entry_of, orders_in, denied_by}
+use Rattle.gate_queue.specs.History.{Entry, Event, did, gave, given, ends_why, happened, events_of, last_of, said_on, author_back, head_back, settings_back, phase_back, labels_back, reviews_back, approval_said, standing_back, approvers_back, landing_back, trying_back, approvers_on, change_of, change_back, look_back, stages, keeps_order, keeps_staged, state_said, base_back, IsStandingAt, IsTriedAt, AreRightHeads, IsRightOrder, Legal, StateTells, EntryTells, entry_of, orders_in, denied_by}
 use Rattle.gate_queue.specs.Lanes as lanes
 use Rattle.gate_queue.specs.Lanes.{batches_of, is_landing}
 use Rattle.gate_queue.specs.Machine.{broken, denial, meaning, acted, missing, on_either, has_ordered, is_ordered, has_staged, is_staged_with, empty_state, answered, approved_on, landing_on, trying_on, priority_on, quiet, then_next, about, with_desk, with_queue, effect, notices, are_present, under, accepted, lone, lone_notices, failing, try_ended, given_up, ordered_on, is_required, has_passed, goes_on, told_of, told_staging, try_if_passed, try_goes_on, try_told_of, told_trying, told, lands_with, sent_back, has_overdue, timed_out, try_timed_out, ended_on_time, head_on, first_order, starting, all_starting, done, reply_to, unless_denied, after}
@@ -678,36 +678,52 @@ trying_as : (events : List Event) (change : ℕ) → Unseen events change → (a
 trying_as events change unseen (Some author) is = refl
 trying_as events change unseen None is = sym (blank_trying events change (unseen is))
 
+-- the state that a legal history led to
+state_told : (history : List Entry) (s : State) → IsState s → Whole (events_of history) s → StateTells history s
+state_told history s is whole =
+    let now = events_of history in
+    let kept = whole.kept in
+    let same = kept.same in
+    let approvers : (change : ℕ) → approvers_on s.desk change ≡ approvers_back now change =
+    λ change. ap (λ (l : Look). option_and_then (λ (c : Change). c.approved) (l.change change)) same ∙ approved_there now change (kept.unseen change) in
+    let stands : (change : ℕ) → approved_on s.desk change ≡ standing_back now change =
+    λ change. approved_as (finite.get s.desk.changes change) ∙ ap is_some (approvers change) ∙ standing_approved now change in
+    let landing : (change : ℕ) → landing_on s.desk change ≡ landing_back now change =
+    λ change. ap (λ (l : Look). option_map_or (λ (c : Change). c.landing) (l.change change) false) same ∙ landing_as now change (kept.unseen change) (author_back now change) refl in
+    let trying : (change : ℕ) → trying_on s.desk change ≡ trying_back now change =
+    λ change. ap (λ (l : Look). option_map_or (λ (c : Change). c.trying) (l.change change) false) same ∙ trying_as now change (kept.unseen change) (author_back now change) refl in
+    record {
+      roles = λ person. ap (λ (l : Look). l.role person) same;
+      settings = ap (λ (l : Look). l.settings) same;
+      base = ap (λ (l : Look). l.base) same;
+      clock = ap (λ (l : Look). l.clock) same;
+      changes = λ change. ap (λ (l : Look). l.change change) same;
+      approvers = approvers;
+      queued = λ change. is.queue.staging.places change ∙ (λ i. if stands change i || landing change i then 1 else 0);
+      landing = λ change. is.queue.staging.landing change ∙ ap {B = ℕ} (λ (b : Bool). if b then 1 else 0) (landing change);
+      tried = λ change. is.queue.trying.places change ∙ ap {B = ℕ} (λ (b : Bool). if b then 1 else 0) (or_false (trying_on s.desk change) ∙ trying change);
+    } where
+      or_false : (b : Bool) → (b || false) ≡ b
+      or_false true = refl
+      or_false false = refl
+
+pub histories_law : (history : List Entry) (s : State) → Legal history s → StateTells history s
+histories_law history s legal = state_told history s (legal_state history s legal) (keeps history s legal)
+
 -- one more entry, after every legal history
 pub tells : (history : List Entry) (old : State) (act : Act) → IsState (after old act) → Legal history old → EntryTells history old (entry_of act (reply_to old act)) (after old act)
 tells history old act is legal =
     let new = after old act in
-    let now = events_of (entry_of act (reply_to old act) ∷ history) in
+    let entry = entry_of act (reply_to old act) in
+    let now = events_of (entry ∷ history) in
     let whole = keeps history old legal in
     let next = whole_next (events_of history) old act (legal_state history old legal) is whole in
-    let kept = next.0.kept in
-    let same = kept.same in
-    let approvers : (change : ℕ) → approvers_on new.desk change ≡ approvers_back now change =
-    λ change. ap (λ (s : Look). option_and_then (λ (c : Change). c.approved) (s.change change)) same ∙ approved_there now change (kept.unseen change) in
-    let stands : (change : ℕ) → approved_on new.desk change ≡ standing_back now change =
-    λ change. approved_as (finite.get new.desk.changes change) ∙ ap is_some (approvers change) ∙ standing_approved now change in
-    let landing : (change : ℕ) → landing_on new.desk change ≡ landing_back now change =
-    λ change. ap (λ (s : Look). option_map_or (λ (c : Change). c.landing) (s.change change) false) same ∙ landing_as now change (kept.unseen change) (author_back now change) refl in
-    let trying : (change : ℕ) → trying_on new.desk change ≡ trying_back now change =
-    λ change. ap (λ (s : Look). option_map_or (λ (c : Change). c.trying) (s.change change) false) same ∙ trying_as now change (kept.unseen change) (author_back now change) refl in
+    let numbered = next.0.kept.numbered in
     record {
-      roles = λ person. ap (λ (s : Look). s.role person) same;
-      settings = ap (λ (s : Look). s.settings) same;
-      base = ap (λ (s : Look). s.base) same;
-      clock = ap (λ (s : Look). s.clock) same;
-      changes = λ change. ap (λ (s : Look). s.change change) same;
-      approvers = approvers;
-      queued = λ change. is.queue.staging.places change ∙ (λ i. if stands change i || landing change i then 1 else 0);
-      landing = λ change. is.queue.staging.landing change ∙ ap {B = ℕ} (λ (b : Bool). if b then 1 else 0) (landing change);
-      tried = λ change. is.queue.trying.places change ∙ ap {B = ℕ} (λ (b : Bool). if b then 1 else 0) (or_false (trying_on new.desk change) ∙ trying change);
-      staged_once = λ number. once (ltb number new.queue.next) (stages number now) (waits number new.queue) (kept.numbered.once number);
+      state = state_told (entry ∷ history) new is next.0;
+      staged_once = λ number. once (ltb number new.queue.next) (stages number now) (waits number new.queue) (numbered.once number);
       landed_once = λ number.
-          omega (arith, kept.numbered.lands number, once (ltb number new.queue.next) (stages number now) (waits number new.queue) (kept.numbered.once number));
+          omega (arith, numbered.lands number, once (ltb number new.queue.next) (stages number now) (waits number new.queue) (numbered.once number));
       ordered_rightly = next.1;
       by_rule =
           rule_answered (denial old act) (acted old act).orders
@@ -718,7 +734,3 @@ tells history old act is legal =
       once : (b : Bool) (staged waiting : ℕ) → staged + waiting ≤ (if b then 1 else 0) → staged ≤ 1
       once true staged waiting few = omega (arith, few)
       once false staged waiting few = omega (arith, few)
-
-      or_false : (b : Bool) → (b || false) ≡ b
-      or_false true = refl
-      or_false false = refl

@@ -16,7 +16,7 @@ use Rattle.gate_queue.specs.Counts.{held, held_by, of_any_priority, uses}
 use Rattle.gate_queue.specs.History.{Event, did, gave, given, last_of, landing_said, author_back, change_of, names_change, batches_back, landing_with, is_order, is_stage_of, is_land_of, stages, landings, ends_why, tells_of_try, look_back}
 use Rattle.gate_queue.specs.Lanes as lanes
 use Rattle.gate_queue.specs.Lanes.{batches_of, is_landing, ordered_at, back, only, left, loses, stops_running, with_report, reported_on, staged_at, to_landing, to_land as lanes_to_land, taken_out, restarted, failed}
-use Rattle.gate_queue.specs.Machine.{broken, approved_on, trying_on, priority_on, size_on, all_but, followed, tried_by, approval_followed, followed_on, quiet, then_next, are_present, under, accepted, lone, lone_notices, failing, try_ended, is_required, has_passed, has_staged, to_land, land_order, if_passed, goes_on, told_of, told_staging, try_if_passed, try_goes_on, try_told_of, told_trying, told, tries_left, head_on, first_order, starting, all_starting, with_queue, has_overdue, timed_out, try_timed_out, ended_on_time}
+use Rattle.gate_queue.specs.Machine.{broken, approved_on, trying_on, priority_on, size_on, all_but, followed, approval_followed, followed_on, quiet, then_next, are_present, under, accepted, lone, lone_notices, failing, try_ended, is_required, has_passed, has_staged, to_land, land_order, if_passed, goes_on, told_of, told_staging, try_if_passed, try_goes_on, try_told_of, told_trying, told, tries_left, head_on, first_order, starting, all_starting, with_queue, has_overdue, timed_out, try_timed_out, ended_on_time}
 use Rattle.gate_queue.specs.Queue as specs
 use Rattle.gate_queue.specs.Queue.{lane_of}
 use Rattle.gate_queue.specs.State.{IsWaiting}
@@ -42,7 +42,7 @@ use Rattle.gate_queue.specs.declared.state.State.{State}
 use Rattle.gate_queue.proofs.Acting.{AreMild, failing_look, try_ended_look, starting_look, land_look}
 use Rattle.gate_queue.proofs.After.{order_elsewhere}
 use Rattle.gate_queue.proofs.Growing.{waits, Grows, same_grows, failed_grows, started_grows, reported_grows, dropped_grows}
-use Rattle.gate_queue.proofs.Keeping.{lands, some_there}
+use Rattle.gate_queue.proofs.Keeping.{lands, some_there, tried_by_staging}
 use Rattle.gate_queue.proofs.Landing.{Lands, Members, list_any_skip, commit_of, landing_of, none_lands, named_heads, staged_named}
 use Rattle.gate_queue.proofs.Numbers.{has_number, all_uses}
 use Rattle.gate_queue.proofs.States.{Holds, ready, tried_ready, running_ready, queued_held, tried_held, staged_so, overdue_so, reported_holds, starting_holds}
@@ -118,13 +118,6 @@ approval_goes false true moved size priority change queue = same_goes queue.stag
 approval_goes true false moved size priority change queue = taken_out_goes (all_but change) queue.next queue.staging
 approval_goes true true false size priority change queue = same_goes queue.staging.running
 approval_goes true true true size priority change queue = taken_out_goes (all_but change) queue.next queue.staging
-
--- what is done to tries leaves the other branch
-pub tried_by_staging : (was is : Bool) (change : ℕ) (queue : Queue) → (tried_by was is change queue).staging ≡ queue.staging
-tried_by_staging false false change queue = refl
-tried_by_staging false true change queue = refl
-tried_by_staging true false change queue = refl
-tried_by_staging true true change queue = refl
 
 pub tries_left_staging : (b : Bool) (desk : DeskView) (queue : Queue) → (tries_left b desk queue).staging ≡ queue.staging
 tries_left_staging true desk queue = refl

@@ -37,7 +37,8 @@ use Rattle.gate_queue.specs.declared.reply.Order.TheVariants.{Stage, Land, Notic
 use Rattle.gate_queue.specs.declared.state.State.{State}
 use Rattle.gate_queue.proofs.Keeping.{lands, none_landing}
 use Rattle.gate_queue.proofs.States.{Holds, queued_there}
-use Rattle.gate_queue.proofs.Steps.{AreNotices, tried_by_staging}
+use Rattle.gate_queue.proofs.Keeping.{tried_by_staging}
+use Rattle.gate_queue.proofs.Steps.{AreNotices}
 use Rattle.gate_queue.proofs.Tested.{Tests, TestsAt, IsOrdered, IsReported, AllStand, Elsewhere, EndNone, did_tests, notice_tests, as_reported, ordered_here, reported_here, is_tested, are_ready, still_right}
 
 -- STANDING. A change that stands was approved, so it has approvers.

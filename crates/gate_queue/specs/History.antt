@@ -547,6 +547,30 @@ Legal (entry ∷ history) s = (before : State) × Legal history before × Step b
 abbrev pub approvers_on : DeskView → ℕ → Option (List (List ℕ))
 approvers_on desk change = option_and_then (λ c. c.approved) (finite.get desk.changes change)
 
+-- WHAT A HISTORY TELLS of the state that it led to
+pub record StateTells (history : List Entry) (s : State) : Type 0 where
+  -- people, settings, base and clock are those of the history
+  pub roles : (person : List ℕ) → role_on s.desk person ≡ role_back (events_of history) person
+  pub settings : s.desk.settings ≡ settings_back (events_of history)
+  pub base : s.desk.base ≡ base_back (events_of history)
+  pub clock : s.desk.clock ≡ clock_back (events_of history)
+  -- a change is there exactly if it was opened; then its author, head, phase, priority, labels, reviews, delegates, its last
+  -- command, and whether it is tried or landing, are those of the history
+  pub changes : (change : ℕ) → finite.get s.desk.changes change ≡ change_back (events_of history) change
+  -- a change has approvers exactly if it is standing, and then those of its last approval
+  pub approvers : (change : ℕ) → approvers_on s.desk change ≡ approvers_back (events_of history) change
+  -- a change is in exactly one batch on staging if it is standing or landing, and in none if it isn't; and its batch is landing
+  -- exactly if it is
+  pub queued : (change : ℕ) → held of_any_priority change s.queue.staging
+      ≡ (if standing_back (events_of history) change || landing_back (events_of history) change then 1 else 0)
+  pub landing : (change : ℕ) → in_landing of_any_priority change s.queue.staging ≡ (if landing_back (events_of history) change then 1 else 0)
+  -- it is in exactly one batch on trying if it is tried, and in none if it isn't
+  pub tried : (change : ℕ) → held of_any_priority change s.queue.trying ≡ (if trying_back (events_of history) change then 1 else 0)
+
+-- EVERY LEGAL HISTORY TELLS that of the state that it led to.
+abbrev pub LawOfHistories : Type 0
+LawOfHistories = (history : List Entry) (s : State) → Legal history s → StateTells history s
+
 -- WHAT ONE MORE ENTRY TELLS, after a history that led from an empty state to `old`.
 -- the orders of a reply, and the rule that it names
 abbrev pub orders_in : Reply → List Order
@@ -558,23 +582,8 @@ denied_by (Done orders) = None
 denied_by (Denied rule) = Some rule
 
 pub record EntryTells (history : List Entry) (old : State) (entry : Entry) (new : State) : Type 0 where
-  -- people, settings, base and clock are those of the history with the entry
-  pub roles : (person : List ℕ) → role_on new.desk person ≡ role_back (events_of (entry ∷ history)) person
-  pub settings : new.desk.settings ≡ settings_back (events_of (entry ∷ history))
-  pub base : new.desk.base ≡ base_back (events_of (entry ∷ history))
-  pub clock : new.desk.clock ≡ clock_back (events_of (entry ∷ history))
-  -- a change is there exactly if it was opened; then its author, head, phase, priority, labels, reviews, delegates, its last
-  -- command, and whether it is tried or landing, are those of the history
-  pub changes : (change : ℕ) → finite.get new.desk.changes change ≡ change_back (events_of (entry ∷ history)) change
-  -- a change has approvers exactly if it is standing, and then those of its last approval
-  pub approvers : (change : ℕ) → approvers_on new.desk change ≡ approvers_back (events_of (entry ∷ history)) change
-  -- a change is in exactly one batch on staging if it is standing or landing, and in none if it isn't; and its batch is landing
-  -- exactly if it is
-  pub queued : (change : ℕ) → held of_any_priority change new.queue.staging
-      ≡ (if standing_back (events_of (entry ∷ history)) change || landing_back (events_of (entry ∷ history)) change then 1 else 0)
-  pub landing : (change : ℕ) → in_landing of_any_priority change new.queue.staging ≡ (if landing_back (events_of (entry ∷ history)) change then 1 else 0)
-  -- it is in exactly one batch on trying if it is tried, and in none if it isn't
-  pub tried : (change : ℕ) → held of_any_priority change new.queue.trying ≡ (if trying_back (events_of (entry ∷ history)) change then 1 else 0)
+  -- the state is as the history with the entry tells
+  pub state : StateTells (entry ∷ history) new
   -- no number was staged twice, and none was to land twice; each order is right
   pub staged_once : (number : ℕ) → stages number (events_of (entry ∷ history)) ≤ 1
   pub landed_once : (number : ℕ) → landings number (events_of (entry ∷ history)) ≤ 1

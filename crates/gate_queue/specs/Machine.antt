@@ -570,7 +570,7 @@ starting branch now s = record {
 abbrev pub all_starting : ℕ → State → Outcome
 all_starting now s = then_next (starting Staging now s) (starting Trying now)
 
--- NEWS OF A BATCH THAT WAS ORDERED, on the branch on which it was
+-- News of a batch goes to the branch on which it was ordered.
 abbrev pub ordered_on : ℕ → Queue → Branch
 ordered_on number queue = if has_ordered number queue.staging then Staging else Trying
 

@@ -1,8 +1,8 @@
-ghost use Rattle.std.specs.Prelude.{◌≡◌, OnOk};
+ghost use Rattle.std.specs.Prelude.{◌≡◌, IfOk, OnOk};
 ghost use Rattle.std.specs.FinMap.{empty, get, insert};
 ghost use Rattle.gate_queue.specs.Machine.{has_succeeded};
 
-use gate_text::{ChangeNo, Commit, Context, List};
+use gate_text::{ChangeNo, Commit, Context, List, TryCopy, copy_map};
 use std::alloc::{AllocError, Global};
 use std::collections::BTreeMap;
 use std::marker::Model;
@@ -23,6 +23,12 @@ pub enum Report {
     Success,
     /// It goes on.
     Pending,
+}
+
+impl TryCopy for Report {
+    fn try_copy(&self, _alloc: Global) -> Result<Report, AllocError> {
+        Ok(*self)
+    }
 }
 
 /// The last report of each required status that one has come of. A contract sees it as the finite map.
@@ -81,6 +87,15 @@ impl Reports {
             Some(Report::Pending) | None => false,
         }
     }
+
+    // A copy, or `AllocError` if there is no memory for it.
+    fn copy(&self, alloc: Global) -> Result<Reports, AllocError>
+        ensures { IfOk result (λ copy. copy ≡ self.now) }
+    {
+        Ok(Reports {
+            reports: copy_map(alloc, &self.reports)?,
+        })
+    }
 }
 
 /// Where a batch stands. Moments are readings of the clock, in seconds.
@@ -109,6 +124,28 @@ pub enum Stage {
     },
 }
 
+impl Stage {
+    // A copy, or `AllocError` if there is no memory for it.
+    fn copy(&self, alloc: Global) -> Result<Stage, AllocError>
+        ensures { IfOk result (λ copy. copy ≡ self.now) }
+    {
+        Ok(match self {
+            Stage::Waiting => Stage::Waiting,
+            Stage::Ordered { since } => Stage::Ordered { since: *since },
+            Stage::Staged {
+                since,
+                commit,
+                reports,
+            } => Stage::Staged {
+                since: *since,
+                commit: *commit,
+                reports: reports.copy(alloc)?,
+            },
+            Stage::Landing { commit } => Stage::Landing { commit: *commit },
+        })
+    }
+}
+
 /// Changes in an order. A contract sees them as the list of their numbers.
 pub type Changes = List<ChangeNo>;
 
@@ -127,4 +164,17 @@ pub struct Batch {
     pub stage: Stage,
     /// Its changes, in the order in which they are merged; one alone on `Trying`.
     pub changes: Changes,
+}
+
+impl TryCopy for Batch {
+    fn try_copy(&self, alloc: Global) -> Result<Batch, AllocError> {
+        Ok(Batch {
+            number: self.number,
+            branch: self.branch,
+            priority: self.priority,
+            again: self.again,
+            stage: self.stage.copy(alloc)?,
+            changes: self.changes.copy(alloc)?,
+        })
+    }
 }

@@ -71,6 +71,15 @@ impl Gate {
         }
     }
 
+    /// A copy, or `AllocError` if there is no memory for it.
+    pub fn copy(&self, alloc: Global) -> Result<Gate, AllocError>
+        ensures value { IfOk result (λ copy. copy ≡ self.now) }
+    {
+        Ok(Gate {
+            state: self.state.copy(alloc)?,
+        })
+    }
+
     /// Lets an act that keeps its limits step, and answers the gate after it and the reply. `Full` if the next number is
     /// above 8,999,999,999,999,996, whatever the act is; else the one fault is `Memory`. After a fault the gate is spent.
     pub fn act(self, alloc: Global, act: &Act) -> Result<(Gate, Reply), Fault>

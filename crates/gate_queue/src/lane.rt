@@ -9,7 +9,7 @@ use crate::waiting::{
     MAX_NUMBER, enter, enter_alone, has_all, has_several, is_landing, keep, left, put_back,
     split_into,
 };
-use gate_text::{ChangeNo, Commit, Context, List};
+use gate_text::{ChangeNo, Commit, Context, List, TryCopy};
 use std::alloc::{AllocError, Global};
 
 /// Batches in order of service. A contract sees them as the list of the batches.
@@ -33,6 +33,20 @@ impl Lane {
             running: None,
             waiting: Batches::from(Vec::new(alloc)),
         }
+    }
+
+    // A copy, or `AllocError` if there is no memory for it.
+    pub(crate) fn copy(&self, alloc: Global) -> Result<Lane, AllocError>
+        ensures value { IfOk result (λ copy. copy ≡ self.now) }
+    {
+        let running = match &self.running {
+            Some(batch) => Some(batch.try_copy(alloc)?),
+            None => None,
+        };
+        Ok(Lane {
+            running,
+            waiting: self.waiting.copy(alloc)?,
+        })
     }
 
     /// The batch of this number, if it is on this branch.

@@ -1,5 +1,6 @@
 ghost use Rattle.gate_queue.specs.Counts.{LawOfEnqueue, LawOfTry, LawOfTakeOut, LawOfRestart, LawOfStart, LawOfStage, LawOfReport, LawOfLand, LawOfRequeue, LawOfFail, LawOfDrop};
 ghost use Rattle.gate_queue.specs.Following.{LawOfTheQueue};
+ghost use Rattle.gate_queue.specs.History.{LawOfHistories};
 ghost use Rattle.gate_queue.specs.Service.{LawOfNumbers, LawOfOrder, LawOfPlaces, LawOfRests, LawOfSingles};
 ghost use Rattle.gate_queue.specs.State.{LawOfStates};
 ghost use Rattle.gate_queue.specs.Words.{LawOfSince, LawOfTheLast, LawOfSets, LawOfTests};
@@ -66,4 +67,11 @@ pub fn law_of_the_queue()
 /// success, and no bad one before.
 pub fn law_of_tests()
     ensures { LawOfTests }
+{}
+
+/// The law of histories: after every legal history, roles, settings, base and clock of the state are what the history says;
+/// each change is what the history says of it; it has approvers exactly if an approval of it stands; and it is in one batch on
+/// `Staging` if it stands or is landing, in one on `Trying` if it is tried, and else in none.
+pub fn law_of_histories()
+    ensures { LawOfHistories }
 {}

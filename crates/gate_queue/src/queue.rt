@@ -33,6 +33,17 @@ impl Queue {
         }
     }
 
+    // A copy, or `AllocError` if there is no memory for it.
+    pub(crate) fn copy(&self, alloc: Global) -> Result<Queue, AllocError>
+        ensures value { IfOk result (λ copy. copy ≡ self.now) }
+    {
+        Ok(Queue {
+            staging: self.staging.copy(alloc)?,
+            trying: self.trying.copy(alloc)?,
+            next: self.next,
+        })
+    }
+
     /// The batches of a branch.
     pub fn lane(&self, branch: Branch) -> &Lane
         ensures value { result.now ≡ specs.lane_of branch self.now }

@@ -1,6 +1,9 @@
+ghost use Rattle.std.specs.Prelude.{◌≡◌, IfOk};
+
 use crate::batch::Branch;
 use gate_rules::Rule;
-use gate_text::{ChangeNo, Commit, Context, List};
+use gate_text::{ChangeNo, Commit, Context, List, TryCopy};
+use std::alloc::{AllocError, Global};
 
 /// Why a change's approval or try has ended without a command.
 #[derive(Debug, Drop, PartialEq, Eq)]
@@ -27,6 +30,26 @@ pub enum Why {
     TryFailed,
 }
 
+impl Why {
+    // A copy, or `AllocError` if there is no memory for it.
+    fn copy(&self, alloc: Global) -> Result<Why, AllocError>
+        ensures { IfOk result (λ copy. copy ≡ self.now) }
+    {
+        Ok(match self {
+            Why::Conflict => Why::Conflict,
+            Why::Failed(status) => Why::Failed(status.copy(alloc)?),
+            Why::TimedOut => Why::TimedOut,
+            Why::Pushed => Why::Pushed,
+            Why::Closed => Why::Closed,
+            Why::Labeled => Why::Labeled,
+            Why::Reviews => Why::Reviews,
+            Why::Settings => Why::Settings,
+            Why::TryPassed => Why::TryPassed,
+            Why::TryFailed => Why::TryFailed,
+        })
+    }
+}
+
 /// A change and the head at which it is to be merged.
 #[derive(Clone, Copy, Debug, PartialEq, Eq)]
 pub struct Head {
@@ -34,6 +57,12 @@ pub struct Head {
     pub change: ChangeNo,
     /// Its head.
     pub head: Commit,
+}
+
+impl TryCopy for Head {
+    fn try_copy(&self, _alloc: Global) -> Result<Head, AllocError> {
+        Ok(*self)
+    }
 }
 
 /// Heads, in the order in which they are to be merged.
@@ -71,6 +100,37 @@ pub enum Order {
     },
 }
 
+impl TryCopy for Order {
+    fn try_copy(&self, alloc: Global) -> Result<Order, AllocError> {
+        Ok(match self {
+            Order::Stage {
+                batch,
+                branch,
+                base,
+                heads,
+            } => Order::Stage {
+                batch: *batch,
+                branch: *branch,
+                base: *base,
+                heads: heads.copy(alloc)?,
+            },
+            Order::Land {
+                batch,
+                base,
+                commit,
+            } => Order::Land {
+                batch: *batch,
+                base: *base,
+                commit: *commit,
+            },
+            Order::Notice { change, why } => Order::Notice {
+                change: *change,
+                why: why.copy(alloc)?,
+            },
+        })
+    }
+}
+
 /// Orders, in the order in which the host is to carry them out.
 pub type Orders = List<Order>;
 
@@ -81,4 +141,13 @@ pub enum Reply {
     Done(Orders),
     /// It was denied by the first of its rules that fails. It changed nothing, and gives no orders.
     Denied(Rule),
+}
+
+impl TryCopy for Reply {
+    fn try_copy(&self, alloc: Global) -> Result<Reply, AllocError> {
+        Ok(match self {
+            Reply::Done(orders) => Reply::Done(orders.copy(alloc)?),
+            Reply::Denied(rule) => Reply::Denied(rule.copy(alloc)?),
+        })
+    }
 }

@@ -16,6 +16,18 @@ pub struct State {
     pub queue: Queue,
 }
 
+impl State {
+    /// A copy, or `AllocError` if there is no memory for it.
+    pub fn copy(&self, alloc: Global) -> Result<State, AllocError>
+        ensures { IfOk result (λ copy. copy ≡ self.now) }
+    {
+        Ok(State {
+            desk: self.desk.copy(alloc)?,
+            queue: self.queue.copy(alloc)?,
+        })
+    }
+}
+
 /// What an act comes to.
 #[derive(Drop)]
 pub struct Outcome {

@@ -1,6 +1,6 @@
 ghost use Rattle.std.specs.Prelude.{◌≡◌, IfOk};
 
-use gate_text::{Commit, LabelSet, Name, NameSet, Names};
+use gate_text::{Commit, LabelSet, Name, NameSet, Names, TryCopy};
 use std::alloc::{AllocError, Global};
 
 /// How far a change (a pull request) has come.
@@ -91,5 +91,11 @@ impl Change {
             landing: self.landing,
             last,
         })
+    }
+}
+
+impl TryCopy for Change {
+    fn try_copy(&self, alloc: Global) -> Result<Change, AllocError> {
+        self.copy(alloc)
     }
 }

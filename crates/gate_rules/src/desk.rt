@@ -15,7 +15,7 @@ mod rows;
 use crate::change::{Change, Repeat};
 use crate::condition::Condition;
 use crate::role::{Level, Role};
-use gate_text::{ChangeNo, Command, Commit, Name, Settings};
+use gate_text::{ChangeNo, Command, Commit, Name, Settings, copy_map};
 use std::alloc::{AllocError, Global};
 use std::collections::BTreeMap;
 use std::marker::Model;
@@ -56,6 +56,23 @@ impl Desk {
             base: None,
             clock: 0,
         }
+    }
+
+    /// A copy, or `AllocError` if there is no memory for it.
+    pub fn copy(&self, alloc: Global) -> Result<Desk, AllocError>
+        ensures value { IfOk result (λ copy. copy ≡ self.now) }
+    {
+        let settings = match &self.settings {
+            Some(settings) => Some(settings.copy(alloc)?),
+            None => None,
+        };
+        Ok(Desk {
+            roles: copy_map(alloc, &self.roles)?,
+            changes: copy_map(alloc, &self.changes)?,
+            settings,
+            base: self.base,
+            clock: self.clock,
+        })
     }
 
     /// The role of a person, `Nobody` if none was set.

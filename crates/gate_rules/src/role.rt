@@ -2,6 +2,9 @@ ghost use Rattle.std.specs.Prelude.{◌≡◌};
 ghost use Rattle.gate_rules.specs.Rules as rules;
 ghost use Rattle.gate_rules.specs.Words.{level_word_of};
 
+use gate_text::TryCopy;
+use std::alloc::{AllocError, Global};
+
 /// What a person may do in general. bors-ng calls these lists reviewers and members.
 #[derive(Clone, Copy, Debug, PartialEq, Eq)]
 pub enum Role {
@@ -47,6 +50,12 @@ impl Role {
             Role::Nobody | Role::Member => false,
             Role::Reviewer => true,
         }
+    }
+}
+
+impl TryCopy for Role {
+    fn try_copy(&self, _alloc: Global) -> Result<Role, AllocError> {
+        Ok(*self)
     }
 }
 

@@ -1,8 +1,9 @@
-ghost use Rattle.std.specs.Prelude.{◌≡◌};
+ghost use Rattle.std.specs.Prelude.{◌≡◌, IfOk};
 ghost use Rattle.gate_rules.specs.Words.{number_of, word_of};
 
 use crate::role::Level;
 use gate_text::Label;
+use std::alloc::{AllocError, Global};
 
 /// A rule that an act has broken. Each act has a row of rules, and is answered the first of its row that fails.
 #[derive(Debug, Drop, PartialEq, Eq)]
@@ -114,5 +115,36 @@ impl Rule {
             Rule::NoSuchBatch => "NoSuchBatch",
             Rule::SameAsBase => "SameAsBase",
         }
+    }
+
+    /// A copy, or `AllocError` if there is no memory for it.
+    pub fn copy(&self, alloc: Global) -> Result<Rule, AllocError>
+        ensures value { IfOk result (λ copy. copy ≡ self.now) }
+    {
+        Ok(match self {
+            Rule::UnknownChange => Rule::UnknownChange,
+            Rule::NotACommand => Rule::NotACommand,
+            Rule::NotPermitted(level) => Rule::NotPermitted(*level),
+            Rule::NotOpen => Rule::NotOpen,
+            Rule::NothingToRetry => Rule::NothingToRetry,
+            Rule::Landing => Rule::Landing,
+            Rule::NoSettings => Rule::NoSettings,
+            Rule::NoBase => Rule::NoBase,
+            Rule::AlreadyApproved => Rule::AlreadyApproved,
+            Rule::NotApproved => Rule::NotApproved,
+            Rule::AlreadyTrying => Rule::AlreadyTrying,
+            Rule::NotTrying => Rule::NotTrying,
+            Rule::Blocked(label) => Rule::Blocked(label.copy(alloc)?),
+            Rule::TooFewReviews(have, need) => Rule::TooFewReviews(*have, *need),
+            Rule::AlreadyOpen => Rule::AlreadyOpen,
+            Rule::ChangeLanded => Rule::ChangeLanded,
+            Rule::StaleHead => Rule::StaleHead,
+            Rule::NotMember => Rule::NotMember,
+            Rule::OwnChange => Rule::OwnChange,
+            Rule::BadSettings(number) => Rule::BadSettings(*number),
+            Rule::ClockBack => Rule::ClockBack,
+            Rule::NoSuchBatch => Rule::NoSuchBatch,
+            Rule::SameAsBase => Rule::SameAsBase,
+        })
     }
 }

@@ -25,6 +25,22 @@ no_place n size i less none = grind (arith, nat_tests)
 pub all_good : (p : ℕ → Bool) (xs : List ℕ) → first_bad p xs ≡ None → list_all p xs ≡ true
 all_good p xs none = elim (bad_or_good p xs) [ inl less ↦ absurd (no_place _ _ _ less none) | inr good ↦ good ]
 
+good_step : (b : Bool) (n size : ℕ) → b ≡ true → n ≡ size → cond (not (not b)) (1 + n) 0 ≡ suc size
+good_step true n size good same = omega arith
+good_step false n size good same = cc good
+
+all_in_front : (p : ℕ → Bool) (xs : List ℕ) → list_all p xs ≡ true → prefix_len (λ x. not (not (p x))) xs ≡ length xs
+all_in_front p [] good = refl
+all_in_front p (x ∷ xs) good =
+    good_step (p x) _ _ (first_so (p x) (list_all p xs) good) (all_in_front p xs (second_so (p x) (list_all p xs) good))
+
+no_place_behind : (n size : ℕ) → n ≡ size → cond (ltb n size) (Some n) None ≡ None
+no_place_behind n size same = grind (arith, nat_tests)
+
+-- where all bytes are good, no first bad byte is found
+pub none_bad : (p : ℕ → Bool) (xs : List ℕ) → list_all p xs ≡ true → first_bad p xs ≡ None
+none_bad p xs good = no_place_behind _ _ (all_in_front p xs good)
+
 pub ascii : (p : ℕ → Bool) → ((b : ℕ) → p b ≡ true → b < 128) → (xs : List ℕ) → list_all p xs ≡ true → IsAscii xs
 ascii p small [] good i = omega arith
 ascii p small (x ∷ xs) good zero = small x (first_so (p x) (list_all p xs) good)

@@ -1,4 +1,5 @@
 pub mod Digits
+pub mod Entries
 pub mod Forms
 pub mod GoodBytes
 pub mod Grammars

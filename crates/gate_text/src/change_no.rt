@@ -6,6 +6,8 @@ ghost use Rattle.gate_text.specs.SmallTexts.{Reads, change_no_of, change_no_from
 
 use crate::checks::first_fault;
 use crate::fault::TextFault;
+use crate::list::TryCopy;
+use std::alloc::{AllocError, Global};
 use std::marker::Model;
 
 // How many digits the greatest number has.
@@ -85,5 +87,11 @@ impl ChangeNo {
         ensures least { 1 ≤ result }
     {
         self.value
+    }
+}
+
+impl TryCopy for ChangeNo {
+    fn try_copy(&self, _alloc: Global) -> Result<ChangeNo, AllocError> {
+        Ok(*self)
     }
 }

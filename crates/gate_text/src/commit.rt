@@ -1,4 +1,4 @@
-ghost use Rattle.std.specs.Prelude.{◌≡◌, ◌≢◌, Err};
+ghost use Rattle.std.specs.Prelude.{◌≡◌, ◌≢◌, Ok, Err};
 ghost use Rattle.gate_text.specs.SmallTexts as small;
 ghost use Rattle.gate_text.specs.SmallTexts.{Reads, commit_of};
 
@@ -71,6 +71,7 @@ impl Commit {
     /// The 40 digits.
     pub fn text(&self) -> &str
         ensures value { result.now ≡ self.now }
+        ensures digits { commit_of self.now ≡ Ok self.now }
     {
         match str::from_utf8(&self.digits) {
             Ok(text) => text,

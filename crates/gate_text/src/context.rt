@@ -1,4 +1,4 @@
-ghost use Rattle.std.specs.Prelude.{◌≡◌, IfOk};
+ghost use Rattle.std.specs.Prelude.{◌≡◌, IfOk, Ok};
 ghost use Rattle.gate_text.specs.SmallTexts.{Reads, plain_of};
 
 use crate::fault::TextFault;
@@ -16,13 +16,16 @@ pub struct Context {
 }
 
 impl Model for Context {
-    ghost use Rattle.std.specs.Prelude.{ℕ, List};
+    ghost use Rattle.std.specs.Prelude.{◌≡◌, ℕ, List, Ok};
+    ghost use Rattle.gate_text.specs.SmallTexts.{plain_of};
 
     ghost Value = { List ℕ };
 
     ghost view = { λ context. context.text };
 
     ghost inverse = { λ text. record { text = text } };
+
+    ghost invariant = { λ context. plain_of context.text ≡ Ok context.text };
 }
 
 impl Context {
@@ -39,6 +42,7 @@ impl Context {
     /// The name as it was read.
     pub fn text(&self) -> &str
         ensures value { result.now ≡ self.now }
+        ensures plain { plain_of self.now ≡ Ok self.now }
     {
         self.text.as_str()
     }

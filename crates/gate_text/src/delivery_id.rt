@@ -5,6 +5,7 @@ ghost use Rattle.gate_text.specs.SmallTexts.{Reads, delivery_id_of};
 
 use crate::checks::first_fault;
 use crate::fault::TextFault;
+use crate::list::TryCopy;
 use crate::text::Text;
 use std::alloc::{AllocError, Global};
 use std::marker::Model;
@@ -65,5 +66,11 @@ impl DeliveryId {
         Ok(DeliveryId {
             text: self.text.copy(alloc)?,
         })
+    }
+}
+
+impl TryCopy for DeliveryId {
+    fn try_copy(&self, alloc: Global) -> Result<DeliveryId, AllocError> {
+        self.copy(alloc)
     }
 }

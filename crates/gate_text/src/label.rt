@@ -1,4 +1,4 @@
-ghost use Rattle.std.specs.Prelude.{◌≡◌, IfOk};
+ghost use Rattle.std.specs.Prelude.{◌≡◌, IfOk, Ok};
 ghost use Rattle.gate_text.specs.SmallTexts.{Reads, plain_of};
 
 use crate::fault::TextFault;
@@ -16,13 +16,16 @@ pub struct Label {
 }
 
 impl Model for Label {
-    ghost use Rattle.std.specs.Prelude.{ℕ, List};
+    ghost use Rattle.std.specs.Prelude.{◌≡◌, ℕ, List, Ok};
+    ghost use Rattle.gate_text.specs.SmallTexts.{plain_of};
 
     ghost Value = { List ℕ };
 
     ghost view = { λ label. label.text };
 
     ghost inverse = { λ text. record { text = text } };
+
+    ghost invariant = { λ label. plain_of label.text ≡ Ok label.text };
 }
 
 impl Label {
@@ -39,6 +42,7 @@ impl Label {
     /// The label as it was read.
     pub fn text(&self) -> &str
         ensures value { result.now ≡ self.now }
+        ensures plain { plain_of self.now ≡ Ok self.now }
     {
         self.text.as_str()
     }

@@ -1,4 +1,4 @@
-ghost use Rattle.std.specs.Prelude.{◌≡◌};
+ghost use Rattle.std.specs.Prelude.{◌≡◌, IfOk, Ok};
 ghost use Rattle.gate_text.specs.SmallTexts.{Reads, plain_of, first_control};
 
 use crate::checks::first_fault;
@@ -21,6 +21,7 @@ fn first_control_byte(text: &[u8]) -> Option<usize>
 #[tactic(auto, using(crate::proofs::Refusals::refused), unfolding(crate::specs::SmallTexts::plain_of))]
 pub(crate) fn read_plain(alloc: Global, text: &str) -> Result<Text, TextFault>
     ensures value { Reads result (plain_of text.now) }
+    ensures plain { IfOk result (λ kept. plain_of kept ≡ Ok kept) }
 {
     if let Some(fault) = first_fault(text.len(), MAX_LEN, first_control_byte(text.as_bytes())) {
         return Err(fault);

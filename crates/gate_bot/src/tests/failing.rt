@@ -1,8 +1,8 @@
 use super::check_that;
 use super::fakes::{Refusal, Sink, Source};
-use crate::bench::Bench;
 use crate::lines::{HookFault, serve_lines};
 use gate_queue::{Fault, Gate};
+use gate_store::{Keeper, PlainBook};
 use std::alloc::Global;
 use std::io::ErrorKind;
 use std::process::Abort;
@@ -80,19 +80,23 @@ fn sink(alloc: Global, step: usize) -> Sink {
     }
 }
 
-// Whether serving on this bench ends so, and has written what is due.
+fn keeper_on(alloc: Global, gate: Gate) -> Keeper<PlainBook> {
+    Keeper::new(PlainBook::new(alloc, gate))
+}
+
+// Whether serving by this keeper ends so, and has written what is due.
 fn serves_so(
     alloc: Global,
-    bench: &mut Bench,
+    keeper: &mut Keeper<PlainBook>,
     source: &mut Source<'_>,
     sink: &mut Sink,
     end: Result<u64, HookFault>,
     due: &[u8],
 ) -> bool {
-    serve_lines(alloc, bench, source, sink) == end && sink.held.as_slice() == due
+    serve_lines(alloc, keeper, source, sink) == end && sink.held.as_slice() == due
 }
 
-// The same on a new bench.
+// The same by a new keeper.
 fn ends_so(
     alloc: Global,
     source: &mut Source<'_>,
@@ -100,8 +104,8 @@ fn ends_so(
     end: Result<u64, HookFault>,
     due: &[u8],
 ) -> bool {
-    let mut bench = Bench::new(alloc);
-    serves_so(alloc, &mut bench, source, sink, end, due)
+    let mut keeper = keeper_on(alloc, Gate::new(alloc));
+    serves_so(alloc, &mut keeper, source, sink, end, due)
 }
 
 fn check_pieces(rt: &impl Abort, alloc: Global, step_in: usize, step_out: usize) {
@@ -235,41 +239,120 @@ fn a_last_line_that_is_not_written(rt: HostRuntime) {
     }
 }
 
-const OPENED_AGAIN: &str =
-    r#"{"id":"d5","event":"opened","change":1,"author":"carol","head":"aaaaaaaaaaaaaaaaaaaaaaaaaaaaaaaaaaaaaaaa"}"#;
+// Whether this keeper answers all of these lines, and so.
+fn answers_so(alloc: Global, keeper: &mut Keeper<PlainBook>, input: &str, due: &str) -> bool {
+    let mut source = source(input, NEVER);
+    let mut sink = sink(alloc, NEVER);
+    let end = Ok(line_feeds(input.as_bytes()) as u64);
+    serves_so(alloc, keeper, &mut source, &mut sink, end, due.as_bytes())
+}
 
-const ALREADY_OPEN: &str = "[{\"number\":12,\"rule\":\"AlreadyOpen\",\"verdict\":\"denied\"}]\n";
+// Whether this keeper meets a full gate at these lines, and has then written what is due.
+fn fills_so(alloc: Global, keeper: &mut Keeper<PlainBook>, input: &str, due: &str) -> bool {
+    let mut source = source(input, NEVER);
+    let mut sink = sink(alloc, NEVER);
+    let end = Err(HookFault::Gate(Fault::Full));
+    serves_so(alloc, keeper, &mut source, &mut sink, end, due.as_bytes())
+}
 
+// The third line has acted, though its answer isn't written. So all lines can be handed in again: the first three are answered
+// what is kept, and the fourth acts.
 #[test]
-fn a_bench_goes_on_after_a_failed_write(rt: HostRuntime) {
-    let mut bench = Bench::new(rt.alloc());
+fn a_keeper_goes_on_after_a_failed_write(rt: HostRuntime) {
+    let mut keeper = keeper_on(rt.alloc(), Gate::new(rt.alloc()));
     let mut first = source(INPUT, 50);
     let mut written = sink(rt.alloc(), NEVER);
     written.bad_call = 2;
     let end = Err(HookFault::Write);
     let due = first_lines(&rt, rt.alloc(), OUTPUT, 2);
     let due = due.as_bytes();
-    let stops = serves_so(rt.alloc(), &mut bench, &mut first, &mut written, end, due);
-    let mut second = source(OPENED_AGAIN, NEVER);
-    let mut text = sink(rt.alloc(), NEVER);
-    let due = ALREADY_OPEN.as_bytes();
-    let goes_on = serves_so(rt.alloc(), &mut bench, &mut second, &mut text, Ok(1), due);
+    let stops = serves_so(rt.alloc(), &mut keeper, &mut first, &mut written, end, due);
+    let goes_on = answers_so(rt.alloc(), &mut keeper, INPUT, OUTPUT);
     check_that(&rt, 2, stops && goes_on);
 }
 
-const REMARK: &str =
-    r#"{"id":"f1","event":"comment","change":1,"person":"alice","text":"Thanks!"}"#;
+// Identifiers that came before, with other events: what is kept is answered, and nothing acts. So change 1 is still open and at
+// its head, and `eve` has no role.
+const REPEATS: &str = concat!(
+    r#"{"id":"d1","event":"base","commit":"cccccccccccccccccccccccccccccccccccccccc"}"#,
+    "\n",
+    r#"{"id":"d2","event":"closed","change":1}"#,
+    "\n",
+    r#"{"id":"d3","event":"role","person":"eve","role":"reviewer"}"#,
+    "\n",
+    r#"{"id":"d4","event":"comment","change":1,"person":"eve","text":"Thanks!"}"#,
+    "\n",
+    r#"{"id":"d5","event":"opened","change":1,"author":"carol","head":"aaaaaaaaaaaaaaaaaaaaaaaaaaaaaaaaaaaaaaaa"}"#,
+    "\n",
+    r#"{"id":"d6","event":"comment","change":1,"person":"eve","text":"bors r+"}"#,
+    "\n",
+);
+
+const KEPT: &str = concat!(
+    r#"[{"orders":[],"verdict":"done"}]"#,
+    "\n",
+    r#"[{"orders":[],"verdict":"done"}]"#,
+    "\n",
+    r#"[{"detail":"ReviewerOrDelegate","number":3,"rule":"NotPermitted","verdict":"denied"}]"#,
+    "\n",
+    r#"[{"number":7,"rule":"NoSettings","verdict":"denied"},{"orders":[],"verdict":"done"},{"number":9,"rule":"NotApproved","verdict":"denied"}]"#,
+    "\n",
+    r#"[{"number":12,"rule":"AlreadyOpen","verdict":"denied"}]"#,
+    "\n",
+    r#"[{"detail":"ReviewerOrDelegate","number":3,"rule":"NotPermitted","verdict":"denied"}]"#,
+    "\n",
+);
+
+#[test]
+fn a_repeat_is_answered_what_is_kept(rt: HostRuntime) {
+    let mut keeper = keeper_on(rt.alloc(), Gate::new(rt.alloc()));
+    let begins = answers_so(rt.alloc(), &mut keeper, INPUT, OUTPUT);
+    let repeats = answers_so(rt.alloc(), &mut keeper, REPEATS, KEPT);
+    check_that(&rt, 4, begins && repeats);
+}
+
+// Lines that are no deliveries, though an answer is kept under their identifier.
+const NO_DELIVERIES: &str = concat!(
+    r#"{"id":"d2","event":"closed","change":1"#,
+    "\n",
+    r#"{"id":"d2"}"#,
+    "\n",
+    r#"{"id":"d2","event":"zzz"}"#,
+    "\n",
+    r#"{"id":"d2","event":"closed","change":0}"#,
+    "\n",
+);
+
+const ERRORS: &str = concat!(
+    r#"{"error":"NotJson","number":1}"#,
+    "\n",
+    r#"{"error":"BadField","field":"event","number":2}"#,
+    "\n",
+    r#"{"error":"UnknownEvent","number":3}"#,
+    "\n",
+    r#"{"error":"BadField","field":"change","number":2}"#,
+    "\n",
+);
+
+#[test]
+fn no_delivery_is_answered_what_is_kept(rt: HostRuntime) {
+    let mut keeper = keeper_on(rt.alloc(), Gate::new(rt.alloc()));
+    let begins = answers_so(rt.alloc(), &mut keeper, INPUT, OUTPUT);
+    let refuses = answers_so(rt.alloc(), &mut keeper, NO_DELIVERIES, ERRORS);
+    check_that(&rt, 5, begins && refuses);
+}
 
 const APPROVAL: &str = concat!(
-    r#"{"id":"f2","event":"role","person":"alice","role":"reviewer"}"#,
+    r#"{"id":"f1","event":"role","person":"alice","role":"reviewer"}"#,
     "\n",
-    r#"{"id":"f3","event":"settings","text":"status = [\"ci\"]"}"#,
+    r#"{"id":"f2","event":"settings","text":"status = [\"ci\"]"}"#,
     "\n",
-    r#"{"id":"f4","event":"base","commit":"bbbbbbbbbbbbbbbbbbbbbbbbbbbbbbbbbbbbbbbb"}"#,
+    r#"{"id":"f3","event":"base","commit":"bbbbbbbbbbbbbbbbbbbbbbbbbbbbbbbbbbbbbbbb"}"#,
     "\n",
-    r#"{"id":"f5","event":"opened","change":1,"author":"carol","head":"aaaaaaaaaaaaaaaaaaaaaaaaaaaaaaaaaaaaaaaa"}"#,
+    r#"{"id":"f4","event":"opened","change":1,"author":"carol","head":"aaaaaaaaaaaaaaaaaaaaaaaaaaaaaaaaaaaaaaaa"}"#,
     "\n",
-    r#"{"id":"f6","event":"comment","change":1,"person":"alice","text":"bors r+\nbors ping"}"#,
+    r#"{"id":"f5","event":"comment","change":1,"person":"alice","text":"bors r+\nbors ping"}"#,
+    "\n",
 );
 
 const FOUR_DONE: &str = concat!(
@@ -279,25 +362,36 @@ const FOUR_DONE: &str = concat!(
     "[{\"orders\":[],\"verdict\":\"done\"}]\n",
 );
 
-// One more act fits. The approval uses a number, so the command behind it meets a full gate, and nothing of that comment is
-// answered. From then on the bench answers `Full` to what needs no act, too.
+// A comment without commands, a repeat, and the approval alone.
+const ALONE: &str = concat!(
+    r#"{"id":"f6","event":"comment","change":1,"person":"alice","text":"Thanks!"}"#,
+    "\n",
+    r#"{"id":"f1","event":"role","person":"alice","role":"reviewer"}"#,
+    "\n",
+    r#"{"id":"f7","event":"comment","change":1,"person":"alice","text":"bors r+"}"#,
+    "\n",
+);
+
+const ALONE_DONE: &str = concat!(
+    "[]\n",
+    "[{\"orders\":[],\"verdict\":\"done\"}]\n",
+    "[{\"orders\":[],\"verdict\":\"done\"}]\n",
+);
+
+const PING: &str = concat!(
+    r#"{"id":"f8","event":"comment","change":1,"person":"alice","text":"bors ping"}"#,
+    "\n",
+);
+
+// One more act fits. The approval uses a number, so the command behind it meets a full gate: nothing of that comment is answered,
+// and nothing of it is done. So the approval still fits by itself, and after it no act does.
 #[test]
-fn a_full_gate_ends_the_bench(rt: HostRuntime) {
-    let mut bench = Bench::on(Gate::starting_at(rt.alloc(), 8_999_999_999_999_996));
-    let mut first = source(APPROVAL, NEVER);
-    let mut written = sink(rt.alloc(), NEVER);
-    let end = Err(HookFault::Gate(Fault::Full));
-    let due = FOUR_DONE.as_bytes();
-    let stops = serves_so(rt.alloc(), &mut bench, &mut first, &mut written, end, due);
-    let mut second = source(REMARK, NEVER);
-    let mut text = sink(rt.alloc(), NEVER);
-    let stays = serves_so(
-        rt.alloc(),
-        &mut bench,
-        &mut second,
-        &mut text,
-        end,
-        b"".as_slice(),
-    );
-    check_that(&rt, 3, stops && stays);
+fn a_full_gate_changes_nothing(rt: HostRuntime) {
+    let gate = Gate::starting_at(rt.alloc(), 8_999_999_999_999_996);
+    let mut keeper = keeper_on(rt.alloc(), gate);
+    let stops = fills_so(rt.alloc(), &mut keeper, APPROVAL, FOUR_DONE);
+    let goes_on = answers_so(rt.alloc(), &mut keeper, ALONE, ALONE_DONE);
+    let is_full = fills_so(rt.alloc(), &mut keeper, PING, "");
+    let repeats = answers_so(rt.alloc(), &mut keeper, ALONE, ALONE_DONE);
+    check_that(&rt, 3, stops && goes_on && is_full && repeats);
 }

@@ -1,11 +1,12 @@
 use super::check_text;
-use crate::answers::answer_text;
 use crate::errors::error_text;
 use crate::field::Field;
 use crate::lines::HookFault;
 use crate::reading::DeliveryFault;
 use gate_queue::{Fault, Reply};
 use gate_rules::{Level, Rule};
+use gate_store::answer_text;
+use gate_text::List;
 use std::alloc::Global;
 use std::process::Abort;
 
@@ -49,7 +50,9 @@ fn words_of_delivery_faults(rt: HostRuntime) {
 }
 
 fn check_denial(rt: &impl Abort, alloc: Global, rule: Rule, text: &str) {
-    let found = answer_text(alloc, [Reply::Denied(rule)].as_slice()).expect(rt, "memory");
+    let mut answer = List::from(Vec::new(alloc));
+    answer.push(Reply::Denied(rule)).expect(rt, "memory");
+    let found = answer_text(alloc, &answer).expect(rt, "memory");
     check_text(rt, found.as_str(), text);
 }
 

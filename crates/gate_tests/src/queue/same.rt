@@ -4,6 +4,7 @@ use super::reading::read_act;
 use crate::readers::{check_pair, check_that, commit, context, cut, number};
 use gate_queue::{Act, Branch, Head, Heads, Order, Orders, Reply, StatusState, Why};
 use gate_rules::Rule;
+use gate_text::List;
 use std::alloc::{AllocError, Global};
 use std::process::Abort;
 
@@ -228,6 +229,15 @@ fn is_reply(rt: &impl Abort, alloc: Global, found: &Reply, text: &str) -> bool {
     *found == reply(rt, alloc, text)
 }
 
+// The copy of a reply, in a copy of a list of it alone.
+fn copied(rt: &impl Abort, alloc: Global, reply: Reply) -> Reply {
+    let mut replies = List::from(Vec::new(alloc));
+    replies.push(reply).expect(rt, "memory");
+    let copies = replies.copy(alloc).expect(rt, "memory");
+    copies.into_vec().pop().expect(rt, "a reply")
+}
+
+// The copy of a reply is equal to what it was copied from, and to no other.
 #[test]
 fn replies_that_are_equal(rt: HostRuntime) {
     let replies = "\
@@ -236,7 +246,7 @@ fn replies_that_are_equal(rt: HostRuntime) {
         |stage 1 staging 1 a 1|stage 1 staging 0 b 1|stage 1 staging 0 a 1,2|stage 1 staging 0 a 2,1|land 1 0 a|land 2 0 a\
         |land 1 1 a|land 1 0 b|1 Closed, land 1 0 a";
     for one in replies.split('|') {
-        let found = reply(&rt, rt.alloc(), one);
+        let found = copied(&rt, rt.alloc(), reply(&rt, rt.alloc(), one));
         for other in replies.split('|') {
             check_pair(&rt, one, other, is_reply(&rt, rt.alloc(), &found, other));
         }

@@ -1,4 +1,4 @@
-use super::{check_story, started};
+use super::{check_story, started, stepped};
 
 #[test]
 fn reviews(rt: HostRuntime) {
@@ -90,4 +90,31 @@ fn labels(rt: HostRuntime) {
         unlabeled 9 hold => UnknownChange => 2 carol b opened 0 hold - - - -
     ";
     check_story(&rt, rt.alloc(), started(&rt, rt.alloc()), story);
+}
+
+// A copy goes on as the gate does from which it was taken: a batch with a report, one that waits and a try are there.
+#[test]
+fn a_copied_gate(rt: HostRuntime) {
+    let mut gate = started(&rt, rt.alloc());
+    for (line, words) in [
+        ("1 alice bors r+", "done"),
+        ("2 mia bors try", "done"),
+        ("tick 100", "done stage 1 on 0: 1a stage 2 on 0: 2b"),
+        ("staged 1 d", "done"),
+        ("status d ci success", "done"),
+        ("3 alice bors r+", "done"),
+    ] {
+        gate = stepped(&rt, rt.alloc(), gate, line, words);
+    }
+    let story = "
+        2 mia bors try => AlreadyTrying => queue 1: 1 3: 3 2: 2 next 4
+        tick 99 => ClockBack => 1 carol a opened 0 - - - alice r+
+        status d lint success => done land 1 on 0: d => 1 carol a landing 0 - - - alice r+
+        base d => done => queue 3: 3 2: 2 next 4
+        tick 100 => done stage 3 on d: 3c => desk mia d Member 3600
+        tick 3700 => done 3 TimedOut 2 TryFailed => queue next 4
+    ";
+    let copy = gate.copy(rt.alloc()).expect(&rt, "memory");
+    check_story(&rt, rt.alloc(), copy, story);
+    check_story(&rt, rt.alloc(), gate, story);
 }

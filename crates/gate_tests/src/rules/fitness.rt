@@ -183,6 +183,33 @@ fn what_was_set_last(rt: HostRuntime) {
     check_set(&rt, rt.alloc(), &mut desk, lines);
 }
 
+// Roles, changes and what was set are there in a copy, too.
+#[test]
+fn a_copied_desk(rt: HostRuntime) {
+    let changes = [
+        "1 carol a trying-landing -5 bug,hold mia,zoe al alice,zoe r=alice,zoe",
+        "2 dave b closed 0 - - - - try",
+    ];
+    let mut desk = desk(&rt, rt.alloc(), changes.as_slice());
+    let lines = "settings status = ['ci', 'lint']\nbase a\nclock 60";
+    check_set(&rt, rt.alloc(), &mut desk, lines);
+    let copy = desk.copy(rt.alloc()).expect(&rt, "memory");
+    for line in lines.lines() {
+        check_that(&rt, line, shows(&rt, rt.alloc(), &copy, line));
+    }
+    let table = "
+        1 carol a trying-landing -5 bug,hold mia,zoe al alice,zoe r=alice,zoe => true true true true false true true
+        2 dave b closed 0 - - - - try => false false false false false true true
+    ";
+    check_table(&rt, rt.alloc(), &copy, "change", table);
+    let table = "
+        mia 1 bors try => MemberOrDelegate true
+        mia 1 bors r- => ReviewerOrDelegate false
+        alice 2 bors r- => ReviewerOrDelegate true
+    ";
+    check_table(&rt, rt.alloc(), &copy, "permission", table);
+}
+
 #[test]
 fn a_change_that_is_altered(rt: HostRuntime) {
     let mut desk = desk(&rt, rt.alloc(), ["1 carol a opened 0 - - - - -"].as_slice());

@@ -1,6 +1,6 @@
 use super::fitness::{fitness, flags};
 use super::levels::{admitted, with_role};
-use crate::readers::{check_words, cut, name, number, row_of, rule_words};
+use crate::readers::{check_that, check_words, cut, label, name, number, row_of, rule_words};
 use gate_rules::{Desk, Level, Rule};
 use gate_text::{ChangeNo, Name, Spoken, read_comment};
 use std::alloc::Global;
@@ -93,5 +93,21 @@ pub(crate) fn check_table(
             let found = answer(rt, alloc, desk, question, row);
             check_words(rt, row, found.as_str(), words);
         }
+    }
+}
+
+#[test]
+fn copied_rules(rt: HostRuntime) {
+    let rules = [
+        Rule::UnknownChange,
+        Rule::NotPermitted(Level::Reviewer),
+        Rule::Blocked(label(&rt, rt.alloc(), "hold")),
+        Rule::TooFewReviews(1, 2),
+        Rule::BadSettings(3),
+        Rule::NoSuchBatch,
+    ];
+    for rule in rules.iter() {
+        let copy = rule.copy(rt.alloc()).expect(&rt, "memory");
+        check_that(&rt, rule.word(), copy == *rule);
     }
 }

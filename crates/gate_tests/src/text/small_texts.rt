@@ -1,8 +1,9 @@
 use crate::readers::{self, check_that, check_words, row_of};
 use gate_text::{
-    ChangeNo, Commit, Context, DeliveryId, Label, List, Name, Text, TextFault, TryCopy,
+    ChangeNo, Commit, Context, DeliveryId, Label, List, Name, Text, TextFault, TryCopy, copy_map,
 };
-use std::alloc::Global;
+use std::alloc::{AllocError, Global};
+use std::collections::BTreeMap;
 use std::process::Abort;
 
 // What a text is read as, or its refusal.
@@ -256,4 +257,28 @@ fn lists(rt: HostRuntime) {
             .expect(&rt, "memory");
     }
     check_that(&rt, "labels", count_of(&rt, rt.alloc(), labels) == 3);
+}
+
+// The change numbers of identifiers, by a text of both.
+fn map_of(
+    rt: &impl Abort,
+    alloc: Global,
+    text: &str,
+) -> Result<BTreeMap<DeliveryId, ChangeNo>, AllocError> {
+    let mut map = BTreeMap::new(alloc);
+    for word in text.split_whitespace() {
+        let (id, change) = word.split_once(':').expect(rt, "a colon");
+        let id = DeliveryId::read(alloc, id).expect(rt, "an identifier");
+        map.insert(id, readers::number(rt, change))?;
+    }
+    Ok(map)
+}
+
+#[test]
+fn maps(rt: HostRuntime) {
+    for text in ["", "d-1:1", "d-1:1 d-3:3 d-2:2", "c:3 b:4 a:1 f:9 e:9 d:7"] {
+        let map = map_of(&rt, rt.alloc(), text).expect(&rt, "memory");
+        let copy = copy_map(rt.alloc(), &map).expect(&rt, "memory");
+        check_that(&rt, text, copy == map);
+    }
 }

@@ -1,7 +1,0 @@
-use Rattle.std.proofs.Common.{◌≡◌, map, take}
-use Rattle.serde_json.specs.View.{view}
-use Rattle.gate_bot.specs.Answers.{reply_data}
-use Rattle.gate_bot.proofs.answers.answer_value.Given as goal
-
-abbrev pub invariant-loop-reply : goal.invariant-loop-reply
-invariant-loop-reply l = map view l.replies.items ≡ map reply_data (take l.reply-index l.answer)

@@ -1,0 +1,9 @@
+pub mod ActLimits
+pub mod Again
+pub mod Depths
+pub mod Firsts
+pub mod Items
+pub mod Runs
+pub mod SmallTexts
+pub mod Telling
+pub mod Whole

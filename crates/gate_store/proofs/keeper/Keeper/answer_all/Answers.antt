@@ -1,0 +1,29 @@
+use Rattle.std.proofs.Common.{◌≡◌, ◌++◌, [], ◌∷◌, length, ◌∙◌, ap, arith}
+use Rattle.std.proofs.lemmas.List.{length_push}
+use Rattle.gate_store.proofs.Runs.{answers_more, led_more, tell_more}
+use Rattle.gate_store.proofs.keeper.Keeper.answer_all.Goals as goal
+
+pub loop-delivery-preserved : goal.loop-delivery-preserved
+loop-delivery-preserved g c =
+    let old = g.B.Book.shows c.args.self.now in
+    let now = g.B.Book.shows c.loop-delivery.self in
+    let deliveries = c.args.deliveries.now in
+    let place = c.loop-delivery.delivery-index in
+    let delivery = c.delivery-item.result in
+    let at = c.delivery-item.is in
+    let within = c.loop-delivery-test.true in
+    let was = c.in-Ok.ensures.was in
+    let so_far = c.loop-delivery.invariant in
+    let pushed : c.push_reserved.new.self.items ≡ c.loop-delivery.answers.items ++ c.in-Ok.answer ∷ [] =
+    c.push_reserved.ensures.items ∙ ap (λ answers. answers ++ c.in-Ok.answer ∷ []) c.reserve.ensures.items in
+    record {
+      answers = λ sound.
+          let led = so_far.book (was sound) in
+          rw pushed (answers_more old now deliveries place delivery at within led c.loop-delivery.answers.items c.in-Ok.answer (so_far.answers (was sound)) (c.in-Ok.ensures.answer sound));
+      book = λ sound.
+          led_more old now deliveries place delivery at within (so_far.book (was sound)) (g.B.Book.shows c.answer.new.self) (c.in-Ok.ensures.book sound);
+      history = λ sound.
+          tell_more old now deliveries place delivery at within (so_far.book (was sound)) (so_far.history (was sound)) (c.in-Ok.ensures.history sound);
+      count = omega (arith, ap length pushed, length_push c.loop-delivery.answers.items c.in-Ok.answer, so_far.count);
+      was = λ sound. so_far.was (was sound);
+    }

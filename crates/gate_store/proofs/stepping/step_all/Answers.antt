@@ -1,0 +1,41 @@
+use Rattle.std.proofs.Common.{rules, sym, ◌∙◌, ap, ◌≡◌, ◌<◌, ℕ, false, ltb, ◌++◌, [], ◌∷◌, arith}
+use Rattle.std.proofs.lemmas.Bool.Decides.{nat_tests}
+use Rattle.std.proofs.lemmas.Bool.{true≢false}
+use Rattle.std.proofs.lemmas.List.{drop_all}
+use Rattle.gate_store.specs.Run.{is_full, acts_meet_full}
+use Rattle.gate_store.proofs.Telling.{full_met, told_next, full_next, led_next, led_more, tells_next}
+use Rattle.gate_store.proofs.stepping.step_all.Goals as goal
+
+not_past : (limit n : ℕ) → (limit < n → ⊥) → ltb limit n ≡ false
+not_past limit n within = grind (arith, nat_tests)
+
+pub loop-act-preserved : goal.loop-act-preserved
+loop-act-preserved c =
+    let acts = c.args.acts.now in
+    let place = c.loop-act.act-index in
+    let act = c.act-item.result in
+    let within = c.loop-act-test.true in
+    let old = c.args.gate in
+    let s = c.loop-act.gate in
+    let t = c.in_ok-next.next in
+    let replies = c.loop-act.replies in
+    let reply = c.in_ok-next.reply in
+    let step = c.in_ok-next.ensures.step in
+    let pushed : c.push.new.self ≡ replies ++ reply ∷ [] = search rules in
+    let room : is_full s ≡ false = not_past 8_999_999_999_999_996 s.queue.next (λ past. cc (c.in_ok-next.ensures.full.1 past)) in
+    record {
+      told = rw pushed (told_next acts place act c.act-item.is within old s t replies reply step c.loop-act.invariant.told);
+      full = full_next acts place act c.act-item.is within old s t step.1 room c.loop-act.invariant.full;
+      first = λ full. absurd (true≢false (sym full ∙ ap is_full (sym (c.loop-act.invariant.first full)) ∙ room));
+      led = led_next acts place act c.act-item.is within old s t step.1 c.loop-act.invariant.led;
+      history = λ history legal.
+          tells_next acts place act c.act-item.is within old s t reply (step.0, step.1) c.loop-act.invariant.so_far c.in_ok-next.ensures.history history legal (c.loop-act.invariant.history history legal);
+      so_far = led_more acts place act c.act-item.is within old s t step.1 c.loop-act.invariant.so_far;
+    }
+
+pub returns-clause-at_once : goal.returns-clause-at_once
+returns-clause-at_once c full some =
+    let met = full_met c.args.gate c.args.acts.now full some in
+    let none : acts_meet_full c.args.gate c.args.acts.now ≡ false =
+    sym c.loop-act.invariant.full ∙ ap (acts_meet_full c.loop-act.gate) (drop_all c.loop-act.act-index c.args.acts.now c.loop-act-test.false) in
+    absurd (true≢false (sym met ∙ none))

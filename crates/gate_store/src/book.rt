@@ -1,0 +1,55 @@
+ghost use Rattle.std.specs.Prelude.{◌≡◌, None, IfOk, IfErr, OnOk, OnErr};
+ghost use Rattle.gate_store.specs.Run.{Records, IsOfBooks, kept_under, with_answer};
+
+use crate::answers::Answer;
+use gate_queue::{Fault, Gate};
+use gate_text::DeliveryId;
+use std::alloc::Global;
+
+/// Records: the state of the machine, and the answer that is kept under each identifier. The clauses are the laws of a book,
+/// under the book's premise; all that the keeper of a book promises rests on them alone.
+///
+/// A fault is `Memory` or `Store`, and changes nothing.
+pub trait Book {
+    ghost use Rattle.gate_queue.specs.declared.fault.Fault.{Fault as FaultOf};
+
+    // What the book shows.
+    ghost shows: { Self → Records };
+
+    // The premise under which it shows that.
+    ghost is_sound: { Self → Type 0 };
+
+    // The faults that it may answer.
+    ghost may_answer: { FaultOf → Type 0 };
+
+    /// The state, as a gate. It changes nothing.
+    fn load(&mut self, alloc: Global) -> Result<Gate, Fault>
+        ensures gate { is_sound self.new → IfOk result (λ gate. gate ≡ (shows self.old).state) }
+        ensures same { is_sound self.new → shows self.new ≡ shows self.old }
+        ensures was { is_sound self.new → is_sound self.old }
+        ensures cause { IfErr result may_answer }
+        ensures fault { IfErr result IsOfBooks };
+
+    /// The answer that is kept under an identifier, if there is one. It changes nothing.
+    fn kept(&mut self, alloc: Global, id: &DeliveryId) -> Result<Option<Answer>, Fault>
+        ensures answer { is_sound self.new → IfOk result (λ answer. answer ≡ kept_under (shows self.old) id.now) }
+        ensures same { is_sound self.new → shows self.new ≡ shows self.old }
+        ensures was { is_sound self.new → is_sound self.old }
+        ensures cause { IfErr result may_answer }
+        ensures fault { IfErr result IsOfBooks };
+
+    /// Keeps the state of a gate in place of the one before, and an answer under an identifier that has none, both or neither.
+    fn commit(
+        &mut self,
+        alloc: Global,
+        gate: &Gate,
+        id: &DeliveryId,
+        answer: &Answer,
+    ) -> Result<(), Fault>
+        requires free { is_sound self.old → kept_under (shows self.old) id.now ≡ None }
+        ensures ok { is_sound self.new → OnOk result (shows self.new ≡ with_answer (shows self.old) gate.now id.now answer.now) }
+        ensures err { is_sound self.new → OnErr result (shows self.new ≡ shows self.old) }
+        ensures was { is_sound self.new → is_sound self.old }
+        ensures cause { IfErr result may_answer }
+        ensures fault { IfErr result IsOfBooks };
+}

@@ -1,0 +1,220 @@
+ghost use Rattle.std.specs.Prelude.{◌≡◌, ◌⊎◌, ◌∷◌, [], List, None, IfOk, IfErr, IfSome, OnOk, OnErr, length, take, drop};
+ghost use Rattle.gate_queue.specs.History.{Entry, Legal, StateTells};
+ghost use Rattle.gate_store.specs.Headline.{Each, Headline, HistoryTells, Tells, acts_of_all, first_in};
+ghost use Rattle.gate_store.specs.Run.{EndsBy, IsFullBefore, IsOfBooks, IsOfKeepers, StopsBefore, acts_in, acts_meet_full, after_deliveries, after_delivery, answer_to, answers_to, kept_under, meets_full, new_acts, replies_to, stepped, with_answer};
+
+use crate::answers::Answer;
+use crate::book::Book;
+use crate::delivery::{Delivery, acts_of};
+use crate::stepping::step_all;
+use gate_queue::{Fault, Gate, law_of_histories};
+use gate_text::DeliveryId;
+use std::alloc::Global;
+use std::marker::Model;
+
+/// What answers deliveries, lets each act once, and keeps the records of them in a book. A contract sees it as its book.
+///
+/// Between deliveries it has the gate of the book at hand. So it loads only if there is none: before the first new delivery,
+/// and after a fault of acts or of a commit.
+#[derive(Drop)]
+pub struct Keeper<B: Book> {
+    book: B,
+    gate: Option<Gate>,
+}
+
+impl<B: Book> Model for Keeper<B> {
+    ghost use Rattle.std.specs.Prelude.{◌≡◌, IfSome};
+
+    ghost Value = { B };
+
+    ghost view = { λ keeper. keeper.book };
+
+    // A gate that is at hand is the one that the book shows.
+    ghost invariant = { λ keeper. IfSome keeper.gate (λ gate. B.is_sound keeper.book → gate ≡ (B.shows keeper.book).state) };
+}
+
+impl<B: Book> Keeper<B> {
+    /// A keeper of this book. It takes no memory.
+    pub fn new(book: B) -> Keeper<B>
+        ensures value { result ≡ book }
+    {
+        Keeper { book, gate: None }
+    }
+
+    /// The book, as it is. It takes no memory.
+    pub fn into_book(self) -> B
+        ensures value { result ≡ self }
+    {
+        let Keeper { book, .. } = self;
+        book
+    }
+
+    /// A copy of the gate. It changes nothing. The one fault besides those of the book is `Memory`.
+    pub fn gate(&mut self, alloc: Global) -> Result<Gate, Fault>
+        ensures gate { B.is_sound self.new → IfOk result (λ gate. gate ≡ (B.shows self.old).state) }
+
+        // People, changes and their marks are those of the history, whatever history led to the state.
+        ensures history { B.is_sound self.new → IfOk result (λ gate. (history : List Entry) → Legal history (B.shows self.old).state → StateTells history gate) }
+
+        // It changes nothing.
+        ensures same { B.is_sound self.new → B.shows self.new ≡ B.shows self.old }
+        ensures was { B.is_sound self.new → B.is_sound self.old }
+        ensures cause { IfErr result (λ fault. (fault ≡ Fault.Memory) ⊎ B.may_answer fault) }
+    {
+        law_of_histories();
+        self.copy_gate(alloc)
+    }
+
+    // A copy of the gate at hand, or the book's if there is none.
+    fn copy_gate(&mut self, alloc: Global) -> Result<Gate, Fault>
+        ensures gate { B.is_sound self.new → IfOk result (λ gate. gate ≡ (B.shows self.old).state) }
+        ensures same { B.is_sound self.new → B.shows self.new ≡ B.shows self.old }
+        ensures was { B.is_sound self.new → B.is_sound self.old }
+        ensures cause { IfErr result (λ fault. (fault ≡ Fault.Memory) ⊎ B.may_answer fault) }
+    {
+        match &self.gate {
+            Some(gate) => Ok(gate.copy(alloc)?),
+            None => self.book.load(alloc),
+        }
+    }
+
+    /// Answers a delivery. If its identifier has a kept answer, that is the answer, whatever the delivery contains, and nothing
+    /// changes. Else its acts step in order, and their replies are the answer, which is kept.
+    ///
+    /// After a fault nothing has changed, and the delivery isn't kept: none of its acts was done. The fault is `Full` if an act
+    /// meets a full gate, `Memory`, or one that the book may answer.
+    pub fn deliver(&mut self, alloc: Global, delivery: &Delivery) -> Result<Answer, Fault>
+        // The answer and the records are those of the run.
+        ensures answer { B.is_sound self.new → IfOk result (λ answer. answer ≡ answer_to (B.shows self.old) delivery.now) }
+        ensures book { B.is_sound self.new → OnOk result (B.shows self.new ≡ after_delivery (B.shows self.old) delivery.now) }
+
+        // The headline for this delivery, and all that the history tells.
+        ensures headline { B.is_sound self.new → IfOk result (λ answer. Headline (B.shows self.old) (delivery.now ∷ []) (answer ∷ []) (B.shows self.new)) }
+        ensures history { B.is_sound self.new → OnOk result ((history : List Entry) → Legal history (B.shows self.old).state → HistoryTells (B.shows self.old) (delivery.now ∷ []) (B.shows self.new) history) }
+
+        // A fault changes nothing.
+        ensures err { B.is_sound self.new → OnErr result (B.shows self.new ≡ B.shows self.old) }
+        ensures full { B.is_sound self.new → EndsBy result (meets_full (B.shows self.old) delivery.now) }
+        ensures cause { IfErr result (IsOfKeepers B.may_answer) }
+        ensures was { B.is_sound self.new → B.is_sound self.old }
+    {
+        self.answer(alloc, delivery)
+    }
+
+    /// Answers deliveries in order, and stops at the first fault. With the answers comes the fault, if there was one; then the
+    /// answers are those of the deliveries before it, and the records are as these have left them.
+    pub fn run(&mut self, alloc: Global, deliveries: &[Delivery]) -> (Vec<Answer>, Option<Fault>)
+        // The answers and the records are those of the run on the deliveries that were answered.
+        ensures answers { B.is_sound self.new → result.0.items ≡ answers_to (B.shows self.old) (take (length result.0.items) deliveries.now) }
+        ensures book { B.is_sound self.new → B.shows self.new ≡ after_deliveries (B.shows self.old) (take (length result.0.items) deliveries.now) }
+
+        // The headline for these, and all that the history tells.
+        ensures headline { B.is_sound self.new → Headline (B.shows self.old) (take (length result.0.items) deliveries.now) result.0.items (B.shows self.new) }
+        ensures history { B.is_sound self.new → (history : List Entry) → Legal history (B.shows self.old).state → HistoryTells (B.shows self.old) (take (length result.0.items) deliveries.now) (B.shows self.new) history }
+
+        // All are answered, or the fault came at the next one.
+        ensures stops { StopsBefore result.1 (drop (length result.0.items) deliveries.now) }
+        ensures full { B.is_sound self.new → IsFullBefore result.1 (B.shows self.new) (drop (length result.0.items) deliveries.now) }
+        ensures cause { IfSome result.1 (IsOfKeepers B.may_answer) }
+        ensures was { B.is_sound self.new → B.is_sound self.old }
+    {
+        self.answer_all(alloc, deliveries)
+    }
+
+    // Answers deliveries in order, and stops at the first fault. It makes room for an answer before it answers.
+    fn answer_all(&mut self, alloc: Global, deliveries: &[Delivery]) -> (Vec<Answer>, Option<Fault>)
+        ensures answers { B.is_sound self.new → result.0.items ≡ answers_to (B.shows self.old) (take (length result.0.items) deliveries.now) }
+        ensures book { B.is_sound self.new → B.shows self.new ≡ after_deliveries (B.shows self.old) (take (length result.0.items) deliveries.now) }
+        ensures history { B.is_sound self.new → (history : List Entry) → Legal history (B.shows self.old).state → Each Tells history (B.shows self.old).state (acts_of_all (first_in (B.shows self.old) (take (length result.0.items) deliveries.now))) }
+        ensures stops { StopsBefore result.1 (drop (length result.0.items) deliveries.now) }
+        ensures full { B.is_sound self.new → IsFullBefore result.1 (B.shows self.new) (drop (length result.0.items) deliveries.now) }
+        ensures cause { IfSome result.1 (IsOfKeepers B.may_answer) }
+        ensures was { B.is_sound self.new → B.is_sound self.old }
+    {
+        let mut answers = Vec::new(alloc);
+        for delivery in deliveries {
+            if answers.reserve(1).is_err() {
+                return (answers, Some(Fault::Memory));
+            }
+            match self.answer(alloc, delivery) {
+                Ok(answer) => answers.push_reserved(answer),
+                Err(fault) => return (answers, Some(fault)),
+            }
+        }
+        (answers, None)
+    }
+
+    // Answers a delivery from the records, or lets it act.
+    fn answer(&mut self, alloc: Global, delivery: &Delivery) -> Result<Answer, Fault>
+        ensures answer { B.is_sound self.new → IfOk result (λ answer. answer ≡ answer_to (B.shows self.old) delivery.now) }
+        ensures book { B.is_sound self.new → OnOk result (B.shows self.new ≡ after_delivery (B.shows self.old) delivery.now) }
+        ensures history { B.is_sound self.new → OnOk result ((history : List Entry) → Legal history (B.shows self.old).state → Each Tells history (B.shows self.old).state (new_acts (B.shows self.old) delivery.now)) }
+        ensures err { B.is_sound self.new → OnErr result (B.shows self.new ≡ B.shows self.old) }
+        ensures full { B.is_sound self.new → EndsBy result (meets_full (B.shows self.old) delivery.now) }
+        ensures cause { IfErr result (IsOfKeepers B.may_answer) }
+        ensures was { B.is_sound self.new → B.is_sound self.old }
+    {
+        if let Some(answer) = self.book.kept(alloc, &delivery.id)? {
+            return Ok(answer);
+        }
+        self.step(alloc, delivery)
+    }
+
+    // Lets a delivery act whose identifier has no kept answer. Once the gate is taken, a fault leaves none at hand.
+    fn step(&mut self, alloc: Global, delivery: &Delivery) -> Result<Answer, Fault>
+        requires free { B.is_sound self.old → kept_under (B.shows self.old) delivery.now.id ≡ None }
+        ensures answer { B.is_sound self.new → IfOk result (λ answer. answer ≡ replies_to (B.shows self.old).state (acts_in delivery.now)) }
+        ensures book { B.is_sound self.new → OnOk result (B.shows self.new ≡ stepped (B.shows self.old) delivery.now) }
+        ensures history { B.is_sound self.new → OnOk result ((history : List Entry) → Legal history (B.shows self.old).state → Each Tells history (B.shows self.old).state (acts_in delivery.now)) }
+        ensures err { B.is_sound self.new → OnErr result (B.shows self.new ≡ B.shows self.old) }
+        ensures full { B.is_sound self.new → EndsBy result (acts_meet_full (B.shows self.old).state (acts_in delivery.now)) }
+        ensures cause { IfErr result (IsOfKeepers B.may_answer) }
+        ensures was { B.is_sound self.new → B.is_sound self.old }
+    {
+        let acts = acts_of(alloc, delivery)?;
+        let gate = take_gate(&mut self.gate, &mut self.book, alloc)?;
+        let (gate, answer) = step_all(gate, alloc, acts.as_slice())?;
+        self.commit(alloc, gate, &delivery.id, &answer)?;
+        Ok(answer)
+    }
+
+    // Keeps a gate and an answer in the book, and has the gate at hand then.
+    fn commit(
+        &mut self,
+        alloc: Global,
+        gate: Gate,
+        id: &DeliveryId,
+        answer: &Answer,
+    ) -> Result<(), Fault>
+        requires free { B.is_sound self.old → kept_under (B.shows self.old) id.now ≡ None }
+        ensures ok { B.is_sound self.new → OnOk result (B.shows self.new ≡ with_answer (B.shows self.old) gate id.now answer.now) }
+        ensures err { B.is_sound self.new → OnErr result (B.shows self.new ≡ B.shows self.old) }
+        ensures was { B.is_sound self.new → B.is_sound self.old }
+        ensures cause { IfErr result B.may_answer }
+        ensures fault { IfErr result IsOfBooks }
+    {
+        self.book.commit(alloc, &gate, id, answer)?;
+        self.gate = Some(gate);
+        Ok(())
+    }
+}
+
+// Takes the gate at hand, or loads the book's if there is none.
+fn take_gate<B: Book>(
+    at_hand: &mut Option<Gate>,
+    book: &mut B,
+    alloc: Global,
+) -> Result<Gate, Fault>
+    requires { IfSome at_hand.old (λ gate. B.is_sound book.old → gate ≡ (B.shows book.old).state) }
+    ensures gate { B.is_sound book.new → IfOk result (λ gate. gate ≡ (B.shows book.old).state) }
+    ensures taken { at_hand.new ≡ None }
+    ensures same { B.is_sound book.new → B.shows book.new ≡ B.shows book.old }
+    ensures was { B.is_sound book.new → B.is_sound book.old }
+    ensures cause { IfErr result B.may_answer }
+    ensures fault { IfErr result IsOfBooks }
+{
+    match at_hand.take() {
+        Some(gate) => Ok(gate),
+        None => book.load(alloc),
+    }
+}
