@@ -17,9 +17,9 @@ stops_served : (fault : HookFault) (opened : Records) (input : List ℕ) (new : 
     → AreComplete whole left (ended_lines input ++ open_line input ∷ []) → StopsBehind fault opened input new before after
     → IsServed (Err fault) opened whole left new before after
 stops_served (Gate fault) opened input new before after whole left complete behind =
-    record { served = ended_lines input; line = open_line input; complete = complete; records = behind.0; written = behind.1 }
+    record { served = ended_lines input; line = open_line input; complete = complete; records = behind.0; written = behind.1; room = behind.2 }
 stops_served Write opened input new before after whole left complete behind =
-    record { served = ended_lines input; line = open_line input; complete = complete; records = behind.0; taken = behind.1.0; part = behind.1.1; written = behind.1.2 }
+    record { served = ended_lines input; line = open_line input; complete = complete; records = behind.0; taken = behind.1.0; part = behind.1.1; written = behind.1.2; room = behind.2 }
 stops_served Read opened input new before after whole left complete behind = absurd behind
 stops_served TooMuch opened input new before after whole left complete behind = absurd behind
 
@@ -57,7 +57,7 @@ ends_empty sound opened input left now line count before after none so_far premi
     let nothing = nothing_open (open_line input) (ap length (sym so_far.line) ∙ none) in
     let all : ended_lines input ≡ lines_of input =
     sym (ap (λ (lines : List (List ℕ)). ended_lines input ++ lines) nothing ∙ append-nil (ended_lines input)) in
-    rw (← all) (so_far.count, (so_far.records premise, so_far.written premise))
+    rw (← all) (so_far.count, (so_far.records premise, so_far.written premise, so_far.room premise))
 
 -- the line that is open is the last
 lines_open : (input line : List ℕ) → line ≡ kept_of (open_line input) → 0 < length line → lines_of input ≡ ended_lines input ++ open_line input ∷ []
@@ -72,7 +72,7 @@ pub ends_last : (old_sound sound : Type 0) (opened : Records) (input : List ℕ)
 ends_last old_sound sound opened input left old new line count before between after some was so_far done premise =
     let fed = ends old_sound sound opened input old new line count before between after was so_far done in
     let all : ended_lines (input ++ 10 ∷ []) ≡ lines_of input = ended_lines-feed input ∙ sym (lines_open input line so_far.line some) in
-    rw (← all) (fed.count, (fed.records premise, fed.written premise))
+    rw (← all) (fed.count, (fed.records premise, fed.written premise, fed.room premise))
 
 pub stops_last : (old_sound sound : Type 0) (opened : Records) (input : List ℕ) (left : Option (List ℕ)) (old new : Records) (line : List ℕ) (count : ℕ)
     (before between after : Option (List ℕ)) (fault : HookFault)
@@ -113,4 +113,4 @@ pub too_much : (sound : Type 0) (opened : Records) (input chunk : List ℕ) (lef
     → length input ≡ 4294967296 → IsUpTo sound opened input now line count before after
     → sound → IsServed (Err TooMuch) opened (input ++ chunk) left now before after
 too_much sound opened input chunk left now line count before after size so_far premise =
-    rw (cut_at_limit 4294967296 input chunk size) (so_far.records premise, so_far.written premise)
+    rw (cut_at_limit 4294967296 input chunk size) (so_far.records premise, so_far.written premise, so_far.room premise)

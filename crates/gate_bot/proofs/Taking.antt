@@ -8,12 +8,12 @@ use Rattle.gate_queue.specs.declared.fault.Fault.{Fault}
 use Rattle.gate_queue.specs.declared.fault.Fault.TheVariants.{Memory, Store, Full}
 use Rattle.gate_store.specs.Run.{Records}
 use Rattle.gate_bot.specs.Deliveries.{delivery_of}
-use Rattle.gate_bot.specs.Lines.{ended_lines, open_line, line_text, too_long_text, text_answered, after_line, is_delivery, line_meets_full, after_reading, reading_meets_full, text_for, after_lines, MayCause, StopsAtLine}
+use Rattle.gate_bot.specs.Lines.{ended_lines, open_line, line_text, too_long_text, text_answered, after_line, is_delivery, line_meets_full, after_reading, reading_meets_full, text_for, after_lines, NoLineMeetsFull, MayCause, StopsAtLine}
 use Rattle.gate_bot.specs.Serving.{IsAnswered, IsUpTo, StopsBehind, kept_of}
 use Rattle.gate_bot.specs.declared.lines.HookFault.{HookFault}
 use Rattle.gate_bot.specs.declared.lines.HookFault.TheVariants.{Gate, Read, Write, TooMuch}
 use Rattle.gate_bot.proofs.Kept.{kept-push, kept-says}
-use Rattle.gate_bot.proofs.Progress.{after_lines-append, text_for-append}
+use Rattle.gate_bot.proofs.Progress.{after_lines-append, room-push, text_for-append}
 use Rattle.gate_bot.proofs.Splitting.{ended_lines-push, open_line-push, ended_lines-feed, open_line-feed}
 
 -- WHAT IS KEPT OF A LINE SAYS THE SAME
@@ -44,6 +44,10 @@ after_at : (now served : Records) (line last : List ℕ) → now ≡ served → 
 after_at now served line last is kept =
     ap (after_line now) kept ∙ ap (λ (r : Records). after_line r (kept_of last)) is ∙ after_line-kept served last
 
+room_at : (now served : Records) (line last : List ℕ) → now ≡ served → line ≡ kept_of last → line_meets_full now line ≡ line_meets_full served last
+room_at now served line last is kept =
+    ap (line_meets_full now) kept ∙ ap (λ (r : Records). line_meets_full r (kept_of last)) is ∙ line_meets_full-kept served last
+
 -- ANOTHER BYTE THAN A LINE FEED
 pub goes_on : (sound : Type 0) (opened : Records) (input : List ℕ) (now : Records) (line : List ℕ) (count : ℕ) (before after : Option (List ℕ)) (byte : ℕ)
     → byte ≢ 10 → IsUpTo sound opened input now line count before after
@@ -56,6 +60,7 @@ goes_on sound opened input now line count before after byte other so_far =
       line = rw (so_far.line, open_line-push input byte is_other) (kept-push 65537 (open_line input) byte);
       count = rw ended so_far.count;
       written = λ premise. rw ended (so_far.written premise);
+      room = λ premise. rw ended (so_far.room premise);
     }
 
 -- A LINE FEED
@@ -77,6 +82,8 @@ ends old_sound sound opened input old new line count before between after was so
           text_at old served line last (so_far.records (was premise)) so_far.line ∙ sym (append-nil (line_text served last ++ 10 ∷ [])) in
           subst (Appends before after) (sym (ap (text_for opened) feed ∙ text_for-append opened lines (last ∷ [])))
           (Appends-trans before between after (text_for opened lines) _ (so_far.written (was premise)) (subst (Appends between after) text (done premise).1));
+      room = λ premise. rw feed
+          (room-push opened lines last (so_far.room (was premise)) (sym (room_at old served line last (so_far.records (was premise)) so_far.line) ∙ (done premise).2));
     }
 
 -- A FAULT AT A LINE FEED
@@ -88,16 +95,18 @@ stops_at fault old new served line last is kept (inl nothing) =
       may_cause-kept served last fault
           (subst (λ (l : List ℕ). MayCause served l fault) kept (subst (λ (r : Records). MayCause r line fault) is nothing.1)),
     )
-stops_at fault old new served line last is kept (inr acted) = inr (acted.0, acted.1 ∙ after_at old served line last is kept)
+stops_at fault old new served line last is kept (inr acted) =
+    inr (acted.0, acted.1 ∙ after_at old served line last is kept, sym (room_at old served line last is kept) ∙ acted.2)
 
 stops_behind : (opened : Records) (input : List ℕ) (old new : Records) (line : List ℕ) (before between after : Option (List ℕ)) (fault : HookFault)
     → old ≡ after_lines opened (ended_lines input) → line ≡ kept_of (open_line input) → Appends before between (text_for opened (ended_lines input))
-    → IsAnswered (Err fault) old line new between after → StopsBehind fault opened input new before after
-stops_behind opened input old new line before between after (Gate fault) is kept written refused = (
+    → NoLineMeetsFull opened (ended_lines input) → IsAnswered (Err fault) old line new between after → StopsBehind fault opened input new before after
+stops_behind opened input old new line before between after (Gate fault) is kept written room refused = (
   stops_at fault old new _ line (open_line input) is kept refused.0,
   subst (Appends before after) (append-nil _) (Appends-trans before between after _ [] written refused.1),
+  room,
 )
-stops_behind opened input old new line before between after Write is kept written refused =
+stops_behind opened input old new line before between after Write is kept written room refused =
     let last = open_line input in
     let served = after_lines opened (ended_lines input) in
     let text = text_at old served line last is kept in (
@@ -107,13 +116,14 @@ stops_behind opened input old new line before between after Write is kept writte
         subst (λ (t : List ℕ). refused.1.0 < length t) text refused.1.1,
         Appends-trans before between after _ _ written (subst (λ (t : List ℕ). Appends between after (take refused.1.0 t)) text refused.1.2),
       ),
+      room-push opened (ended_lines input) last room (sym (room_at old served line last is kept) ∙ refused.2),
     )
-stops_behind opened input old new line before between after Read is kept written refused = refused
-stops_behind opened input old new line before between after TooMuch is kept written refused = refused
+stops_behind opened input old new line before between after Read is kept written room refused = refused
+stops_behind opened input old new line before between after TooMuch is kept written room refused = refused
 
 pub stops : (old_sound sound : Type 0) (opened : Records) (input : List ℕ) (old new : Records) (line : List ℕ) (count : ℕ)
     (before between after : Option (List ℕ)) (fault : HookFault)
     → (sound → old_sound) → IsUpTo old_sound opened input old line count before between → (sound → IsAnswered (Err fault) old line new between after)
     → sound → StopsBehind fault opened input new before after
 stops old_sound sound opened input old new line count before between after fault was so_far refused premise =
-    stops_behind opened input old new line before between after fault (so_far.records (was premise)) so_far.line (so_far.written (was premise)) (refused premise)
+    stops_behind opened input old new line before between after fault (so_far.records (was premise)) so_far.line (so_far.written (was premise)) (so_far.room (was premise)) (refused premise)

@@ -85,13 +85,18 @@ abbrev pub after_lines : Records → List (List ℕ) → Records
 after_lines records [] = records
 after_lines records (line ∷ lines) = after_lines (after_line records line) lines
 
+-- none of the lines, each after those before it, is a delivery of which an act meets a full gate
+abbrev pub NoLineMeetsFull : Records → List (List ℕ) → Type 0
+NoLineMeetsFull records [] = ⊤
+NoLineMeetsFull records (line ∷ lines) = (line_meets_full records line ≡ false) × NoLineMeetsFull (after_line records line) lines
+
 -- WHAT SERVING LEAVES, of the input that was consumed
 abbrev pub max_input : ℕ
 max_input = 4294967296
 
--- the lines were served, one after the other: these records, and this text written
+-- the lines were served, one after the other: these records, this text written, and no full gate met
 abbrev pub HasServed : Records → List (List ℕ) → Records → Option (List ℕ) → Option (List ℕ) → Type 0
-HasServed old lines new before after = (new ≡ after_lines old lines) × Appends before after (text_for old lines)
+HasServed old lines new before after = (new ≡ after_lines old lines) × Appends before after (text_for old lines) × NoLineMeetsFull old lines
 
 -- The faults that may end serving: of those of the gate, the ones that a keeper may answer.
 abbrev pub MayEnd : (Fault → Type 0) → HookFault → Type 0
@@ -110,7 +115,8 @@ MayCause records line Full = line_meets_full records line ≡ true
 -- A fault at a line that comes after those served: nothing of its answer is written. Nothing has changed, and the line may cause
 -- the fault; or the line has acted and its answer is kept, but there was no memory for its text.
 abbrev pub StopsAtLine : Fault → Records → List ℕ → Records → Type 0
-StopsAtLine fault old line new = ((new ≡ old) × MayCause old line fault) ⊎ ((fault ≡ Memory) × (new ≡ after_line old line))
+StopsAtLine fault old line new =
+    ((new ≡ old) × MayCause old line fault) ⊎ ((fault ≡ Memory) × (new ≡ after_line old line) × (line_meets_full old line ≡ false))
 
 -- these lines are the first that are complete: line feeds ended them; or they are all, and the input is at its end
 abbrev pub AreComplete : List ℕ → Option (List ℕ) → List (List ℕ) → Type 0
@@ -123,6 +129,7 @@ pub record StopsAtGate (fault : Fault) (old : Records) (input : List ℕ) (left 
   pub complete : AreComplete input left (served ++ line ∷ [])
   pub records : StopsAtLine fault (after_lines old served) line new
   pub written : Appends before after (text_for old served)
+  pub room : NoLineMeetsFull old served
 
 -- The writer refused a line's text, or what was left of it: a part from its front is written, but not all, and the line
 -- has acted.
@@ -134,6 +141,7 @@ pub record StopsAtWrite (old : Records) (input : List ℕ) (left : Option (List 
   pub taken : ℕ
   pub part : taken < length (line_text (after_lines old served) line ++ 10 ∷ [])
   pub written : Appends before after (text_for old served ++ take taken (line_text (after_lines old served) line ++ 10 ∷ []))
+  pub room : NoLineMeetsFull old (served ++ line ∷ [])
 
 abbrev pub IsServed : Result ℕ HookFault → Records → List ℕ → Option (List ℕ) → Records → Option (List ℕ) → Option (List ℕ) → Type 0
 -- all lines are answered, and counted

@@ -1,9 +1,9 @@
 -- Serving in mid-course, for the contracts of the functions that `serve_lines` is made of.
-use Rattle.std.specs.Prelude.{◌≡◌, ◌≤◌, ◌<◌, ℕ, ⊤, List, [], ◌∷◌, ◌++◌, length, take, Option, Result, Ok, Err}
+use Rattle.std.specs.Prelude.{◌≡◌, ◌≤◌, ◌<◌, ℕ, false, ⊤, List, [], ◌∷◌, ◌++◌, length, take, Option, Result, Ok, Err}
 use Rattle.std.specs.Io.KnownBytes.{Appends, Consumes, Keeps, IsAtEnd}
 use Rattle.gate_queue.specs.declared.fault.Fault.{Fault}
 use Rattle.gate_store.specs.Run.{Records, IsOfKeepers}
-use Rattle.gate_bot.specs.Lines.{ended_lines, open_line, line_text, after_line, text_for, after_lines, StopsAtLine, max_kept}
+use Rattle.gate_bot.specs.Lines.{ended_lines, open_line, line_text, after_line, line_meets_full, text_for, after_lines, NoLineMeetsFull, StopsAtLine, max_kept}
 use Rattle.gate_bot.specs.declared.lines.HookFault.{HookFault}
 use Rattle.gate_bot.specs.declared.lines.HookFault.TheVariants.{Gate, Read, Write, TooMuch}
 
@@ -16,11 +16,13 @@ MayStop may_answer TooMuch = ⊥
 
 -- a line was answered, or its answer was refused
 abbrev pub IsAnswered : Result (Unit {0}) HookFault → Records → List ℕ → Records → Option (List ℕ) → Option (List ℕ) → Type 0
-IsAnswered (Ok _) old line new before after = (new ≡ after_line old line) × Appends before after (line_text old line ++ 10 ∷ [])
+IsAnswered (Ok _) old line new before after =
+    (new ≡ after_line old line) × Appends before after (line_text old line ++ 10 ∷ []) × (line_meets_full old line ≡ false)
 IsAnswered (Err (Gate fault)) old line new before after = StopsAtLine fault old line new × Appends before after []
 IsAnswered (Err Write) old line new before after =
     (new ≡ after_line old line)
     × ((taken : ℕ) × (taken < length (line_text old line ++ 10 ∷ [])) × Appends before after (take taken (line_text old line ++ 10 ∷ [])))
+    × (line_meets_full old line ≡ false)
 IsAnswered (Err Read) old line new before after = ⊥
 IsAnswered (Err TooMuch) old line new before after = ⊥
 
@@ -42,15 +44,18 @@ pub record IsUpTo (sound : Type 0) (opened : Records) (input : List ℕ) (now : 
   pub line : kept ≡ kept_of (open_line input)
   pub count : counted ≡ length (ended_lines input)
   pub written : sound → Appends before after (text_for opened (ended_lines input))
+  pub room : sound → NoLineMeetsFull opened (ended_lines input)
 
 -- The answer to the line that is open was refused, and all before it are served.
 abbrev pub StopsBehind : HookFault → Records → List ℕ → Records → Option (List ℕ) → Option (List ℕ) → Type 0
 StopsBehind (Gate fault) opened input new before after =
-    StopsAtLine fault (after_lines opened (ended_lines input)) (open_line input) new × Appends before after (text_for opened (ended_lines input))
+    StopsAtLine fault (after_lines opened (ended_lines input)) (open_line input) new
+    × Appends before after (text_for opened (ended_lines input)) × NoLineMeetsFull opened (ended_lines input)
 StopsBehind Write opened input new before after =
     (new ≡ after_line (after_lines opened (ended_lines input)) (open_line input))
     × ((taken : ℕ) × (taken < length (line_text (after_lines opened (ended_lines input)) (open_line input) ++ 10 ∷ []))
     × Appends before after (text_for opened (ended_lines input) ++ take taken (line_text (after_lines opened (ended_lines input)) (open_line input) ++ 10 ∷ [])))
+    × NoLineMeetsFull opened (ended_lines input ++ open_line input ∷ [])
 StopsBehind Read opened input new before after = ⊥
 StopsBehind TooMuch opened input new before after = ⊥
 

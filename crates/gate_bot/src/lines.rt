@@ -1,8 +1,8 @@
-ghost use Rattle.std.specs.Prelude.{◌≡◌, ◌+◌, ◌<◌, ◌≤◌, ◌^◌, ◌++◌, ◌∷◌, ℕ, [], List, Option, length, IfOk, IfErr, OnOk, Ok, ◌⊎◌};
+ghost use Rattle.std.specs.Prelude.{◌≡◌, ◌+◌, ◌<◌, ◌≤◌, ◌^◌, ◌++◌, ◌∷◌, ℕ, false, [], List, Option, length, IfOk, IfErr, OnOk, Ok, ◌⊎◌};
 ghost use Rattle.std.specs.String.{string_bytes};
 ghost use Rattle.std.specs.Io.KnownBytes.{Consumes, IsAtEnd};
-ghost use Rattle.gate_store.specs.Run.{Records, EndsBy, IsOfKeepers, meets_full};
-ghost use Rattle.gate_bot.specs.Lines.{line_text, after_line, text_answered, after_reading, MayEnd, StopsAtLine, IsServed, IsWithinLimit};
+ghost use Rattle.gate_store.specs.Run.{Records, AgreesOnFull, IsOfKeepers, meets_full};
+ghost use Rattle.gate_bot.specs.Lines.{line_text, after_line, line_meets_full, text_answered, after_reading, MayEnd, StopsAtLine, IsServed, IsWithinLimit};
 ghost use Rattle.gate_bot.specs.Serving.{IsAnswered, IsUpTo, IsRead, MayStop, TakesByte, TakesBytes};
 
 use crate::errors::error_text;
@@ -57,8 +57,8 @@ fn delivery_answer<B: Book>(
 ) -> Result<String, Fault>
     ensures text { B.is_sound keeper.new → IfOk result (λ text. string_bytes text ≡ text_answered (B.shows keeper.old) (Ok delivery.now) ++ 10 ∷ []) }
     ensures records { B.is_sound keeper.new → OnOk result (B.shows keeper.new ≡ after_reading (B.shows keeper.old) (Ok delivery.now)) }
-    ensures stops { B.is_sound keeper.new → IfErr result (λ fault. (B.shows keeper.new ≡ B.shows keeper.old) ⊎ ((fault ≡ Fault.Memory) × (B.shows keeper.new ≡ after_reading (B.shows keeper.old) (Ok delivery.now)))) }
-    ensures full { B.is_sound keeper.new → EndsBy result (meets_full (B.shows keeper.old) delivery.now) }
+    ensures stops { B.is_sound keeper.new → IfErr result (λ fault. (B.shows keeper.new ≡ B.shows keeper.old) ⊎ ((fault ≡ Fault.Memory) × (B.shows keeper.new ≡ after_reading (B.shows keeper.old) (Ok delivery.now)) × (meets_full (B.shows keeper.old) delivery.now ≡ false))) }
+    ensures full { B.is_sound keeper.new → AgreesOnFull result (meets_full (B.shows keeper.old) delivery.now) }
     ensures was { B.is_sound keeper.new → B.is_sound keeper.old }
     ensures cause { IfErr result (IsOfKeepers B.may_answer) }
 {
@@ -71,6 +71,7 @@ fn delivery_answer<B: Book>(
 fn line_answer<B: Book>(alloc: Global, keeper: &mut Keeper<B>, line: &Line) -> Result<String, Fault>
     ensures text { B.is_sound keeper.new → IfOk result (λ text. string_bytes text ≡ line_text (B.shows keeper.old) line.now ++ 10 ∷ []) }
     ensures records { B.is_sound keeper.new → OnOk result (B.shows keeper.new ≡ after_line (B.shows keeper.old) line.now) }
+    ensures room { B.is_sound keeper.new → OnOk result (line_meets_full (B.shows keeper.old) line.now ≡ false) }
     ensures stops { B.is_sound keeper.new → IfErr result (λ fault. StopsAtLine fault (B.shows keeper.old) line.now (B.shows keeper.new)) }
     ensures was { B.is_sound keeper.new → B.is_sound keeper.old }
     ensures cause { IfErr result (IsOfKeepers B.may_answer) }

@@ -5,7 +5,7 @@ use gate_text::{ChangeNo, Commit, DeliveryId, Name, Text};
 use std::alloc::{AllocError, Global};
 use std::process::Abort;
 
-type Bot = Keeper<PlainBook>;
+type PlainKeeper = Keeper<PlainBook>;
 
 // What is handed in, each line under itself as identifier; ` => ` what is answered, and how change 1 stands then.
 const STORY: &str = "\
@@ -94,16 +94,16 @@ fn standing(alloc: Global, gate: &Gate) -> Result<String, AllocError> {
     )
 }
 
-fn shown(alloc: Global, bot: &mut Bot) -> Result<String, Fault> {
-    let gate = bot.gate(alloc)?;
+fn shown(alloc: Global, keeper: &mut PlainKeeper) -> Result<String, Fault> {
+    let gate = keeper.gate(alloc)?;
     Ok(standing(alloc, &gate)?)
 }
 
 // How change 1 stands, asked once more if memory was refused: it is so once in each run.
-fn shown_again(rt: &impl Abort, alloc: Global, bot: &mut Bot) -> String {
-    match shown(alloc, bot) {
+fn shown_again(rt: &impl Abort, alloc: Global, keeper: &mut PlainKeeper) -> String {
+    match shown(alloc, keeper) {
         Ok(text) => text,
-        Err(_) => shown(alloc, bot).expect(rt, "memory, once more"),
+        Err(_) => shown(alloc, keeper).expect(rt, "memory, once more"),
     }
 }
 
@@ -122,29 +122,30 @@ fn verdicts_again(rt: &impl Abort, alloc: Global, answer: &Answer) -> String {
 }
 
 // Hands a delivery in, and once more after a fault, which has to leave everything as it was.
-fn answered(rt: &impl Abort, alloc: Global, bot: &mut Bot, word: &str) -> Answer {
+fn answered(rt: &impl Abort, alloc: Global, keeper: &mut PlainKeeper, word: &str) -> Answer {
     let delivery = delivery_again(rt, alloc, word);
-    let before = shown_again(rt, alloc, bot);
-    match bot.deliver(alloc, &delivery) {
+    let before = shown_again(rt, alloc, keeper);
+    match keeper.deliver(alloc, &delivery) {
         Ok(answer) => answer,
         Err(_) => {
-            let after = shown_again(rt, alloc, bot);
+            let after = shown_again(rt, alloc, keeper);
             check_text(rt, word, after.as_str(), before.as_str());
-            bot.deliver(alloc, &delivery)
+            keeper
+                .deliver(alloc, &delivery)
                 .expect(rt, "memory, once more")
         }
     }
 }
 
 // A line of the story is answered so, and leads there; and handed in again, it is answered the same and changes nothing.
-fn check_line(rt: &impl Abort, alloc: Global, bot: &mut Bot, line: &str) {
+fn check_line(rt: &impl Abort, alloc: Global, keeper: &mut PlainKeeper, line: &str) {
     let (word, due) = line.split_once(" => ").expect(rt, "a line");
     let (due_verdicts, due_standing) = due.split_once("; ").expect(rt, "a line");
     for _ in 0..2 {
-        let answer = answered(rt, alloc, bot, word);
+        let answer = answered(rt, alloc, keeper, word);
         let found = verdicts_again(rt, alloc, &answer);
         check_text(rt, word, found.as_str(), due_verdicts);
-        let found = shown_again(rt, alloc, bot);
+        let found = shown_again(rt, alloc, keeper);
         check_text(rt, word, found.as_str(), due_standing);
     }
 }
@@ -152,8 +153,8 @@ fn check_line(rt: &impl Abort, alloc: Global, bot: &mut Bot, line: &str) {
 #[test]
 fn a_fault_undoes_its_delivery(rt: HostRuntime) {
     let alloc = rt.alloc();
-    let mut bot = Keeper::new(PlainBook::new(alloc, Gate::new(alloc)));
+    let mut keeper = Keeper::new(PlainBook::new(alloc, Gate::new(alloc)));
     for line in STORY.lines() {
-        check_line(&rt, alloc, &mut bot, line);
+        check_line(&rt, alloc, &mut keeper, line);
     }
 }

@@ -6,6 +6,9 @@ pub mod Batches
 pub mod Changes
 pub mod Counts
 pub mod Cuts
+pub mod Decided
+pub mod Deciding
+pub mod Desks
 pub mod Doing
 pub mod Facts
 pub mod Fitness
@@ -21,6 +24,7 @@ pub mod Meaning
 pub mod Next
 pub mod Only
 pub mod Numbers
+pub mod Places
 pub mod Premises
 pub mod Service
 pub mod Sets

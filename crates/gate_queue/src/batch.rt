@@ -1,5 +1,5 @@
 ghost use Rattle.std.specs.Prelude.{◌≡◌, IfOk, OnOk};
-ghost use Rattle.std.specs.FinMap.{empty, get, insert};
+ghost use Rattle.std.specs.FinMap.{empty, from_entries, get, insert};
 ghost use Rattle.gate_queue.specs.Machine.{has_succeeded};
 
 use gate_text::{ChangeNo, Commit, Context, List, TryCopy, copy_map};
@@ -76,6 +76,13 @@ impl Reports {
         ensures value { result ≡ get self.now name.now }
     {
         self.reports.get(name).copied()
+    }
+
+    /// The reports, by name upwards.
+    pub fn as_map(&self) -> &BTreeMap<Context, Report>
+        ensures value { from_entries result.now.entries ≡ self.now }
+    {
+        &self.reports
     }
 
     /// Whether the last report of this name is a success.

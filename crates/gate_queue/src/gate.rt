@@ -1,4 +1,4 @@
-ghost use Rattle.std.specs.Prelude.{◌≡◌, ◌↔◌, ◌⊎◌, ◌<◌, ◌≤◌, ℕ, [], List, Err, Some, IfOk, IfErr, IsOk};
+ghost use Rattle.std.specs.Prelude.{◌≡◌, ◌↔◌, ◌⊎◌, ◌<◌, ◌≤◌, ℕ, [], List, Err, Some, None, IfOk, IfErr, IfSome, IsOk};
 ghost use Rattle.std.specs.FinMap as map;
 ghost use Rattle.std.specs.Option.{option_copied};
 ghost use Rattle.gate_rules.specs.declared.rule.Rule.{Rule};
@@ -12,6 +12,7 @@ ghost use Rattle.gate_queue.specs.declared.reply.Reply.TheVariants.{Denied};
 
 use crate::act::Act;
 use crate::batch::Batch;
+use crate::checking::fits;
 use crate::fault::Fault;
 use crate::judging::rule_of;
 use crate::queue::Queue;
@@ -71,6 +72,20 @@ impl Gate {
         }
     }
 
+    /// A gate of this state, or nothing if its parts don't stand for a state of the machine. It takes no memory.
+    pub fn from_state(state: State) -> Option<Gate>
+        ensures gate { IfSome result (λ gate. gate ≡ state) }
+
+        // It refuses only what is no state.
+        ensures refused { result ≡ None → IsState state → ⊥ }
+    {
+        if fits(&state) {
+            Some(Gate { state })
+        } else {
+            None
+        }
+    }
+
     /// A copy, or `AllocError` if there is no memory for it.
     pub fn copy(&self, alloc: Global) -> Result<Gate, AllocError>
         ensures value { IfOk result (λ copy. copy ≡ self.now) }
@@ -126,6 +141,14 @@ impl Gate {
         ensures value { option_copied result ≡ map.get self.now.desk.changes number }
     {
         self.state.desk.change(number)
+    }
+
+    /// The state: the desk, and the batches.
+    pub fn state(&self) -> &State
+        ensures value { result.now ≡ self.now }
+        ensures state { IsState self.now }
+    {
+        &self.state
     }
 
     /// The desk: roles, changes, settings, base and clock.

@@ -1,3 +1,4 @@
+ghost use Rattle.gate_queue.specs.Checks.{LawOfChecks};
 ghost use Rattle.gate_queue.specs.Counts.{LawOfEnqueue, LawOfTry, LawOfTakeOut, LawOfRestart, LawOfStart, LawOfStage, LawOfReport, LawOfLand, LawOfRequeue, LawOfFail, LawOfDrop};
 ghost use Rattle.gate_queue.specs.Following.{LawOfTheQueue};
 ghost use Rattle.gate_queue.specs.History.{LawOfHistories};
@@ -53,6 +54,11 @@ pub fn law_of_changes()
 /// The law of states: an act that keeps its limits leaves a state after it, if the next number leaves room for the act.
 pub fn law_of_states()
     ensures { LawOfStates }
+{}
+
+/// The law of checks: the tests that `Gate::from_state` makes are passed by exactly the states of the machine.
+pub fn law_of_checks()
+    ensures { LawOfChecks }
 {}
 
 /// The law of the queue: what each act that is about a change does to the batches, act by act, on every state and if no rule

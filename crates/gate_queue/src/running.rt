@@ -148,7 +148,7 @@ fn tell_trying(
     }
 }
 
-fn is_required(desk: &Desk, name: &Context) -> bool
+pub(crate) fn is_required(desk: &Desk, name: &Context) -> bool
     ensures { result ≡ machine.is_required desk.now.settings name.now }
 {
     match desk.settings() {

@@ -19,7 +19,7 @@ pub struct State {
 impl State {
     /// A copy, or `AllocError` if there is no memory for it.
     pub fn copy(&self, alloc: Global) -> Result<State, AllocError>
-        ensures { IfOk result (λ copy. copy ≡ self.now) }
+        ensures value { IfOk result (λ copy. copy ≡ self.now) }
     {
         Ok(State {
             desk: self.desk.copy(alloc)?,

@@ -10,7 +10,7 @@ use std::alloc::{AllocError, Global};
 // More than the numbers of batches ever come to.
 pub(crate) const MAX_NUMBER: u64 = 9_000_000_000_000_000;
 
-fn goes_before(one: &Batch, other: &Batch) -> bool
+pub(crate) fn goes_before(one: &Batch, other: &Batch) -> bool
     ensures { result ≡ lanes.goes_before one.now other.now }
 {
     if one.priority != other.priority {
@@ -151,7 +151,7 @@ pub(crate) fn enter_alone(
     place(waiting, try_of(alloc, number, change)?)
 }
 
-fn has_changes(batch: &Batch) -> bool
+pub(crate) fn has_changes(batch: &Batch) -> bool
     ensures { result ≡ lanes.has_changes batch.now }
 {
     !batch.changes.as_slice().is_empty()

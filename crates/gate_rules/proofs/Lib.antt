@@ -1,1 +1,2 @@
 mod Alters
+pub mod Members

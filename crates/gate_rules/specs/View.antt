@@ -1,5 +1,5 @@
 -- THE DESK as finite maps, what each setter does to it, and how the rules see it.
-use Rattle.std.specs.Prelude.{◌≡◌, ℕ, Bool, List, [], ◌∷◌, Option, Some, None, if◌then◌else◌}
+use Rattle.std.specs.Prelude.{◌≡◌, ℕ, Bool, true, List, [], ◌∷◌, Option, Some, None, IfSome, if◌then◌else◌}
 use Rattle.std.specs.Ordering.{nat_cmp}
 use Rattle.std.specs.Cmp.Lexicographic.{slice_cmp}
 use Rattle.std.specs.FinMap as map
@@ -19,6 +19,9 @@ pub record DeskView : Type 0 where
   pub settings : Option SettingsView
   pub base : Option (List ℕ)
   pub clock : ℕ
+
+abbrev pub AreMembers : FinMap (slice_cmp nat_cmp) Role → Type 0
+AreMembers roles = (person : List ℕ) → IfSome (map.get roles person) (λ role. is_member role ≡ true)
 
 abbrev pub empty_desk : DeskView
 empty_desk = record { roles = map.empty; changes = map.empty; settings = None; base = None; clock = 0 }

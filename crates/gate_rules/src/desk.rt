@@ -7,7 +7,7 @@ ghost use Rattle.std.specs.Map.{keys_of};
 ghost use Rattle.std.specs.Ordering.{nat_cmp};
 ghost use Rattle.gate_rules.specs.Rules as rules;
 ghost use Rattle.gate_rules.specs.View as view;
-ghost use Rattle.gate_rules.specs.View.{Alters, empty_desk, with_role, with_change, with_settings, with_base, with_clock, with_ended, numbers_where, role_on, look};
+ghost use Rattle.gate_rules.specs.View.{Alters, AreMembers, empty_desk, with_role, with_change, with_settings, with_base, with_clock, with_ended, numbers_where, role_on, look};
 ghost use Rattle.gate_rules.specs.declared.role.Role.TheVariants.{Nobody};
 
 mod rows;
@@ -35,13 +35,16 @@ impl Model for Desk {
     ghost use Rattle.std.specs.FinMap as map;
     ghost use Rattle.std.specs.Coded.{codes};
     ghost use Rattle.gate_text.specs.Finite.{finite_codes};
-    ghost use Rattle.gate_rules.specs.View.{DeskView};
+    ghost use Rattle.gate_rules.specs.View.{AreMembers, DeskView};
 
     ghost Value = { DeskView };
 
     ghost coded = { Prim.hlevel (codes, finite_codes) };
 
     ghost view = { λ desk. record { roles = map.from_entries desk.roles.entries; changes = map.from_entries desk.changes.entries; settings = desk.settings; base = desk.base; clock = desk.clock } };
+
+    // A role `Nobody` is no entry.
+    ghost invariant = { λ desk. AreMembers (map.from_entries desk.roles.entries) };
 }
 
 impl Desk {
@@ -82,11 +85,26 @@ impl Desk {
         self.roles.get(person).copied().unwrap_or(Role::Nobody)
     }
 
+    /// The roles that are set, by name upwards. `Nobody` is none of them.
+    pub fn roles(&self) -> &BTreeMap<Name, Role>
+        ensures value { map.from_entries result.now.entries ≡ self.now.roles }
+        ensures members { AreMembers self.now.roles }
+    {
+        &self.roles
+    }
+
     /// The change of this number, if it is on the desk.
     pub fn change(&self, number: ChangeNo) -> Option<&Change>
         ensures value { option_copied result ≡ map.get self.now.changes number }
     {
         self.changes.get(&number)
+    }
+
+    /// The changes, by number upwards.
+    pub fn changes(&self) -> &BTreeMap<ChangeNo, Change>
+        ensures value { map.from_entries result.now.entries ≡ self.now.changes }
+    {
+        &self.changes
     }
 
     /// The settings that were set last, if any were.

@@ -4,13 +4,13 @@ use Rattle.std.specs.Cmp.Lexicographic.{bytes_decides, nat_list_cmp_total, nat_l
 use Rattle.std.specs.FinMap as finite
 use Rattle.std.specs.Option.{unwrap_or}
 use Rattle.std.specs.Str.{bytes_eq}
-use Rattle.gate_queue.specs.Machine.{after}
 use Rattle.gate_queue.specs.declared.act.Act.{Act}
 use Rattle.gate_queue.specs.declared.reply.Reply.{Reply}
 use Rattle.gate_queue.specs.declared.state.State.{State}
 use Rattle.gate_store.specs.Headline.{or_same, firsts, first_in, acts_of_all, run_on}
 use Rattle.gate_store.specs.Run.{Records, kept_under, is_known, acts_in, replies_to, after_all, answer_to, stepped, after_delivery, new_acts, answers_to, after_deliveries}
 use Rattle.gate_store.specs.declared.delivery.Delivery.{Delivery}
+use Rattle.gate_store.proofs.Telling.{after_all-append}
 
 -- AFTER A FIRST DELIVERY its identifier is known, and each that was.
 some_or : (b : Bool) (answer : List Reply) (had : Option (List Reply)) → is_some (cond b (Some answer) had) ≡ (b || is_some had)
@@ -53,10 +53,6 @@ acts_push records (first ∷ deliveries) delivery =
     ∙ ap (λ (acts : List Act). acts ++ new_acts (after_deliveries next deliveries) delivery) (sym (first_step records first deliveries))
 
 -- THE STATE after deliveries
-after_all-append : (s : State) (acts others : List Act) → after_all s (acts ++ others) ≡ after_all (after_all s acts) others
-after_all-append s [] others = refl
-after_all-append s (act ∷ acts) others = after_all-append (after s act) acts others
-
 one_state : (records : Records) (delivery : Delivery) → (after_delivery records delivery).state ≡ after_all records.state (new_acts records delivery)
 one_state records delivery = by (is_known records delivery.id) where
   by : (known : Bool) → (cond known records (stepped records delivery)).state ≡ after_all records.state (cond known [] (acts_in delivery))

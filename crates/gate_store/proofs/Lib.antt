@@ -3,6 +3,7 @@ pub mod Again
 pub mod Depths
 pub mod Firsts
 pub mod Items
+pub mod Places
 pub mod Runs
 pub mod SmallTexts
 pub mod Telling

@@ -1,6 +1,5 @@
 -- What holds of each act in order, after all acts before it.
-use Rattle.std.proofs.Common.{◌≡◌, ◌<◌, ◌+◌, ℕ, List, [], ◌∷◌, ◌++◌, length, take, get_or, Option, Some, None, Result, Ok, Err, IfOk, OnOk, refl, sym, ◌∙◌, ap, subst}
-use Rattle.std.proofs.lemmas.List.{take_more}
+use Rattle.std.proofs.Common.{◌≡◌, ◌<◌, ◌+◌, ℕ, false, List, [], ◌∷◌, ◌++◌, length, take, get_or, Option, Some, None, Result, Ok, Err, IfOk, OnOk, refl, sym, ◌∙◌, ap, subst}
 use Rattle.std.proofs.lemmas.List.Elements.{All-weaker}
 use Rattle.gate_rules.specs.declared.rule.Rule.{Rule}
 use Rattle.gate_queue.specs.History.{Entry, Event, Legal, IsReadyToLand, IsRightOrder, denied_by, events_of, orders_in}
@@ -14,9 +13,10 @@ use Rattle.gate_queue.specs.declared.reply.Reply.{Reply}
 use Rattle.gate_queue.specs.declared.reply.Reply.TheVariants.{Done, Denied}
 use Rattle.gate_queue.specs.declared.state.State.{State}
 use Rattle.gate_store.specs.Headline.{ActsByRule, Each, Headline, HistoryTells, IsAnswered, IsReady, IsRight, LandsRightly, Tells, acts_of_all, entry_for, failing, first_in, history_after}
-use Rattle.gate_store.specs.Run.{Records, after_all, after_deliveries, after_delivery, answer_to, answers_to, new_acts}
+use Rattle.gate_store.specs.Run.{NoneMeetsFull, Records, after_all, after_deliveries, after_delivery, answer_to, answers_to, meets_full, new_acts}
 use Rattle.gate_store.specs.declared.delivery.Delivery.{Delivery}
 use Rattle.gate_store.proofs.Firsts.{acts_of_one, acts_push, answered_kept, kept_after, run_kept, state_after}
+use Rattle.gate_store.proofs.Places.{up_to}
 use Rattle.gate_store.proofs.Telling.{still_legal}
 
 pub each_append : (P : List Entry → State → Act → Type 0) (history : List Entry) (s : State) (acts others : List Act)
@@ -107,20 +107,26 @@ records_push : (records : Records) (deliveries : List Delivery) (delivery : Deli
 records_push records [] delivery = refl
 records_push records (first ∷ deliveries) delivery = records_push (after_delivery records first) deliveries delivery
 
+room_push : (records : Records) (deliveries : List Delivery) (delivery : Delivery)
+    → NoneMeetsFull records deliveries → meets_full (after_deliveries records deliveries) delivery ≡ false → NoneMeetsFull records (deliveries ++ delivery ∷ [])
+room_push records [] delivery none room = (room, tt)
+room_push records (first ∷ deliveries) delivery (here, none) room = (here, room_push (after_delivery records first) deliveries delivery none room)
+
 module _ (old now : Records) (deliveries : List Delivery) (place : ℕ) (delivery : Delivery) (at : delivery ≡ get_or deliveries place delivery) (within : place < length deliveries)
     (led : now ≡ after_deliveries old (take place deliveries)) where
-  up_to : take (place + 1) deliveries ≡ take place deliveries ++ delivery ∷ []
-  up_to = take_more deliveries place delivery within ∙ ap (λ (last : Delivery). take place deliveries ++ last ∷ []) (sym at)
-
   pub answers_more : (answers : List (List Reply)) (answer : List Reply) → answers ≡ answers_to old (take place deliveries) → answer ≡ answer_to now delivery
       → answers ++ answer ∷ [] ≡ answers_to old (take (place + 1) deliveries)
   answers_more answers answer are is =
       (λ i. are i ++ (is ∙ ap (λ (records : Records). answer_to records delivery) led) i ∷ [])
-      ∙ sym (ap (answers_to old) up_to ∙ answers_push old (take place deliveries) delivery)
+      ∙ sym (ap (answers_to old) (up_to deliveries place delivery at within) ∙ answers_push old (take place deliveries) delivery)
 
   pub led_more : (next : Records) → next ≡ after_delivery now delivery → next ≡ after_deliveries old (take (place + 1) deliveries)
   led_more next is =
-      is ∙ ap (λ (records : Records). after_delivery records delivery) led ∙ sym (ap (after_deliveries old) up_to ∙ records_push old (take place deliveries) delivery)
+      is ∙ ap (λ (records : Records). after_delivery records delivery) led ∙ sym (ap (after_deliveries old) (up_to deliveries place delivery at within) ∙ records_push old (take place deliveries) delivery)
+
+  pub room_more : NoneMeetsFull old (take place deliveries) → meets_full now delivery ≡ false → NoneMeetsFull old (take (place + 1) deliveries)
+  room_more none room =
+      rw (up_to deliveries place delivery at within) (room_push old (take place deliveries) delivery none (subst (λ (records : Records). meets_full records delivery ≡ false) led room))
 
   pub tell_more : TellAll old (take place deliveries) → ((history : List Entry) → Legal history now.state → Each Tells history now.state (new_acts now delivery))
       → TellAll old (take (place + 1) deliveries)
@@ -131,5 +137,5 @@ module _ (old now : Records) (deliveries : List Delivery) (place : ℕ) (deliver
       let still = subst (Legal (history_after history old.state acts)) (sym at_now) (still_legal history old.state acts legal told) in
       let here = subst (λ (records : Records). Each Tells (history_after history old.state acts) now.state (new_acts records delivery)) led (tells _ still) in
       let there = subst (λ (s : State). Each Tells (history_after history old.state acts) s (new_acts (after_deliveries old (take place deliveries)) delivery)) at_now here in
-      subst (Each Tells history old.state) (sym (ap (λ (all : List Delivery). acts_of_all (first_in old all)) up_to ∙ acts_push old (take place deliveries) delivery))
+      subst (Each Tells history old.state) (sym (ap (λ (all : List Delivery). acts_of_all (first_in old all)) (up_to deliveries place delivery at within) ∙ acts_push old (take place deliveries) delivery))
       (each_append Tells history old.state acts _ told there)

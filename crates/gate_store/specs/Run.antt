@@ -81,11 +81,16 @@ meets_full records delivery = not (is_known records delivery.id) && acts_meet_fu
 
 -- What is answered has met no full gate, and `Full` is answered only if one was met. So, unless memory or the records fail,
 -- `Full` is answered exactly if an act meets a full gate.
-abbrev pub EndsBy : {X : Type 0} → Result X Fault → Bool → Type 0
-EndsBy (Ok _) full = full ≡ false
-EndsBy (Err Full) full = full ≡ true
-EndsBy (Err Memory) full = ⊤
-EndsBy (Err Store) full = ⊤
+abbrev pub AgreesOnFull : {X : Type 0} → Result X Fault → Bool → Type 0
+AgreesOnFull (Ok _) full = full ≡ false
+AgreesOnFull (Err Full) full = full ≡ true
+AgreesOnFull (Err Memory) full = ⊤
+AgreesOnFull (Err Store) full = ⊤
+
+-- None of the deliveries meets it, each after those before it.
+abbrev pub NoneMeetsFull : Records → List Delivery → Type 0
+NoneMeetsFull records [] = ⊤
+NoneMeetsFull records (delivery ∷ deliveries) = (meets_full records delivery ≡ false) × NoneMeetsFull (after_delivery records delivery) deliveries
 
 -- Deliveries were answered, and these come next: none is left, or the fault came at the first of them.
 abbrev pub StopsBefore : Option Fault → List Delivery → Type 0

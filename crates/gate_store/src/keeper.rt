@@ -1,7 +1,7 @@
 ghost use Rattle.std.specs.Prelude.{◌≡◌, ◌⊎◌, ◌∷◌, [], List, None, IfOk, IfErr, IfSome, OnOk, OnErr, length, take, drop};
 ghost use Rattle.gate_queue.specs.History.{Entry, Legal, StateTells};
 ghost use Rattle.gate_store.specs.Headline.{Each, Headline, HistoryTells, Tells, acts_of_all, first_in};
-ghost use Rattle.gate_store.specs.Run.{EndsBy, IsFullBefore, IsOfBooks, IsOfKeepers, StopsBefore, acts_in, acts_meet_full, after_deliveries, after_delivery, answer_to, answers_to, kept_under, meets_full, new_acts, replies_to, stepped, with_answer};
+ghost use Rattle.gate_store.specs.Run.{AgreesOnFull, IsFullBefore, IsOfBooks, IsOfKeepers, NoneMeetsFull, StopsBefore, acts_in, acts_meet_full, after_deliveries, after_delivery, answer_to, answers_to, kept_under, meets_full, new_acts, replies_to, stepped, with_answer};
 
 use crate::answers::Answer;
 use crate::book::Book;
@@ -94,7 +94,7 @@ impl<B: Book> Keeper<B> {
 
         // A fault changes nothing.
         ensures err { B.is_sound self.new → OnErr result (B.shows self.new ≡ B.shows self.old) }
-        ensures full { B.is_sound self.new → EndsBy result (meets_full (B.shows self.old) delivery.now) }
+        ensures full { B.is_sound self.new → AgreesOnFull result (meets_full (B.shows self.old) delivery.now) }
         ensures cause { IfErr result (IsOfKeepers B.may_answer) }
         ensures was { B.is_sound self.new → B.is_sound self.old }
     {
@@ -112,8 +112,10 @@ impl<B: Book> Keeper<B> {
         ensures headline { B.is_sound self.new → Headline (B.shows self.old) (take (length result.0.items) deliveries.now) result.0.items (B.shows self.new) }
         ensures history { B.is_sound self.new → (history : List Entry) → Legal history (B.shows self.old).state → HistoryTells (B.shows self.old) (take (length result.0.items) deliveries.now) (B.shows self.new) history }
 
-        // All are answered, or the fault came at the next one.
+        // All are answered, or the fault came at the next one. No delivery that is answered met a full gate, and at `Full` the next
+        // one does.
         ensures stops { StopsBefore result.1 (drop (length result.0.items) deliveries.now) }
+        ensures room { B.is_sound self.new → NoneMeetsFull (B.shows self.old) (take (length result.0.items) deliveries.now) }
         ensures full { B.is_sound self.new → IsFullBefore result.1 (B.shows self.new) (drop (length result.0.items) deliveries.now) }
         ensures cause { IfSome result.1 (IsOfKeepers B.may_answer) }
         ensures was { B.is_sound self.new → B.is_sound self.old }
@@ -127,6 +129,7 @@ impl<B: Book> Keeper<B> {
         ensures book { B.is_sound self.new → B.shows self.new ≡ after_deliveries (B.shows self.old) (take (length result.0.items) deliveries.now) }
         ensures history { B.is_sound self.new → (history : List Entry) → Legal history (B.shows self.old).state → Each Tells history (B.shows self.old).state (acts_of_all (first_in (B.shows self.old) (take (length result.0.items) deliveries.now))) }
         ensures stops { StopsBefore result.1 (drop (length result.0.items) deliveries.now) }
+        ensures room { B.is_sound self.new → NoneMeetsFull (B.shows self.old) (take (length result.0.items) deliveries.now) }
         ensures full { B.is_sound self.new → IsFullBefore result.1 (B.shows self.new) (drop (length result.0.items) deliveries.now) }
         ensures cause { IfSome result.1 (IsOfKeepers B.may_answer) }
         ensures was { B.is_sound self.new → B.is_sound self.old }
@@ -150,7 +153,7 @@ impl<B: Book> Keeper<B> {
         ensures book { B.is_sound self.new → OnOk result (B.shows self.new ≡ after_delivery (B.shows self.old) delivery.now) }
         ensures history { B.is_sound self.new → OnOk result ((history : List Entry) → Legal history (B.shows self.old).state → Each Tells history (B.shows self.old).state (new_acts (B.shows self.old) delivery.now)) }
         ensures err { B.is_sound self.new → OnErr result (B.shows self.new ≡ B.shows self.old) }
-        ensures full { B.is_sound self.new → EndsBy result (meets_full (B.shows self.old) delivery.now) }
+        ensures full { B.is_sound self.new → AgreesOnFull result (meets_full (B.shows self.old) delivery.now) }
         ensures cause { IfErr result (IsOfKeepers B.may_answer) }
         ensures was { B.is_sound self.new → B.is_sound self.old }
     {
@@ -167,7 +170,7 @@ impl<B: Book> Keeper<B> {
         ensures book { B.is_sound self.new → OnOk result (B.shows self.new ≡ stepped (B.shows self.old) delivery.now) }
         ensures history { B.is_sound self.new → OnOk result ((history : List Entry) → Legal history (B.shows self.old).state → Each Tells history (B.shows self.old).state (acts_in delivery.now)) }
         ensures err { B.is_sound self.new → OnErr result (B.shows self.new ≡ B.shows self.old) }
-        ensures full { B.is_sound self.new → EndsBy result (acts_meet_full (B.shows self.old).state (acts_in delivery.now)) }
+        ensures full { B.is_sound self.new → AgreesOnFull result (acts_meet_full (B.shows self.old).state (acts_in delivery.now)) }
         ensures cause { IfErr result (IsOfKeepers B.may_answer) }
         ensures was { B.is_sound self.new → B.is_sound self.old }
     {

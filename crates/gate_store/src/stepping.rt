@@ -3,7 +3,7 @@ ghost use Rattle.std.specs.List.{All};
 ghost use Rattle.gate_queue.specs.Acts.{ActKeepsLimits};
 ghost use Rattle.gate_queue.specs.History.{Entry, Legal};
 ghost use Rattle.gate_store.specs.Headline.{Each, Tells};
-ghost use Rattle.gate_store.specs.Run.{EndsBy, IsOfActs, acts_meet_full, is_full, replies_to, after_all};
+ghost use Rattle.gate_store.specs.Run.{AgreesOnFull, IsOfActs, acts_meet_full, is_full, replies_to, after_all};
 
 use crate::answers::Answer;
 use gate_queue::{Act, Fault, Gate};
@@ -20,7 +20,7 @@ pub fn step_all(gate: Gate, alloc: Global, acts: &[Act]) -> Result<(Gate, Answer
     ensures history { IfOk result (λ _. (history : List Entry) → Legal history gate → Each Tells history gate acts.now) }
 
     // The faults.
-    ensures full { EndsBy result (acts_meet_full gate acts.now) }
+    ensures full { AgreesOnFull result (acts_meet_full gate acts.now) }
     ensures at_once { IsTrue (is_full gate) → 0 < length acts.now → result ≡ Err Fault.Full }
     ensures cause { IfErr result IsOfActs }
 {

@@ -8,6 +8,7 @@ mod reading;
 mod same;
 mod service;
 mod settings;
+mod states;
 mod stories;
 mod tries;
 

@@ -1,6 +1,7 @@
 mod desks;
 mod fitness;
 mod levels;
+mod listed;
 mod rows;
 mod same;
 mod words;

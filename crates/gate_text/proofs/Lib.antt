@@ -9,6 +9,7 @@ pub mod Lines
 pub mod Lists
 pub mod Numbers
 pub mod Refusals
+pub mod SettingsLimits
 pub mod Tools
 pub mod Trims
 pub mod Values

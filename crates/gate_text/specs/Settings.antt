@@ -33,6 +33,30 @@ same_settings one other =
     && ((one.required_approvals == other.required_approvals)
     && option_eq nat_eq one.max_batch_size other.max_batch_size)))
 
+-- THEIR LIMITS
+abbrev pub are_distinct : {X : Type 0} → (X → X → Bool) → List X → Bool
+are_distinct is_same [] = true
+are_distinct is_same (x ∷ xs) = not (list_any (is_same x) xs) && are_distinct is_same xs
+
+-- so many texts, no two the same
+abbrev pub are_items : ℕ → ℕ → List (List ℕ) → Bool
+are_items least most texts = is_in_range least most (length texts) && are_distinct bytes_eq texts
+
+abbrev pub is_size : Option ℕ → Bool
+is_size None = true
+is_size (Some size) = is_in_range 1 1000 size
+
+abbrev pub are_settings : SettingsView → Bool
+are_settings s =
+    are_items 1 64 s.status
+    && (is_in_range 1 2147483647 s.timeout_sec
+    && (are_items 0 64 s.block_labels
+    && (is_in_range 0 100 s.required_approvals
+    && is_size s.max_batch_size)))
+
+abbrev pub if_settings : SettingsView → Option SettingsView
+if_settings s = if are_settings s then Some s else None
+
 -- VALUES
 -- a whole number from the least to the most
 abbrev pub whole_in : ℕ → ℕ → Data → Option ℕ
@@ -52,13 +76,9 @@ items_in least most _ = None
 abbrev pub plain_in : Data → Option (List ℕ)
 plain_in value = option_and_then (λ text. result_ok (plain_of text)) (as_str value)
 
-abbrev pub are_distinct : List (List ℕ) → Bool
-are_distinct [] = true
-are_distinct (text ∷ texts) = not (list_any (bytes_eq text) texts) && are_distinct texts
-
 -- 1 to 64 names of statuses, no two the same
 abbrev pub if_distinct : List (List ℕ) → Option (List (List ℕ))
-if_distinct texts = if are_distinct texts then Some texts else None
+if_distinct texts = if are_distinct bytes_eq texts then Some texts else None
 
 abbrev pub statuses_in : Data → Option (List (List ℕ))
 statuses_in value = option_and_then if_distinct (option_and_then (λ items. all_of (map plain_in items)) (items_in 1 64 value))

@@ -44,6 +44,13 @@ impl<T> Set<T> {
         self.texts.len()
     }
 
+    /// The words' texts, in the order of their bytes.
+    pub fn texts(&self) -> &BTreeSet<Text>
+        ensures value { set.from_list result.now.keys ≡ self.now }
+    {
+        &self.texts
+    }
+
     /// Whether the other set has each word of this one.
     pub fn is_subset(&self, other: &Set<T>) -> bool
         ensures value { result ≡ set.is_subset self.now other.now }

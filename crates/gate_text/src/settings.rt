@@ -1,7 +1,8 @@
-ghost use Rattle.std.specs.Prelude.{◌≡◌, IfOk};
-ghost use Rattle.gate_text.specs.Settings.{Gives, settings_of};
+ghost use Rattle.std.specs.Prelude.{◌≡◌, ◌≤◌, true, IfOk, IfSome};
+ghost use Rattle.gate_text.specs.Settings.{Gives, are_settings, if_settings, settings_of};
 
 mod fault;
+mod limits;
 mod reading;
 mod values;
 
@@ -9,6 +10,7 @@ use crate::context::Context;
 use crate::label::Label;
 use crate::names::{Contexts, Labels};
 pub use fault::{Key, SettingsFault};
+use limits::{MAX_APPROVALS, MAX_TIMEOUT_SEC, are_labels, are_statuses, is_size};
 use reading::settings_in;
 use std::alloc::{AllocError, Global};
 use std::marker::Model;
@@ -25,7 +27,8 @@ pub struct Settings {
 }
 
 impl Model for Settings {
-    ghost use Rattle.gate_text.specs.Settings.{SettingsView};
+    ghost use Rattle.std.specs.Prelude.{◌≡◌, true};
+    ghost use Rattle.gate_text.specs.Settings.{SettingsView, are_settings};
 
     ghost Value = { SettingsView };
 
@@ -37,6 +40,14 @@ impl Model for Settings {
       max_batch_size = s.max_batch_size;
     } };
 
+    ghost invariant = { λ s. are_settings (record {
+      status = s.status;
+      timeout_sec = s.timeout_sec;
+      block_labels = s.block_labels;
+      required_approvals = s.required_approvals;
+      max_batch_size = s.max_batch_size;
+    }) ≡ true };
+
     ghost inverse = { λ s. record {
       status = s.status;
       timeout_sec = s.timeout_sec;
@@ -47,9 +58,38 @@ impl Model for Settings {
 }
 
 impl Settings {
+    /// Settings of these values, or nothing if one of them is out of its limits, which are those that the readers tell. It
+    /// takes no memory.
+    pub fn new(
+        status: Contexts,
+        timeout_sec: u32,
+        block_labels: Labels,
+        required_approvals: u32,
+        max_batch_size: Option<u32>,
+    ) -> Option<Settings>
+        ensures value { result ≡ if_settings (record { status = status; timeout_sec = timeout_sec; block_labels = block_labels; required_approvals = required_approvals; max_batch_size = max_batch_size }) }
+    {
+        let is_good = are_statuses(status.as_slice())
+            && (1..=MAX_TIMEOUT_SEC).contains(&timeout_sec)
+            && are_labels(block_labels.as_slice())
+            && required_approvals <= MAX_APPROVALS
+            && is_size(max_batch_size);
+        if !is_good {
+            return None;
+        }
+        Some(Settings {
+            status,
+            timeout_sec,
+            block_labels,
+            required_approvals,
+            max_batch_size,
+        })
+    }
+
     /// The statuses that have to succeed before a batch lands, in the order of the text: 1 to 64, no two the same.
     pub fn status(&self) -> &[Context]
         ensures value { result.now ≡ self.now.status }
+        ensures limits { are_settings self.now ≡ true }
     {
         self.status.as_slice()
     }
@@ -57,6 +97,8 @@ impl Settings {
     /// After how many seconds a batch is given up: 1 to 2,147,483,647, and 3,600 if the text doesn't say it.
     pub fn timeout_sec(&self) -> u32
         ensures value { result ≡ self.now.timeout_sec }
+        ensures low { 1 ≤ result }
+        ensures high { result ≤ 2_147_483_647 }
     {
         self.timeout_sec
     }
@@ -72,6 +114,7 @@ impl Settings {
     /// How many reviews a change needs before it can be approved: 0 to 100, and 0 if the text doesn't say it.
     pub fn required_approvals(&self) -> u32
         ensures value { result ≡ self.now.required_approvals }
+        ensures high { result ≤ 100 }
     {
         self.required_approvals
     }
@@ -79,6 +122,8 @@ impl Settings {
     /// How many changes a batch has at most: 1 to 1,000, or no limit if the text doesn't say it.
     pub fn max_batch_size(&self) -> Option<u32>
         ensures value { result ≡ self.now.max_batch_size }
+        ensures low { IfSome result (λ size. 1 ≤ size) }
+        ensures high { IfSome result (λ size. size ≤ 1000) }
     {
         self.max_batch_size
     }

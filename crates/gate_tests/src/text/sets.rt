@@ -91,6 +91,29 @@ fn sets_of_labels(rt: HostRuntime) {
     check_sets(&rt, rt.alloc(), "labels", table);
 }
 
+// The words of a set of names, with a comma between two.
+fn in_order(rt: &impl Abort, alloc: Global, list: &str) -> String {
+    let mut words = String::new(alloc);
+    for text in name_set(rt, alloc, list).texts() {
+        write!(words, "{},", text.as_str()).expect(rt, "memory");
+    }
+    words
+}
+
+#[test]
+fn words_in_order(rt: HostRuntime) {
+    let table = "
+        - =>
+        zoe,al,vera => al,vera,zoe,
+        b,a-b,a,ab,b2,a => a,a-b,ab,b,b2,
+    ";
+    for line in table.lines() {
+        if let Some((row, words)) = row_of(&rt, line) {
+            check_words(&rt, row, in_order(&rt, rt.alloc(), row).as_str(), words);
+        }
+    }
+}
+
 // Whether a set of these names has so many, and its copy is the same.
 fn is_copied(rt: &impl Abort, alloc: Global, list: &str, count: usize) -> bool {
     let set = name_set(rt, alloc, list);

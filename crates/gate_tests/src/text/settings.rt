@@ -1,5 +1,5 @@
 use crate::readers::{check_pair, check_that, check_words, counted, cut, row_of};
-use gate_text::{Key, Settings, SettingsFault, read_settings};
+use gate_text::{Context, Contexts, Key, Label, Labels, Settings, SettingsFault, read_settings};
 use std::alloc::{AllocError, Global};
 use std::process::Abort;
 
@@ -60,6 +60,75 @@ fn copy_words(rt: &impl Abort, alloc: Global, settings: &Settings) -> String {
     let copy = settings.copy(alloc).expect(rt, "memory");
     check_that(rt, "a copy", copy == *settings);
     words_of(rt, alloc, &copy)
+}
+
+// The words of a list, with a comma between two: `-` is none, and `#65` is so many different ones.
+fn listed(rt: &impl Abort, alloc: Global, word: &str) -> String {
+    if let Some(count) = word.strip_prefix("#") {
+        let last = count.parse::<u32>().expect(rt, "a number");
+        return counted(rt, alloc, 0..last, ",");
+    }
+    let words = if word == "-" { "" } else { word };
+    String::from_str(alloc, words).expect(rt, "memory")
+}
+
+fn contexts(rt: &impl Abort, alloc: Global, word: &str) -> Contexts {
+    let mut contexts = Contexts::from(Vec::new(alloc));
+    for text in listed(rt, alloc, word).as_str().split_terminator(',') {
+        let context = Context::read(alloc, text).expect(rt, "a name of a status");
+        contexts.push(context).expect(rt, "memory");
+    }
+    contexts
+}
+
+fn labels_in(rt: &impl Abort, alloc: Global, word: &str) -> Labels {
+    let mut labels = Labels::from(Vec::new(alloc));
+    for text in listed(rt, alloc, word).as_str().split_terminator(',') {
+        let label = Label::read(alloc, text).expect(rt, "a label");
+        labels.push(label).expect(rt, "memory");
+    }
+    labels
+}
+
+fn number_in(rt: &impl Abort, word: &str) -> u32 {
+    word.parse::<u32>().expect(rt, "a number")
+}
+
+// The settings of five values, as `ci,lint 60 hold 0 5`: a size `-` is no limit.
+fn built(rt: &impl Abort, alloc: Global, row: &str) -> Option<Settings> {
+    let (status, rest) = cut(row);
+    let (timeout_sec, rest) = cut(rest);
+    let (labels, rest) = cut(rest);
+    let (approvals, size) = cut(rest);
+    let size = if size == "-" {
+        None
+    } else {
+        Some(number_in(rt, size))
+    };
+    Settings::new(
+        contexts(rt, alloc, status),
+        number_in(rt, timeout_sec),
+        labels_in(rt, alloc, labels),
+        number_in(rt, approvals),
+        size,
+    )
+}
+
+// The settings of five values, in words.
+fn built_words(rt: &impl Abort, alloc: Global, row: &str) -> String {
+    match &built(rt, alloc, row) {
+        Some(settings) => words_of(rt, alloc, settings),
+        None => String::from_str(alloc, "refused").expect(rt, "memory"),
+    }
+}
+
+// How many statuses and labels the settings of five values have.
+fn built_counts(rt: &impl Abort, alloc: Global, row: &str) -> String {
+    let (statuses, labels) = match &built(rt, alloc, row) {
+        Some(settings) => (settings.status().len(), settings.block_labels().len()),
+        None => (0, 0),
+    };
+    format!(in alloc; "{statuses} {labels}").expect(rt, "memory")
 }
 
 // What a text is read as, in words, or its refusal.
@@ -145,6 +214,8 @@ fn answer(rt: &impl Abort, alloc: Global, question: &str, row: &str) -> String {
     match question {
         "items" => count_words(rt, alloc, list_of(rt, alloc, row).as_str()),
         "refusal" => printed(rt, alloc, fault(row)),
+        "values" => built_words(rt, alloc, row),
+        "many values" => built_counts(rt, alloc, row),
         front => told(rt, alloc, written(rt, alloc, front, row).as_str()),
     }
 }
@@ -538,6 +609,30 @@ fn settings_that_are_equal(rt: HostRuntime) {
             check_equal(&rt, rt.alloc(), number, &settings);
         }
     }
+}
+
+#[test]
+fn settings_of_values(rt: HostRuntime) {
+    let table = "
+        ci 1 - 0 - => ci; 1; ; 0; no limit
+        ci,lint 2147483647 hold,wip 100 1000 => ci,lint; 2147483647; hold,wip; 100; 1000
+        lint,ci 60 wip,hold 2 1 => lint,ci; 60; wip,hold; 2; 1
+        - 3600 - 0 - => refused
+        ci,ci 3600 - 0 - => refused
+        ci 0 - 0 - => refused
+        ci 2147483648 - 0 - => refused
+        ci 3600 hold,wip,hold 0 - => refused
+        ci 3600 - 101 - => refused
+        ci 3600 - 0 0 => refused
+        ci 3600 - 0 1001 => refused
+    ";
+    check_answers(&rt, rt.alloc(), "values", table);
+    let table = "
+        #64 3600 #64 0 - => 64 64
+        #65 3600 #64 0 - => 0 0
+        #64 3600 #65 0 - => 0 0
+    ";
+    check_answers(&rt, rt.alloc(), "many values", table);
 }
 
 #[test]

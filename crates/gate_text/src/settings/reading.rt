@@ -7,6 +7,7 @@ ghost use Rattle.std.specs.Option.{ok_or};
 
 use super::Settings;
 use super::fault::{Key, SettingsFault};
+use super::limits::{MAX_APPROVALS, MAX_BATCH_SIZE, MAX_TIMEOUT_SEC};
 use super::values::{labels_in, number_in, statuses_in};
 use crate::names::{Contexts, Labels};
 use std::alloc::Global;
@@ -14,15 +15,6 @@ use toml::{Table, Value};
 
 // After how many seconds a batch is given up if the text doesn't say it, as in bors-ng.
 const DEFAULT_TIMEOUT_SEC: u32 = 3600;
-
-// The greatest number of seconds that can be asked for.
-const MAX_TIMEOUT_SEC: u32 = 2_147_483_647;
-
-// The most reviews that can be asked for.
-const MAX_APPROVALS: u32 = 100;
-
-// The greatest batch that can be asked for.
-const MAX_BATCH_SIZE: u32 = 1000;
 
 fn value_at(table: &Table, key: Key) -> Option<&Value>
     ensures { option_map (λ value. view value.now) result ≡ get_member (key_name key) (table_view table.now) }

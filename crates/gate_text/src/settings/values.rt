@@ -5,15 +5,13 @@ ghost use Rattle.toml.specs.View.{view};
 ghost use Rattle.gate_text.specs.Arguments.{all_of, with_name};
 ghost use Rattle.gate_text.specs.Settings as settings;
 
+use super::limits::{MAX_ITEMS, are_different};
 use crate::context::Context;
 use crate::fault::unless_bad;
 use crate::label::Label;
 use crate::names::{Contexts, Labels};
 use std::alloc::{AllocError, Global};
 use toml::Value;
-
-// The most items of a list.
-const MAX_ITEMS: usize = 64;
 
 // A whole number from the least to the most, and nothing for another value.
 pub(crate) fn number_in(value: &Value, least: u32, most: u32) -> Option<u32>
@@ -57,15 +55,6 @@ fn label_in(alloc: Global, value: &Value) -> Result<Option<Label>, AllocError>
         return Ok(None);
     };
     unless_bad(Label::read(alloc, text))
-}
-
-fn are_distinct(contexts: &[Context]) -> bool
-    ensures { result ≡ settings.are_distinct contexts.now }
-{
-    match contexts.split_first() {
-        Some((first, others)) => !others.contains(first) && are_distinct(others),
-        None => true,
-    }
 }
 
 // The names of statuses that an array lists, and nothing for another value.
@@ -114,7 +103,7 @@ pub(crate) fn statuses_in(alloc: Global, value: &Value) -> Result<Option<Context
         return Ok(None);
     };
     match contexts_of(alloc, items)? {
-        Some(contexts) if are_distinct(contexts.as_slice()) => Ok(Some(contexts)),
+        Some(contexts) if are_different(contexts.as_slice()) => Ok(Some(contexts)),
         _ => Ok(None),
     }
 }

@@ -1,6 +1,6 @@
 use Rattle.std.proofs.Common.{◌≡◌, ◌++◌, [], ◌∷◌, length, ◌∙◌, ap, arith}
 use Rattle.std.proofs.lemmas.List.{length_push}
-use Rattle.gate_store.proofs.Runs.{answers_more, led_more, tell_more}
+use Rattle.gate_store.proofs.Runs.{answers_more, led_more, room_more, tell_more}
 use Rattle.gate_store.proofs.keeper.Keeper.answer_all.Goals as goal
 
 pub loop-delivery-preserved : goal.loop-delivery-preserved
@@ -24,6 +24,7 @@ loop-delivery-preserved g c =
           led_more old now deliveries place delivery at within (so_far.book (was sound)) (g.B.Book.shows c.answer.new.self) (c.in-Ok.ensures.book sound);
       history = λ sound.
           tell_more old now deliveries place delivery at within (so_far.book (was sound)) (so_far.history (was sound)) (c.in-Ok.ensures.history sound);
+      room = λ sound. room_more old now deliveries place delivery at within (so_far.book (was sound)) (so_far.room (was sound)) (c.in-Ok.ensures.full sound);
       count = omega (arith, ap length pushed, length_push c.loop-delivery.answers.items c.in-Ok.answer, so_far.count);
       was = λ sound. so_far.was (was sound);
     }

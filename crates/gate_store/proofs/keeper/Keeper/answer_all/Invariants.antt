@@ -1,7 +1,7 @@
 use Rattle.std.proofs.Common.{◌≡◌, List, length, take}
 use Rattle.gate_queue.specs.History.{Entry, Legal}
 use Rattle.gate_store.specs.Headline.{Each, Tells, acts_of_all, first_in}
-use Rattle.gate_store.specs.Run.{after_deliveries, answers_to}
+use Rattle.gate_store.specs.Run.{NoneMeetsFull, after_deliveries, answers_to}
 use Rattle.gate_store.proofs.keeper.Keeper.answer_all.Given as goal
 
 abbrev pub invariant-loop-delivery : goal.invariant-loop-delivery
@@ -10,6 +10,7 @@ invariant-loop-delivery g l = record {
   book : g.B.Book.is_sound l.self → g.B.Book.shows l.self ≡ after_deliveries (g.B.Book.shows l.fn.self) (take l.delivery-index l.deliveries);
   history : g.B.Book.is_sound l.self → (history : List Entry) → Legal history (g.B.Book.shows l.fn.self).state
       → Each Tells history (g.B.Book.shows l.fn.self).state (acts_of_all (first_in (g.B.Book.shows l.fn.self) (take l.delivery-index l.deliveries)));
+  room : g.B.Book.is_sound l.self → NoneMeetsFull (g.B.Book.shows l.fn.self) (take l.delivery-index l.deliveries);
   count : length l.answers.items ≡ l.delivery-index;
   was : g.B.Book.is_sound l.self → g.B.Book.is_sound l.fn.self;
 }

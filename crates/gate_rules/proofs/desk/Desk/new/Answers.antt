@@ -1,0 +1,5 @@
+use Rattle.gate_rules.proofs.Members.{members-empty}
+use Rattle.gate_rules.proofs.desk.Desk.new.Goals as goal
+
+pub invariant_of-result : goal.invariant_of-result
+invariant_of-result c = rw c.new.ensures.empty members-empty
