@@ -1,0 +1,21 @@
+-- WHAT THE NUMBERS OF A BATCH KEEP in every state, so that the database can take them.
+use Rattle.std.specs.Prelude.{◌≤◌, ⊤, IfSome}
+use Rattle.std.specs.List.{All}
+use Rattle.gate_queue.specs.declared.batch.Batch.{Batch}
+use Rattle.gate_queue.specs.declared.batch.Stage.{Stage}
+use Rattle.gate_queue.specs.declared.batch.Stage.TheVariants.{Waiting, Ordered, Staged, Landing}
+use Rattle.gate_queue.specs.declared.lane.Lane.{Lane}
+
+abbrev pub StageKeepsLimits : Stage → Type 0
+StageKeepsLimits Waiting = ⊤
+StageKeepsLimits (Ordered since) = since ≤ 9_000_000_000_000_000
+StageKeepsLimits (Staged since commit reports) = since ≤ 9_000_000_000_000_000
+StageKeepsLimits (Landing commit) = ⊤
+
+pub record BatchKeepsLimits (batch : Batch) : Type 0 where
+  pub number : batch.number ≤ 9_000_000_000_000_000
+  pub stage : StageKeepsLimits batch.stage
+
+pub record LaneKeepsLimits (lane : Lane) : Type 0 where
+  pub running : IfSome lane.running BatchKeepsLimits
+  pub waiting : All BatchKeepsLimits lane.waiting
