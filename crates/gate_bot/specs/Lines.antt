@@ -1,8 +1,10 @@
 -- LINES: what is written for the lines that were read. A text is seen whole; the code takes it byte by byte.
 use Rattle.std.specs.Prelude.{◌≡◌, ◌⊎◌, ℕ, ◌+◌, ◌<◌, ◌≤◌, ◌==◌, ◌&&◌, not, nat_lt, ⊤, List, [], ◌∷◌, ◌++◌, length, take, Bool, true, false, Option, Result, Ok, Err, is_ok, codes, if◌then◌else◌}
+use Rattle.std.specs.FinMap.{empty}
 use Rattle.std.specs.Io.KnownBytes.{Appends, IsAtEnd}
 use Rattle.gate_queue.specs.declared.fault.Fault.{Fault}
 use Rattle.gate_queue.specs.declared.fault.Fault.TheVariants.{Memory, Store, Full}
+use Rattle.gate_queue.specs.Machine.{empty_state}
 use Rattle.gate_store.specs.Answers.{answer_text_of}
 use Rattle.gate_store.specs.Run.{Records, answer_to, after_delivery, meets_full, IsOfKeepers}
 use Rattle.gate_store.specs.declared.delivery.Delivery.{Delivery}
@@ -161,3 +163,11 @@ IsWithinLimit (Err (Gate fault)) input = length input ≤ max_input
 IsWithinLimit (Err Read) input = length input ≤ max_input
 IsWithinLimit (Err Write) input = length input ≤ max_input
 IsWithinLimit (Err TooMuch) input = length input ≡ max_input + 1
+
+-- THE PROGRAM begins without records.
+abbrev pub no_records : Records
+no_records = record { state = empty_state 1; kept = empty }
+
+-- no book could be made, and nothing was read or written
+abbrev pub HasNotBegun : Result ℕ HookFault → Option (List ℕ) → Option (List ℕ) → Option (List ℕ) → Option (List ℕ) → Type 0
+HasNotBegun result unread left before after = ((result ≡ Err (Gate Memory)) ⊎ (result ≡ Err (Gate Store))) × (left ≡ unread) × (after ≡ before)

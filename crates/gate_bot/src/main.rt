@@ -8,24 +8,21 @@ mod lines;
 mod outcome;
 mod reading;
 mod sending;
+mod serving;
 #[cfg(test)]
 mod tests;
 
-use crate::lines::serve_lines;
 use crate::outcome::{complaint, status};
-use gate_queue::Gate;
-use gate_store::{Keeper, PlainBook};
+use crate::serving::serve_anew;
 use std::io;
 use std::process::ExitCode;
 
-/// Serves the lines of standard input on standard output. The status is 0 at the end of the input, and 1 after a
-/// fault, with one line `gate: WORD` on standard error.
+/// Serves the lines of standard input on standard output. The records are in a database in memory, which is gone at the end. The
+/// status is 0 at the end of the input, and 1 after a fault, with one line `gate: WORD` on standard error.
 fn main(rt: HostRuntime) -> ExitCode {
-    let book = PlainBook::new(rt.alloc(), Gate::new(rt.alloc()));
-    let mut keeper = Keeper::new(book);
     let mut reader = rt.reader();
     let mut writer = io::writer(&rt);
-    let served = serve_lines(rt.alloc(), &mut keeper, &mut reader, &mut writer);
+    let served = serve_anew(rt.alloc(), &mut reader, &mut writer);
     if let Err(fault) = served {
         // If standard error fails too, there is nothing left to tell it by.
         let _ = eprintln!(rt; "{}", complaint(fault));

@@ -22,7 +22,7 @@ use Rattle.gate_sql.specs.declared.row.StatusRow.{StatusRow}
 use Rattle.gate_sql.proofs.Canonical.{map_again}
 use Rattle.gate_sql.proofs.Elements.{Among, HaveSame, among-append, map-among, same-filter, same-map, same-trans}
 use Rattle.gate_sql.proofs.Marks.{filter_const, itself, map_back, same_number}
-use Rattle.gate_sql.proofs.Reading.{list_again, own_rows}
+use Rattle.gate_sql.proofs.Scanning.{list_again, own_rows}
 
 -- NUMBERS THAT ARE APART
 pub among_all : {X : Type 0} (test : X → Bool) (x : X) (xs : List X) → list_all test xs ≡ true → Among x xs → test x ≡ true

@@ -1,3 +1,4 @@
+pub mod Alike
 pub mod Answering
 pub mod Batches
 pub mod Canonical
@@ -17,8 +18,9 @@ pub mod Marks
 pub mod Members
 pub mod OneState
 pub mod Placing
-pub mod Reading
 pub mod Results
+pub mod Scanning
 pub mod Selecting
+pub mod Shown
 pub mod Standing
 pub mod Steps

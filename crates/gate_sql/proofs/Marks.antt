@@ -17,7 +17,7 @@ use Rattle.gate_sql.specs.Encoding.{list_marks, mark, marks_of, names_of, placed
 use Rattle.gate_sql.specs.declared.row.MarkRow.{MarkRow}
 use Rattle.gate_sql.proofs.Canonical.{one_of_key, same-keys}
 use Rattle.gate_sql.proofs.Elements.{Among, HaveSame, among-append, map-among, same-filter, same-map, same-trans}
-use Rattle.gate_sql.proofs.Reading.{list_again, own_rows, set_again}
+use Rattle.gate_sql.proofs.Scanning.{list_again, own_rows, set_again}
 
 -- A TEST that gives the same on all of a list
 pub filter_const : {X Y : Type 0} (f : X → Y) (test : Y → Bool) (b : Bool) → ((x : X) → test (f x) ≡ b) → (xs : List X) → filter test (map f xs) ≡ cond b (map f xs) []

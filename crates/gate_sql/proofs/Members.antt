@@ -17,7 +17,7 @@ use Rattle.gate_sql.specs.declared.row.Rows.{Rows}
 use Rattle.gate_sql.proofs.Batches.{among_all}
 use Rattle.gate_sql.proofs.Elements.{Among, HaveSame, among-flat_map, among-map, flat_map-among, map-among}
 use Rattle.gate_sql.proofs.Marks.{itself, same_number}
-use Rattle.gate_sql.proofs.Reading.{among-any, any-among, same_truth}
+use Rattle.gate_sql.proofs.Scanning.{among-any, any-among, same_truth}
 
 -- AN ITEM AND ITS PLACE
 item_of : {X : Type 0} (entry : ℤ × X) (at : ℕ) (xs : List X) → Among entry (from_place at xs) → Among entry.1 xs

@@ -43,7 +43,7 @@ use Rattle.gate_sql.proofs.Canonical.{got, map_again}
 use Rattle.gate_sql.proofs.Elements.{Among, HaveSame, among-append, among-append_left, among-append_right, same-filter, same-map, same-permutation, same-sym}
 use Rattle.gate_sql.proofs.Lanes.{first_again, running_branch, waiting_branch, lane_again, listed, map_same, mapped_back, rows_of_lane}
 use Rattle.gate_sql.proofs.Marks.{approvers_again, same_number, block_labels_again, delegates_again, labels_again, map_back, names_again, reviews_again, status_again}
-use Rattle.gate_sql.proofs.Reading.{any-among}
+use Rattle.gate_sql.proofs.Scanning.{any-among}
 use Rattle.gate_sql.proofs.Members.{belongs_there, or_false, in_batch, in_landing_batch, landing_there, member_is}
 
 parts : (a b : Bool) → a && b ≡ true → (a ≡ true) × (b ≡ true)

@@ -6,8 +6,9 @@
 --     Encoding    the rows of a state of the machine
 --     Decoding    the state that rows stand for
 --     Standing    the law of both: the rows of a state, in any order, stand for it
+--     Shown       what a book over the tables shows
 -- For the code: Faults; Answers, Batches, Changes, Desk, Marks, Members, People, Statuses, the statements on each table; Casts,
--- Creation, Effects, Known, what statements do; Limits, what the numbers of batches keep.
+-- Creation, Effects, Known, what statements do; Limits, what the numbers of batches keep; Same, that `==` of rows is equality.
 pub mod Answers
 pub mod Batches
 pub mod Casts
@@ -26,6 +27,8 @@ pub mod Limits
 pub mod Marks
 pub mod Members
 pub mod People
+pub mod Same
+pub mod Shown
 pub mod Standing
 pub mod Statuses
 pub mod Tables

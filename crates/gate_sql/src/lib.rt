@@ -1,15 +1,17 @@
-//! The tables of the merge bot's records in a SQLite database: one transaction writes all rows and an answer, or nothing. And
-//! the law by which the rows of a state stand for that state alone.
+//! The records of the merge bot in a SQLite database: a book over eight tables. One transaction writes all rows and an answer,
+//! or nothing; and by a law the rows of a state stand for that state alone.
 #![tactic(auto)]
 
+mod book;
 mod laws;
+mod reading;
 mod row;
 mod rows;
+mod sorting;
 mod tables;
-#[cfg(test)]
-mod tests;
 
+pub use book::{Refused, SqlBook};
 pub use laws::law_of_rows;
+pub use reading::gate_of;
 pub use row::{BatchRow, ChangeRow, DeskRow, MarkRow, MemberRow, PersonRow, Rows, StatusRow};
 pub use rows::rows_of;
-pub use tables::{Refused, Tables, TablesFault};

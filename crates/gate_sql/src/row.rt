@@ -1,7 +1,7 @@
 use gate_text::{List, Text};
 
 /// The one row of the table `desk`.
-#[derive(Debug, Drop, PartialEq, Eq)]
+#[derive(Debug, Drop, PartialEq, Eq, PartialOrd, Ord)]
 pub struct DeskRow {
     pub one: i64,
     pub version: i64,
@@ -14,14 +14,14 @@ pub struct DeskRow {
 }
 
 /// A row of the table `people`.
-#[derive(Debug, Drop, PartialEq, Eq)]
+#[derive(Debug, Drop, PartialEq, Eq, PartialOrd, Ord)]
 pub struct PersonRow {
     pub name: Text,
     pub role: i64,
 }
 
 /// A row of the table `changes`.
-#[derive(Debug, Drop, PartialEq, Eq)]
+#[derive(Debug, Drop, PartialEq, Eq, PartialOrd, Ord)]
 pub struct ChangeRow {
     pub number: i64,
     pub author: Text,
@@ -33,7 +33,7 @@ pub struct ChangeRow {
 }
 
 /// A row of the table `marks`.
-#[derive(Debug, Drop, PartialEq, Eq)]
+#[derive(Debug, Drop, PartialEq, Eq, PartialOrd, Ord)]
 pub struct MarkRow {
     pub change_no: i64,
     pub kind: i64,
@@ -42,7 +42,7 @@ pub struct MarkRow {
 }
 
 /// A row of the table `batches`.
-#[derive(Debug, Drop, PartialEq, Eq)]
+#[derive(Debug, Drop, PartialEq, Eq, PartialOrd, Ord)]
 pub struct BatchRow {
     pub number: i64,
     pub branch: i64,
@@ -54,7 +54,7 @@ pub struct BatchRow {
 }
 
 /// A row of the table `members`.
-#[derive(Debug, Drop, PartialEq, Eq)]
+#[derive(Debug, Drop, PartialEq, Eq, PartialOrd, Ord)]
 pub struct MemberRow {
     pub batch: i64,
     pub place: i64,
@@ -62,7 +62,7 @@ pub struct MemberRow {
 }
 
 /// A row of the table `statuses`.
-#[derive(Debug, Drop, PartialEq, Eq)]
+#[derive(Debug, Drop, PartialEq, Eq, PartialOrd, Ord)]
 pub struct StatusRow {
     pub batch: i64,
     pub name: Text,

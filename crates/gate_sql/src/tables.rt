@@ -14,7 +14,7 @@ mod statement;
 mod statuses;
 mod write;
 
-ghost use Rattle.std.specs.Prelude.{◌≡◌, ◌≢◌, [], None, false, IfOk, IfErr, IsErrAnd, OnOk, OnErr};
+ghost use Rattle.std.specs.Prelude.{◌≡◌, [], None, false, IfOk, IfErr, OnOk, OnErr};
 ghost use Rattle.std.specs.FinMap.{empty, get, insert};
 ghost use Rattle.gate_sql.specs.Contents.{AreSame};
 ghost use Rattle.gate_sql.specs.Database.{schema_of};
@@ -25,22 +25,23 @@ use crate::row::Rows;
 use crate::tables::answers::find_answer;
 use crate::tables::read::read_rows;
 use crate::tables::write::{make, write_all};
-pub use fault::TablesFault;
+pub(crate) use fault::TablesFault;
 use gate_text::Text;
 use sqlite::{Alter, Connection};
 use std::alloc::Global;
 use std::marker::Model;
+pub(crate) use write::is_blank;
 
-/// A connection that was refused, with the reason.
+// A connection in which no tables were made, with the reason.
 #[derive(Drop)]
-pub struct Refused<S: Alter> {
-    pub fault: TablesFault,
-    pub connection: Connection<S>,
+pub(crate) struct NotMade<S: Alter> {
+    pub(crate) fault: TablesFault,
+    pub(crate) connection: Connection<S>,
 }
 
-/// The tables of the records in a database. A contract sees them as what their connection holds.
+// The tables of the records in a database. A contract sees them as what their connection holds.
 #[derive(Drop)]
-pub struct Tables<S: Alter> {
+pub(crate) struct Tables<S: Alter> {
     connection: Connection<S>,
 }
 
@@ -58,18 +59,14 @@ impl<S: Alter> Model for Tables<S> {
 }
 
 impl<S: Alter> Tables<S> {
-    /// Makes the tables in a database that has no table, index or view, with these rows and no answer. If it is refused, the
-    /// database is as it was, and the connection is handed back. `Store` if the database has a table, an index or a view, or
-    /// if two rows of a table have one key, or if the database fails. `Memory` if there is no memory for it.
-    pub fn new(
-        _alloc: Global,
-        mut connection: Connection<S>,
-        first: &Rows,
-    ) -> Result<Tables<S>, Refused<S>>
-        requires { connection.in_transaction ≡ false }
+    // Makes the tables with these rows and no answer, in a database that has no table, index or view. If it is refused, the
+    // database is as it was, and the connection is handed back. `Store` if two rows of a table have one key, or if the database
+    // fails, and `Memory` if there is no memory for it.
+    pub(crate) fn new(mut connection: Connection<S>, first: &Rows) -> Result<Tables<S>, NotMade<S>>
+        requires mode { connection.in_transaction ≡ false }
+        requires blank { (state S.Store connection).now.schema ≡ schema_of [] }
         ensures rows { IfOk result (λ tables. is_sound S.Store tables → AreSame (rows_in S.Store tables) first.now) }
         ensures answers { IfOk result (λ tables. is_sound S.Store tables → answers_in S.Store tables ≡ empty) }
-        ensures taken { (state S.Store connection).now.schema ≢ schema_of [] → IsErrAnd result (λ refused. refused.fault ≡ TablesFault.Store) }
         ensures same { IfErr result (λ refused. is_sound S.Store refused.connection → (state S.Store refused.connection).now ≡ (state S.Store connection).now) }
         ensures mode { IfErr result (λ refused. refused.connection.in_transaction ≡ false) }
         ensures was { IfOk result (λ tables. is_sound S.Store tables → is_sound S.Store connection) }
@@ -77,28 +74,28 @@ impl<S: Alter> Tables<S> {
     {
         // That no transaction is open says that the database is as it was committed.
         if !connection.is_autocommit() {
-            return Err(Refused {
+            return Err(NotMade {
                 fault: TablesFault::Store,
                 connection,
             });
         }
         match make(&mut connection, first) {
             Ok(()) => Ok(Tables { connection }),
-            Err(fault) => Err(Refused { fault, connection }),
+            Err(fault) => Err(NotMade { fault, connection }),
         }
     }
 
-    /// Hands back the connection as it is.
-    pub fn into_connection(self) -> Connection<S>
+    // Hands back the connection as it is.
+    pub(crate) fn into_connection(self) -> Connection<S>
         ensures value { result ≡ self }
     {
         let Tables { connection } = self;
         connection
     }
 
-    /// The rows of all tables but `answers`. It changes nothing. `Store` if the database fails, or if a row has values of
-    /// other kinds, and `Memory` if there is no memory for it.
-    pub fn read(&mut self, alloc: Global) -> Result<Rows, TablesFault>
+    // The rows of all tables but `answers`. It changes nothing. `Store` if the database fails, or if a row has values of
+    // other kinds, and `Memory` if there is no memory for it.
+    pub(crate) fn read(&mut self, alloc: Global) -> Result<Rows, TablesFault>
         ensures rows { is_sound S.Store self.new → IfOk result (AreSame (rows_in S.Store self.old)) }
         ensures same { is_sound S.Store self.new → (rows_in S.Store self.new ≡ rows_in S.Store self.old) × (answers_in S.Store self.new ≡ answers_in S.Store self.old) }
         ensures was { is_sound S.Store self.new → is_sound S.Store self.old }
@@ -106,9 +103,9 @@ impl<S: Alter> Tables<S> {
         read_rows(alloc, &mut self.connection)
     }
 
-    /// The answer under an identifier, if there is one. It changes nothing. `Store` if the database fails, and `Memory` if
-    /// there is no memory for it.
-    pub fn answer(&mut self, _alloc: Global, id: &str) -> Result<Option<Text>, TablesFault>
+    // The answer under an identifier, if there is one. It changes nothing. `Store` if the database fails, and `Memory` if
+    // there is no memory for it.
+    pub(crate) fn answer(&mut self, id: &str) -> Result<Option<Text>, TablesFault>
         ensures answer { is_sound S.Store self.new → IfOk result (λ answer. answer ≡ get (answers_in S.Store self.old) id.now) }
         ensures same { is_sound S.Store self.new → (rows_in S.Store self.new ≡ rows_in S.Store self.old) × (answers_in S.Store self.new ≡ answers_in S.Store self.old) }
         ensures was { is_sound S.Store self.new → is_sound S.Store self.old }
@@ -116,16 +113,10 @@ impl<S: Alter> Tables<S> {
         find_answer(&mut self.connection, id)
     }
 
-    /// Puts these rows in place of all rows but the answers, and adds an answer under an identifier that has none, both or
-    /// neither: where it is refused, nothing changed. `Store` if two rows of a table have one key, or if the database fails,
-    /// and `Memory` if there is no memory for it.
-    pub fn write(
-        &mut self,
-        _alloc: Global,
-        rows: &Rows,
-        id: &str,
-        body: &str,
-    ) -> Result<(), TablesFault>
+    // Puts these rows in place of all rows but the answers, and adds an answer under an identifier that has none, both or
+    // neither: if it is refused, nothing changed. `Store` if two rows of a table have one key, or if the database fails, and
+    // `Memory` if there is no memory for it.
+    pub(crate) fn write(&mut self, rows: &Rows, id: &str, body: &str) -> Result<(), TablesFault>
         requires { is_sound S.Store self.old → get (answers_in S.Store self.old) id.now ≡ None }
         ensures rows { is_sound S.Store self.new → OnOk result (AreSame (rows_in S.Store self.new) rows.now) }
         ensures answers { is_sound S.Store self.new → OnOk result (answers_in S.Store self.new ≡ insert (answers_in S.Store self.old) id.now body.now) }

@@ -4,10 +4,12 @@
 --     Acts       the acts of an event
 --     Answers    the text of an answer
 --     Limits     which answers there are
+--     Reading    the answer of a text
 -- Found is for private clauses: what is looked up in a JSON value.
 pub mod Acts
 pub mod Answers
 pub mod Found
 pub mod Headline
 pub mod Limits
+pub mod Reading
 pub mod Run

@@ -61,6 +61,17 @@ fn stepped(rt: &impl Abort, alloc: Global, gate: Gate, line: &str, words: &str) 
     gate
 }
 
+// A gate that stands where these lines have led from there, whatever they are answered.
+pub(crate) fn played(rt: &impl Abort, alloc: Global, lines: &str) -> Gate {
+    let mut gate = started(rt, alloc);
+    for line in lines.lines() {
+        let act = read_act(rt, alloc, line);
+        let (next, _) = gate.act(alloc, &act).expect(rt, "memory");
+        gate = next;
+    }
+    gate
+}
+
 // A gate that stands where the lines of `START` have led.
 fn started(rt: &impl Abort, alloc: Global) -> Gate {
     let mut gate = Gate::new(alloc);
@@ -107,7 +118,7 @@ fn queue_words(rt: &impl Abort, alloc: Global, gate: &Gate) -> String {
 
 // The gate shows what a text tells: of `desk eve` the words of `desk_words`, of `queue` all batches, and of a number the
 // change.
-fn check_shown(rt: &impl Abort, alloc: Global, gate: &Gate, text: &str) {
+pub(crate) fn check_shown(rt: &impl Abort, alloc: Global, gate: &Gate, text: &str) {
     let (word, rest) = cut(text);
     if word == "queue" {
         let found = queue_words(rt, alloc, gate);

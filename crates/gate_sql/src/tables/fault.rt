@@ -1,17 +1,16 @@
 ghost use Rattle.std.specs.Prelude.{◌≡◌};
 ghost use Rattle.gate_sql.specs.Faults.{fault_of};
 
+use gate_queue::Fault;
 use sqlite::{Error, ErrorCode};
 use std::alloc::AllocError;
 
-/// Why a call on the tables was refused. It then changed nothing.
-#[derive(Clone, Copy, Debug, PartialEq, Eq, thiserror::Error)]
-pub enum TablesFault {
-    /// There was no memory for what was asked.
-    #[error("Memory")]
+// Why a call on the tables was refused. It then changed nothing.
+#[derive(Clone, Copy, Debug, Drop, PartialEq, Eq)]
+pub(crate) enum TablesFault {
+    // There was no memory for what was asked.
     Memory,
-    /// The database failed, or refused what was asked.
-    #[error("Store")]
+    // The database failed, or refused what was asked.
     Store,
 }
 
@@ -33,5 +32,18 @@ impl From<AllocError> for TablesFault {
 
     fn from(_error: AllocError) -> TablesFault {
         TablesFault::Memory
+    }
+}
+
+impl From<TablesFault> for Fault {
+    ghost use Rattle.gate_sql.specs.Faults.{told_as};
+
+    ghost from_gives = { λ fault told. told ≡ told_as fault };
+
+    fn from(fault: TablesFault) -> Fault {
+        match fault {
+            TablesFault::Memory => Fault::Memory,
+            TablesFault::Store => Fault::Store,
+        }
     }
 }

@@ -1,7 +1,6 @@
-ghost use Rattle.std.specs.Prelude.{◌≡◌, false, IsTrue, OnOk, OnErr};
+ghost use Rattle.std.specs.Prelude.{◌≡◌, [], false, IsTrue, OnOk, OnErr};
 ghost use Rattle.gate_sql.specs.Database.{schema_of};
 ghost use Rattle.gate_sql.specs.Effects.{IsReady, Leaves, Made, Wrote};
-ghost use Rattle.std.specs.Prelude.{[], Err};
 ghost use Rattle.sqlite.specs.Held.{state};
 ghost use Rattle.sqlite.specs.State.{HasCleanDisk};
 
@@ -33,8 +32,8 @@ pub(crate) fn write_all<S: Alter>(
     Ok(tx.commit()?)
 }
 
-// Whether there is no table, index or view.
-fn is_blank(schema: &Schema) -> bool
+/// Whether there is no table, index or view.
+pub(crate) fn is_blank(schema: &Schema) -> bool
     ensures { IsTrue result → schema.now ≡ schema_of [] }
 {
     schema.tables.as_slice().is_empty()
@@ -42,7 +41,8 @@ fn is_blank(schema: &Schema) -> bool
         && schema.views.as_slice().is_empty()
 }
 
-fn make_tables<S: Alter>(conn: &mut Connection<S>, rows: &Rows) -> Result<(), TablesFault>
+// Makes the tables with these rows, or changes nothing.
+pub(crate) fn make<S: Alter>(conn: &mut Connection<S>, rows: &Rows) -> Result<(), TablesFault>
     requires mode { conn.old.in_transaction ≡ false }
     requires blank { (state S.Store conn.old).now.schema ≡ schema_of [] }
     ensures mode { conn.new.in_transaction ≡ false }
@@ -55,20 +55,4 @@ fn make_tables<S: Alter>(conn: &mut Connection<S>, rows: &Rows) -> Result<(), Ta
     create(&mut tx)?;
     fill(&mut tx, rows)?;
     Ok(tx.commit()?)
-}
-
-// Makes the tables with these rows, or changes nothing. A database that has any table, index or view is refused.
-pub(crate) fn make<S: Alter>(conn: &mut Connection<S>, rows: &Rows) -> Result<(), TablesFault>
-    requires mode { conn.old.in_transaction ≡ false }
-    ensures mode { conn.new.in_transaction ≡ false }
-    ensures made { HasCleanDisk (state S.Store conn.new) → OnOk result (Made rows.now (state S.Store conn.new)) }
-    ensures blank { ¬ ((state S.Store conn.old).now.schema ≡ schema_of []) → result ≡ Err TablesFault.Store }
-    ensures left { HasCleanDisk (state S.Store conn.new) → OnErr result (Leaves (state S.Store conn.old) (state S.Store conn.new)) }
-    ensures was { HasCleanDisk (state S.Store conn.new) → IsTrue (state S.Store conn.new).is_open → IsTrue (state S.Store conn.old).is_open }
-    ensures clean { HasCleanDisk (state S.Store conn.new) → HasCleanDisk (state S.Store conn.old) }
-{
-    if !is_blank(conn.schema()) {
-        return Err(TablesFault::Store);
-    }
-    make_tables(conn, rows)
 }

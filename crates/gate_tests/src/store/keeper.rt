@@ -1,4 +1,5 @@
 use crate::readers::{check_that, check_words, commit, cut, name};
+use crate::store::records::sql_book;
 use gate_queue::{Fault, Gate};
 use gate_rules::Role;
 use gate_store::{Book, Delivery, Event, Keeper, PlainBook, answer_text};
@@ -8,7 +9,7 @@ use std::process::Abort;
 
 const DONE: &str = "[{\"orders\":[],\"verdict\":\"done\"}]";
 
-fn identifier(rt: &impl Abort, alloc: Global, text: &str) -> DeliveryId {
+pub(super) fn identifier(rt: &impl Abort, alloc: Global, text: &str) -> DeliveryId {
     DeliveryId::read(alloc, text).expect(rt, "an identifier")
 }
 
@@ -51,7 +52,7 @@ fn base_of<'a>(rt: &impl Abort, gate: &'a Gate) -> &'a str {
 }
 
 // What a delivery is answered, or its fault.
-fn answered(rt: &impl Abort, alloc: Global, keeper: &mut Keeper<PlainBook>, line: &str) -> String {
+fn answered<B: Book>(rt: &impl Abort, alloc: Global, keeper: &mut Keeper<B>, line: &str) -> String {
     let delivery = delivery(rt, alloc, line);
     match keeper.deliver(alloc, &delivery) {
         Ok(answer) => answer_text(alloc, &answer).expect(rt, "memory"),
@@ -59,10 +60,10 @@ fn answered(rt: &impl Abort, alloc: Global, keeper: &mut Keeper<PlainBook>, line
     }
 }
 
-fn check_answer(
+fn check_answer<B: Book>(
     rt: &impl Abort,
     alloc: Global,
-    keeper: &mut Keeper<PlainBook>,
+    keeper: &mut Keeper<B>,
     line: &str,
     due: &str,
 ) {
@@ -71,10 +72,10 @@ fn check_answer(
 }
 
 // A delivery is answered done, and leads to this base.
-fn check_base(
+fn check_base<B: Book>(
     rt: &impl Abort,
     alloc: Global,
-    keeper: &mut Keeper<PlainBook>,
+    keeper: &mut Keeper<B>,
     line: &str,
     base: &str,
 ) {
@@ -84,7 +85,7 @@ fn check_base(
 }
 
 // What a book keeps under an identifier.
-fn kept(rt: &impl Abort, alloc: Global, book: &mut PlainBook, id: &str) -> String {
+pub(super) fn kept<B: Book>(rt: &impl Abort, alloc: Global, book: &mut B, id: &str) -> String {
     let id = identifier(rt, alloc, id);
     match book.kept(alloc, &id).expect(rt, "memory") {
         Some(answer) => answer_text(alloc, &answer).expect(rt, "memory"),
@@ -92,35 +93,45 @@ fn kept(rt: &impl Abort, alloc: Global, book: &mut PlainBook, id: &str) -> Strin
     }
 }
 
+// A book without records.
+fn plain_book(alloc: Global) -> PlainBook {
+    PlainBook::new(alloc, Gate::new(alloc))
+}
+
+fn check_repeats<B: Book + Drop>(rt: &impl Abort, alloc: Global, book: B) {
+    let mut keeper = Keeper::new(book);
+    check_base(rt, alloc, &mut keeper, "d1 base 0", "0");
+    check_base(rt, alloc, &mut keeper, "d1 base 1", "0");
+    check_base(rt, alloc, &mut keeper, "d2 base 1", "1");
+    check_base(rt, alloc, &mut keeper, "d1 role alice", "1");
+}
+
 #[test]
 fn repeats(rt: HostRuntime) {
     let alloc = rt.alloc();
-    let mut keeper = Keeper::new(PlainBook::new(alloc, Gate::new(alloc)));
-    check_base(&rt, alloc, &mut keeper, "d1 base 0", "0");
-    check_base(&rt, alloc, &mut keeper, "d1 base 1", "0");
-    check_base(&rt, alloc, &mut keeper, "d2 base 1", "1");
-    check_base(&rt, alloc, &mut keeper, "d1 role alice", "1");
+    check_repeats(&rt, alloc, plain_book(alloc));
+    check_repeats(&rt, alloc, sql_book(&rt, alloc));
 }
 
 // The book goes out and into another keeper, which answers the same.
+fn check_handed_on<B: Book + Drop>(rt: &impl Abort, alloc: Global, book: B) {
+    let mut keeper = Keeper::new(book);
+    check_base(rt, alloc, &mut keeper, "d1 base 0", "0");
+    let mut book = keeper.into_book();
+    check_words(rt, "d1", kept(rt, alloc, &mut book, "d1").as_str(), DONE);
+    check_words(rt, "d9", kept(rt, alloc, &mut book, "d9").as_str(), "none");
+    let gate = book.load(alloc).expect(rt, "memory");
+    check_words(rt, "load", base_of(rt, &gate), "0");
+    let mut keeper = Keeper::new(book);
+    check_base(rt, alloc, &mut keeper, "d1 base 1", "0");
+    check_base(rt, alloc, &mut keeper, "d9 base 1", "1");
+}
+
 #[test]
 fn a_book_that_is_handed_on(rt: HostRuntime) {
     let alloc = rt.alloc();
-    let mut keeper = Keeper::new(PlainBook::new(alloc, Gate::new(alloc)));
-    check_base(&rt, alloc, &mut keeper, "d1 base 0", "0");
-    let mut book = keeper.into_book();
-    check_words(&rt, "d1", kept(&rt, alloc, &mut book, "d1").as_str(), DONE);
-    check_words(
-        &rt,
-        "d9",
-        kept(&rt, alloc, &mut book, "d9").as_str(),
-        "none",
-    );
-    let gate = book.load(alloc).expect(&rt, "memory");
-    check_words(&rt, "load", base_of(&rt, &gate), "0");
-    let mut keeper = Keeper::new(book);
-    check_base(&rt, alloc, &mut keeper, "d1 base 1", "0");
-    check_base(&rt, alloc, &mut keeper, "d9 base 1", "1");
+    check_handed_on(&rt, alloc, plain_book(alloc));
+    check_handed_on(&rt, alloc, sql_book(&rt, alloc));
 }
 
 // The numbers are used up: each act is `Full`, and what has no act, or has its answer, is not.
@@ -150,8 +161,15 @@ fn deliveries(rt: &impl Abort, alloc: Global, lines: &str) -> Vec<Delivery> {
 }
 
 // The fault of a run, and how many answers it gives.
-fn check_run(rt: &impl Abort, alloc: Global, gate: Gate, lines: &str, count: usize, due: &str) {
-    let mut keeper = Keeper::new(PlainBook::new(alloc, gate));
+fn check_run_over<B: Book + Drop>(
+    rt: &impl Abort,
+    alloc: Global,
+    book: B,
+    lines: &str,
+    count: usize,
+    due: &str,
+) {
+    let mut keeper = Keeper::new(book);
     let deliveries = deliveries(rt, alloc, lines);
     let (answers, fault) = keeper.run(alloc, deliveries.as_slice());
     check_that(rt, lines, answers.len() == count);
@@ -163,12 +181,17 @@ fn check_run(rt: &impl Abort, alloc: Global, gate: Gate, lines: &str, count: usi
     check_words(rt, lines, found, due);
 }
 
+fn check_run(rt: &impl Abort, alloc: Global, gate: Gate, lines: &str, count: usize, due: &str) {
+    check_run_over(rt, alloc, PlainBook::new(alloc, gate), lines, count, due);
+}
+
 #[test]
 fn runs(rt: HostRuntime) {
     let alloc = rt.alloc();
     let facts = "d1 base 0\nd2 role alice";
     check_run(&rt, alloc, Gate::new(alloc), "", 0, "none");
     check_run(&rt, alloc, Gate::new(alloc), facts, 2, "none");
+    check_run_over(&rt, alloc, sql_book(&rt, alloc), facts, 2, "none");
     let gate = Gate::starting_at(alloc, 8_999_999_999_999_996);
     check_run(&rt, alloc, gate, facts, 2, "none");
     let gate = Gate::starting_at(alloc, 8_999_999_999_999_997);

@@ -5,7 +5,7 @@ use Rattle.gate_sql.proofs.Steps.{keeps_then}
 use Rattle.gate_sql.specs.Effects.{Leaves}
 use Rattle.sqlite.specs.Held.{state}
 use Rattle.sqlite.specs.State.{HasCleanDisk}
-use Rattle.gate_sql.proofs.tables.write.make_tables.Goals as goal
+use Rattle.gate_sql.proofs.tables.write.make.Goals as goal
 
 pub returns-in_err-commit-clause-left : goal.returns-in_err-commit-clause-left
 returns-in_err-commit-clause-left g c clean =

@@ -1,0 +1,54 @@
+ghost use Rattle.std.specs.Prelude.{◌≡◌, ℕ, List, ◌⊎◌, IfOk, IfErr, OnOk};
+ghost use Rattle.std.specs.Io.KnownBytes.{Consumes, IsAtEnd};
+ghost use Rattle.gate_bot.specs.Lines.{HasNotBegun, IsServed, IsWithinLimit, MayEnd, no_records};
+ghost use Rattle.gate_sql.specs.Shown.{shown};
+ghost use Rattle.gate_store.specs.Run.{IsOfBooks, Records};
+ghost use Rattle.sqlite.specs.Steps.{over_memory};
+
+use crate::lines::{HookFault, serve_lines};
+use gate_queue::Fault;
+use gate_sql::SqlBook;
+use gate_store::Keeper;
+use sqlite::{Connection, MemStore};
+use std::alloc::Global;
+use std::io::{Read, Write};
+
+// A book without answers, of the empty state, in a new database in memory.
+fn book_in_memory(alloc: Global) -> Result<SqlBook<MemStore>, Fault>
+    ensures value { IfOk result (λ book. shown over_memory book ≡ no_records) }
+    ensures fault { IfErr result IsOfBooks }
+{
+    let connection = Connection::open_in_memory(alloc)?;
+    match SqlBook::new(alloc, connection) {
+        Ok(book) => Ok(book),
+        Err(refused) => Err(refused.fault),
+    }
+}
+
+/// Serves the lines of a reader on a writer, as `serve_lines` does, over a keeper whose book is in a new database in memory. A
+/// database in memory needs no premise, so what is said holds without one. If the book can't be made, nothing is read or
+/// written, and the fault is `Gate(Memory)` or `Gate(Store)`.
+pub fn serve_anew<R: Read, W: Write>(
+    alloc: Global,
+    reader: &mut R,
+    writer: &mut W,
+) -> Result<u64, HookFault>
+    // The lines are served from the empty state on, without answers that are kept.
+    ensures served { HasNotBegun result (R.remaining reader.old) (R.remaining reader.new) (W.contents writer.old) (W.contents writer.new)
+        ⊎ ((input : List ℕ) × Consumes (R.remaining reader.old) (R.remaining reader.new) input
+        × IsWithinLimit result input
+        × ((new : Records) × IsServed result no_records input (R.remaining reader.new) new (W.contents writer.old) (W.contents writer.new))) }
+
+    // It succeeds at the end of the input alone.
+    ensures end { OnOk result (IsAtEnd (R.remaining reader.new)) }
+
+    // A fault of the gate is one that a keeper over the database may answer.
+    ensures cause { IfErr result (MayEnd IsOfBooks) }
+{
+    let book = match book_in_memory(alloc) {
+        Ok(book) => book,
+        Err(fault) => return Err(HookFault::Gate(fault)),
+    };
+    let mut keeper = Keeper::new(book);
+    serve_lines(alloc, &mut keeper, reader, writer)
+}

@@ -1,0 +1,107 @@
+use crate::reading::words::{change_no, commit, label, name, priority};
+use crate::row::{ChangeRow, MarkRow, Rows};
+use crate::tables::TablesFault;
+use gate_rules::{Change, Desk, Phase, Repeat};
+use gate_text::{LabelSet, NameSet, Names, Text};
+use std::alloc::Global;
+
+/// Puts the changes and their marks on the desk.
+pub(crate) fn put_changes(alloc: Global, desk: &mut Desk, rows: &Rows) -> Result<(), TablesFault> {
+    for row in rows.changes.as_slice() {
+        desk.keep_change(change_no(row.number)?, change_in(alloc, row)?)?;
+    }
+    for mark in rows.marks.as_slice() {
+        put_mark(alloc, desk, mark)?;
+    }
+    Ok(())
+}
+
+// The change of a row, without its marks.
+fn change_in(alloc: Global, row: &ChangeRow) -> Result<Change, TablesFault> {
+    Ok(Change {
+        author: name(alloc, &row.author)?,
+        head: commit(&row.head)?,
+        phase: phase_in(row.phase)?,
+        priority: priority(row.priority)?,
+        labels: LabelSet::new(alloc),
+        reviews: NameSet::new(alloc),
+        delegates: NameSet::new(alloc),
+        approved: approvers_in(alloc, row.approved),
+        trying: false,
+        landing: false,
+        last: last_in(alloc, row.last_command),
+    })
+}
+
+fn phase_in(number: i64) -> Result<Phase, TablesFault> {
+    match number {
+        1 => Ok(Phase::Opened),
+        2 => Ok(Phase::Closed),
+        3 => Ok(Phase::Landed),
+        _ => Err(TablesFault::Store),
+    }
+}
+
+// The approvers of a change that is approved. Their names are marks.
+fn approvers_in(alloc: Global, approved: i64) -> Option<Names> {
+    if approved == 0 {
+        return None;
+    }
+    Some(Names::from(Vec::new(alloc)))
+}
+
+// The last command. The names of an `r=` are marks.
+fn last_in(alloc: Global, number: i64) -> Option<Repeat> {
+    match number {
+        1 => Some(Repeat::Approve),
+        2 => Some(Repeat::ApproveFor(Names::from(Vec::new(alloc)))),
+        3 => Some(Repeat::Try),
+        _ => None,
+    }
+}
+
+// Gives a change its mark. The change 0 stands for the settings.
+fn put_mark(alloc: Global, desk: &mut Desk, mark: &MarkRow) -> Result<(), TablesFault> {
+    if mark.change_no == 0 {
+        return Ok(());
+    }
+    let number = change_no(mark.change_no)?;
+    match desk.alter(
+        number,
+        |change| put_word(alloc, change, mark.kind, &mark.word),
+    ) {
+        Some(done) => done,
+        None => Err(TablesFault::Store),
+    }
+}
+
+fn put_word(alloc: Global, change: &mut Change, kind: i64, word: &Text) -> Result<(), TablesFault> {
+    match kind {
+        1 => change.labels.insert(label(alloc, word)?)?,
+        2 => change.reviews.insert(name(alloc, word)?)?,
+        3 => change.delegates.insert(name(alloc, word)?)?,
+        4 => put_name(alloc, approvers_of(change), word)?,
+        5 => put_name(alloc, names_of(change), word)?,
+        _ => return Err(TablesFault::Store),
+    }
+    Ok(())
+}
+
+fn approvers_of(change: &mut Change) -> Option<&mut Names> {
+    change.approved.as_mut()
+}
+
+fn names_of(change: &mut Change) -> Option<&mut Names> {
+    match &mut change.last {
+        Some(Repeat::ApproveFor(names)) => Some(names),
+        _ => None,
+    }
+}
+
+fn put_name(alloc: Global, names: Option<&mut Names>, word: &Text) -> Result<(), TablesFault> {
+    let Some(names) = names else {
+        return Err(TablesFault::Store);
+    };
+    names.push(name(alloc, word)?)?;
+    Ok(())
+}

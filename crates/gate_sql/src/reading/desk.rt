@@ -1,0 +1,57 @@
+use crate::reading::changes::put_changes;
+use crate::reading::words::{commit, context, label, name, natural, small_natural};
+use crate::row::{DeskRow, MarkRow, PersonRow, Rows};
+use crate::tables::TablesFault;
+use gate_rules::{Desk, Role};
+use gate_text::{Contexts, Labels, Settings};
+use std::alloc::Global;
+
+/// The desk of these rows, whose changes are neither tried nor landing yet.
+pub(crate) fn desk_in(alloc: Global, rows: &Rows, row: &DeskRow) -> Result<Desk, TablesFault> {
+    let mut desk = Desk::new(alloc);
+    desk.set_clock(natural(row.clock)?);
+    if !row.base.as_str().is_empty() {
+        desk.set_base(commit(&row.base)?);
+    }
+    if row.timeout_sec != 0 {
+        desk.set_settings(settings_in(alloc, row, rows.marks.as_slice())?);
+    }
+    put_people(alloc, &mut desk, rows.people.as_slice())?;
+    put_changes(alloc, &mut desk, rows)?;
+    Ok(desk)
+}
+
+// The settings, whose marks are those of the change 0.
+fn settings_in(alloc: Global, row: &DeskRow, marks: &[MarkRow]) -> Result<Settings, TablesFault> {
+    let mut status = Contexts::from(Vec::new(alloc));
+    let mut labels = Labels::from(Vec::new(alloc));
+    for mark in marks {
+        match (mark.change_no, mark.kind) {
+            (0, 6) => status.push(context(alloc, &mark.word)?)?,
+            (0, 7) => labels.push(label(alloc, &mark.word)?)?,
+            _ => (),
+        }
+    }
+    let timeout = small_natural(row.timeout_sec)?;
+    let approvals = small_natural(row.required_approvals)?;
+    let size = match small_natural(row.max_batch_size)? {
+        0 => None,
+        size => Some(size),
+    };
+    Settings::new(status, timeout, labels, approvals, size).ok_or(TablesFault::Store)
+}
+
+fn put_people(alloc: Global, desk: &mut Desk, rows: &[PersonRow]) -> Result<(), TablesFault> {
+    for row in rows {
+        desk.set_role(alloc, &name(alloc, &row.name)?, role_in(row.role)?)?;
+    }
+    Ok(())
+}
+
+fn role_in(number: i64) -> Result<Role, TablesFault> {
+    match number {
+        1 => Ok(Role::Member),
+        2 => Ok(Role::Reviewer),
+        _ => Err(TablesFault::Store),
+    }
+}

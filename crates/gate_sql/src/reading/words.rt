@@ -1,0 +1,49 @@
+use crate::tables::TablesFault;
+use gate_text::{ChangeNo, Commit, Context, Label, Name, Text, TextFault, unless_bad};
+use std::alloc::Global;
+
+// A small text that was read. What is none stands in no row.
+fn small<T>(read: Result<T, TextFault>) -> Result<T, TablesFault> {
+    unless_bad(read)?.ok_or(TablesFault::Store)
+}
+
+pub(crate) fn name(alloc: Global, text: &Text) -> Result<Name, TablesFault> {
+    small(Name::read(alloc, text.as_str()))
+}
+
+pub(crate) fn label(alloc: Global, text: &Text) -> Result<Label, TablesFault> {
+    small(Label::read(alloc, text.as_str()))
+}
+
+pub(crate) fn context(alloc: Global, text: &Text) -> Result<Context, TablesFault> {
+    small(Context::read(alloc, text.as_str()))
+}
+
+pub(crate) fn commit(text: &Text) -> Result<Commit, TablesFault> {
+    small(Commit::read(text.as_str()))
+}
+
+pub(crate) fn natural(number: i64) -> Result<u64, TablesFault> {
+    match u64::try_from(number) {
+        Ok(number) => Ok(number),
+        Err(_) => Err(TablesFault::Store),
+    }
+}
+
+pub(crate) fn small_natural(number: i64) -> Result<u32, TablesFault> {
+    match u32::try_from(number) {
+        Ok(number) => Ok(number),
+        Err(_) => Err(TablesFault::Store),
+    }
+}
+
+pub(crate) fn priority(number: i64) -> Result<i32, TablesFault> {
+    match i32::try_from(number) {
+        Ok(number) => Ok(number),
+        Err(_) => Err(TablesFault::Store),
+    }
+}
+
+pub(crate) fn change_no(number: i64) -> Result<ChangeNo, TablesFault> {
+    ChangeNo::from_number(natural(number)?).ok_or(TablesFault::Store)
+}
