@@ -1,11 +1,5 @@
 -- What the contracts of this crate cite. For a reader, in this order:
---     Deliveries   the delivery that a text is, or why it is none
---     Errors       the text of an error
---     Lines        the lines of a text, and what is written for them, by the run and the answers of gate_store
+--     Program      the records with which the program begins
 --     Outcome      the exit status, and the line on standard error
-pub mod Deliveries
-pub mod Errors
-pub mod Lines
 pub mod Outcome
-pub mod Sending
-pub mod Serving
+pub mod Program

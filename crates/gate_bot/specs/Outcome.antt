@@ -1,7 +1,7 @@
 -- HOW THE PROGRAM ENDS: its exit status, and the line on standard error after a fault.
 use Rattle.std.specs.Prelude.{ℕ, List, ◌++◌, Result, Ok, Err, codes}
-use Rattle.gate_bot.specs.declared.lines.HookFault.{HookFault}
-use Rattle.gate_bot.specs.declared.lines.HookFault.TheVariants.{Gate, Read, Write, TooMuch}
+use Rattle.gate_hook.specs.declared.fault.HookFault.{HookFault}
+use Rattle.gate_hook.specs.declared.fault.HookFault.TheVariants.{Gate, Read, Write, TooMuch}
 use Rattle.gate_queue.specs.declared.fault.Fault.TheVariants.{Memory, Store, Full}
 
 abbrev pub status_of : Result ℕ HookFault → ℕ

@@ -1,16 +1,8 @@
 //! The program `gate`: the merge bot, from the bytes that come in to the bytes that go out.
 #![tactic(auto)]
 
-mod errors;
-mod field;
-mod line;
-mod lines;
 mod outcome;
-mod reading;
-mod sending;
 mod serving;
-#[cfg(test)]
-mod tests;
 
 use crate::outcome::{complaint, status};
 use crate::serving::serve_anew;

@@ -1,7 +1,7 @@
 ghost use Rattle.std.specs.Prelude.{◌≡◌};
 ghost use Rattle.gate_bot.specs.Outcome.{status_of, complaint_of};
 
-use crate::lines::HookFault;
+use gate_hook::HookFault;
 use gate_queue::Fault;
 
 /// The exit status of a run that ended so: 0 at the end of the input, and 1 after a fault.

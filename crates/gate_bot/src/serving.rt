@@ -1,11 +1,12 @@
 ghost use Rattle.std.specs.Prelude.{◌≡◌, ℕ, List, ◌⊎◌, IfOk, IfErr, OnOk};
 ghost use Rattle.std.specs.Io.KnownBytes.{Consumes, IsAtEnd};
-ghost use Rattle.gate_bot.specs.Lines.{HasNotBegun, IsServed, IsWithinLimit, MayEnd, no_records};
+ghost use Rattle.gate_bot.specs.Program.{HasNotBegun, no_records};
+ghost use Rattle.gate_hook.specs.Lines.{IsServed, IsWithinLimit, MayEnd};
 ghost use Rattle.gate_sql.specs.Shown.{shown};
 ghost use Rattle.gate_store.specs.Run.{IsOfBooks, Records};
 ghost use Rattle.sqlite.specs.Steps.{over_memory};
 
-use crate::lines::{HookFault, serve_lines};
+use gate_hook::{HookFault, serve_lines};
 use gate_queue::Fault;
 use gate_sql::SqlBook;
 use gate_store::Keeper;

@@ -1,7 +1,7 @@
 use Rattle.std.proofs.Common.{inr, ◌∙◌, ap, subst}
 use Rattle.gate_sql.specs.Shown.{shown}
 use Rattle.gate_sql.specs.Tables.{always_sound}
-use Rattle.gate_bot.specs.Lines.{IsServed}
+use Rattle.gate_hook.specs.Lines.{IsServed}
 use Rattle.gate_bot.proofs.serving.serve_anew.Goals as goal
 use Rattle.gate_store.specs.Run.{Records}
 use Rattle.sqlite.specs.Steps.{over_memory}

@@ -1,0 +1,76 @@
+-- Serving in mid-course, for the contracts of the functions that `serve_lines` is made of.
+use Rattle.std.specs.Prelude.{◌≡◌, ◌≤◌, ◌<◌, ℕ, false, ⊤, List, [], ◌∷◌, ◌++◌, length, take, Option, Result, Ok, Err}
+use Rattle.std.specs.Io.KnownBytes.{Appends, Consumes, Keeps, IsAtEnd}
+use Rattle.gate_queue.specs.declared.fault.Fault.{Fault}
+use Rattle.gate_store.specs.Run.{Records, IsOfKeepers}
+use Rattle.gate_hook.specs.Lines.{ended_lines, open_line, line_text, after_line, line_meets_full, text_for, after_lines, NoLineMeetsFull, StopsAtLine, max_kept}
+use Rattle.gate_hook.specs.declared.fault.HookFault.{HookFault}
+use Rattle.gate_hook.specs.declared.fault.HookFault.TheVariants.{Gate, Read, Write, TooMuch}
+
+-- the faults that the answer to a line may meet, of which none is the reader's
+abbrev pub MayStop : (Fault → Type 0) → HookFault → Type 0
+MayStop may_answer (Gate fault) = IsOfKeepers may_answer fault
+MayStop may_answer Write = ⊤
+MayStop may_answer Read = ⊥
+MayStop may_answer TooMuch = ⊥
+
+-- a line was answered, or its answer was refused
+abbrev pub IsAnswered : Result (Unit {0}) HookFault → Records → List ℕ → Records → Option (List ℕ) → Option (List ℕ) → Type 0
+IsAnswered (Ok _) old line new before after =
+    (new ≡ after_line old line) × Appends before after (line_text old line ++ 10 ∷ []) × (line_meets_full old line ≡ false)
+IsAnswered (Err (Gate fault)) old line new before after = StopsAtLine fault old line new × Appends before after []
+IsAnswered (Err Write) old line new before after =
+    (new ≡ after_line old line)
+    × ((taken : ℕ) × (taken < length (line_text old line ++ 10 ∷ [])) × Appends before after (take taken (line_text old line ++ 10 ∷ [])))
+    × (line_meets_full old line ≡ false)
+IsAnswered (Err Read) old line new before after = ⊥
+IsAnswered (Err TooMuch) old line new before after = ⊥
+
+-- A part of the input was read into the front of a buffer, at most `room` bytes; or the reader failed.
+abbrev pub IsRead : Result ℕ HookFault → Option (List ℕ) → Option (List ℕ) → List ℕ → ℕ → Type 0
+IsRead (Ok n) before after buffer room = (n ≤ room) × Consumes before after (take n buffer) × (n ≡ 0 → IsAtEnd after)
+IsRead (Err Read) before after buffer room = Keeps before after
+IsRead (Err (Gate fault)) before after buffer room = ⊥
+IsRead (Err Write) before after buffer room = ⊥
+IsRead (Err TooMuch) before after buffer room = ⊥
+
+-- the bytes that are kept of a line
+abbrev pub kept_of : List ℕ → List ℕ
+kept_of line = take max_kept line
+
+-- All lines that end in the input are counted, and what follows the last is kept. If the book is sound, these lines are served.
+pub record IsUpTo (sound : Type 0) (opened : Records) (input : List ℕ) (now : Records) (kept : List ℕ) (counted : ℕ) (before after : Option (List ℕ)) : Type 0 where
+  pub records : sound → now ≡ after_lines opened (ended_lines input)
+  pub line : kept ≡ kept_of (open_line input)
+  pub count : counted ≡ length (ended_lines input)
+  pub written : sound → Appends before after (text_for opened (ended_lines input))
+  pub room : sound → NoLineMeetsFull opened (ended_lines input)
+
+-- The answer to the line that is open was refused, and all before it are served.
+abbrev pub StopsBehind : HookFault → Records → List ℕ → Records → Option (List ℕ) → Option (List ℕ) → Type 0
+StopsBehind (Gate fault) opened input new before after =
+    StopsAtLine fault (after_lines opened (ended_lines input)) (open_line input) new
+    × Appends before after (text_for opened (ended_lines input)) × NoLineMeetsFull opened (ended_lines input)
+StopsBehind Write opened input new before after =
+    (new ≡ after_line (after_lines opened (ended_lines input)) (open_line input))
+    × ((taken : ℕ) × (taken < length (line_text (after_lines opened (ended_lines input)) (open_line input) ++ 10 ∷ []))
+    × Appends before after (text_for opened (ended_lines input) ++ take taken (line_text (after_lines opened (ended_lines input)) (open_line input) ++ 10 ∷ [])))
+    × NoLineMeetsFull opened (ended_lines input ++ open_line input ∷ [])
+StopsBehind Read opened input new before after = ⊥
+StopsBehind TooMuch opened input new before after = ⊥
+
+-- one more byte
+abbrev pub TakesByte : (sound : Type 0) → Result (Unit {0}) HookFault → Records → List ℕ → ℕ → Records → List ℕ → ℕ → Option (List ℕ) → Option (List ℕ) → Type 0
+TakesByte sound (Ok _) opened input byte now line count before after = IsUpTo sound opened (input ++ byte ∷ []) now line count before after
+TakesByte sound (Err fault) opened input byte now line count before after = (byte ≡ 10) × (sound → StopsBehind fault opened input now before after)
+
+-- more bytes: the fault came at a line feed among them
+pub record StopsWithin (sound : Type 0) (fault : HookFault) (opened : Records) (input taken : List ℕ) (now : Records) (before after : Option (List ℕ)) : Type 0 where
+  pub front : List ℕ
+  pub others : List ℕ
+  pub bytes : taken ≡ front ++ 10 ∷ others
+  pub stops : sound → StopsBehind fault opened (input ++ front) now before after
+
+abbrev pub TakesBytes : (sound : Type 0) → Result (Unit {0}) HookFault → Records → List ℕ → List ℕ → Records → List ℕ → ℕ → Option (List ℕ) → Option (List ℕ) → Type 0
+TakesBytes sound (Ok _) opened input bytes now line count before after = IsUpTo sound opened (input ++ bytes) now line count before after
+TakesBytes sound (Err fault) opened input bytes now line count before after = StopsWithin sound fault opened input bytes now before after

@@ -1,0 +1,19 @@
+use gate_queue::Fault;
+use thiserror::Error;
+
+/// Why serving stopped before its end.
+#[derive(Clone, Copy, Debug, PartialEq, Eq, Error)]
+pub enum HookFault {
+    /// A delivery met a fault, or there was no memory to read a line or to write its answer.
+    #[error(transparent)]
+    Gate(Fault),
+    /// The reader failed; an interrupted read is a failure too.
+    #[error("Read")]
+    Read,
+    /// The writer failed, or took no byte.
+    #[error("Write")]
+    Write,
+    /// The input isn't at its end after 4,294,967,296 bytes.
+    #[error("TooMuch")]
+    TooMuch,
+}

@@ -1,0 +1,269 @@
+ghost use Rattle.std.specs.Prelude.{◌≡◌, ◌+◌, ◌<◌, ◌≤◌, ◌^◌, ◌++◌, ◌∷◌, ℕ, false, [], List, Option, length, IfOk, IfErr, OnOk, Ok, ◌⊎◌};
+ghost use Rattle.std.specs.String.{string_bytes};
+ghost use Rattle.std.specs.Io.KnownBytes.{Consumes, IsAtEnd};
+ghost use Rattle.gate_store.specs.Run.{Records, AgreesOnFull, IsOfKeepers, meets_full};
+ghost use Rattle.gate_hook.specs.Lines.{line_text, after_line, line_meets_full, text_answered, after_reading, MayEnd, StopsAtLine, IsServed, IsWithinLimit};
+ghost use Rattle.gate_hook.specs.Serving.{IsAnswered, IsUpTo, IsRead, MayStop, TakesByte, TakesBytes};
+
+use crate::errors::error_text;
+use crate::fault::HookFault;
+use crate::line::Line;
+use crate::reading::{DeliveryFault, read_delivery};
+use crate::sending::send;
+use gate_queue::Fault;
+use gate_store::{Book, Delivery, Keeper, answer_text};
+use std::alloc::{AllocError, Global};
+use std::io::{Read, Write};
+
+// The answer to a line that is too long, with its line feed.
+const TOO_LONG: &str = "{\"error\":\"LineTooLong\",\"number\":5}\n";
+
+// How many bytes are read at once.
+const CHUNK: usize = 8_192;
+
+// The most bytes that one call reads.
+const MAX_INPUT: u64 = 4_294_967_296;
+
+fn with_line_feed(text: String) -> Result<String, AllocError>
+    ensures { IfOk result (λ ended. string_bytes ended ≡ string_bytes text ++ 10 ∷ []) }
+{
+    let mut ended = text;
+    ended.push('\n')?;
+    Ok(ended)
+}
+
+// The text of the answer to a delivery, with its line feed.
+fn delivery_answer<B: Book>(
+    alloc: Global,
+    keeper: &mut Keeper<B>,
+    delivery: &Delivery,
+) -> Result<String, Fault>
+    ensures text { B.is_sound keeper.new → IfOk result (λ text. string_bytes text ≡ text_answered (B.shows keeper.old) (Ok delivery.now) ++ 10 ∷ []) }
+    ensures records { B.is_sound keeper.new → OnOk result (B.shows keeper.new ≡ after_reading (B.shows keeper.old) (Ok delivery.now)) }
+    ensures stops { B.is_sound keeper.new → IfErr result (λ fault. (B.shows keeper.new ≡ B.shows keeper.old) ⊎ ((fault ≡ Fault.Memory) × (B.shows keeper.new ≡ after_reading (B.shows keeper.old) (Ok delivery.now)) × (meets_full (B.shows keeper.old) delivery.now ≡ false))) }
+    ensures full { B.is_sound keeper.new → AgreesOnFull result (meets_full (B.shows keeper.old) delivery.now) }
+    ensures was { B.is_sound keeper.new → B.is_sound keeper.old }
+    ensures cause { IfErr result (IsOfKeepers B.may_answer) }
+{
+    let answer = keeper.deliver(alloc, delivery)?;
+    let text = answer_text(alloc, &answer)?;
+    Ok(with_line_feed(text)?)
+}
+
+// The text of the answer to a line, with its line feed.
+fn line_answer<B: Book>(alloc: Global, keeper: &mut Keeper<B>, line: &Line) -> Result<String, Fault>
+    ensures text { B.is_sound keeper.new → IfOk result (λ text. string_bytes text ≡ line_text (B.shows keeper.old) line.now ++ 10 ∷ []) }
+    ensures records { B.is_sound keeper.new → OnOk result (B.shows keeper.new ≡ after_line (B.shows keeper.old) line.now) }
+    ensures room { B.is_sound keeper.new → OnOk result (line_meets_full (B.shows keeper.old) line.now ≡ false) }
+    ensures stops { B.is_sound keeper.new → IfErr result (λ fault. StopsAtLine fault (B.shows keeper.old) line.now (B.shows keeper.new)) }
+    ensures was { B.is_sound keeper.new → B.is_sound keeper.old }
+    ensures cause { IfErr result (IsOfKeepers B.may_answer) }
+{
+    if line.is_too_long() {
+        return Ok(String::from_str(alloc, TOO_LONG)?);
+    }
+    match read_delivery(alloc, line.as_bytes()) {
+        Ok(delivery) => delivery_answer(alloc, keeper, &delivery),
+        Err(DeliveryFault::Memory) => Err(Fault::Memory),
+        Err(fault) => {
+            let text = error_text(alloc, &fault)?;
+            Ok(with_line_feed(text)?)
+        }
+    }
+}
+
+// How many bytes to read if this many are left: one if none is, to see whether the input is at its end.
+fn room_for(left: u64) -> usize
+    ensures some { 0 < result }
+    ensures within { result ≤ CHUNK }
+    ensures left { 0 < left → result ≤ left }
+    ensures last { left ≡ 0 → result ≡ 1 }
+{
+    left.clamp(1, CHUNK as u64) as usize
+}
+
+// Reads at most `room` bytes to the front of the buffer. It doesn't try again after a failure.
+fn read_part<R: Read>(reader: &mut R, buffer: &mut [u8], room: usize) -> Result<usize, HookFault>
+    requires some { 0 < room }
+    requires within { room ≤ length buffer.old }
+    ensures { IsRead result (R.remaining reader.old) (R.remaining reader.new) buffer.new room }
+{
+    match reader.read(&mut buffer[..room]) {
+        Ok(n) => Ok(n),
+        Err(_) => Err(HookFault::Read),
+    }
+}
+
+// What one call has at hand: the keeper, the line that is open, how many lines have ended, and where the answers go.
+#[derive(Drop)]
+struct Session<'k, 'w, B: Book, W> {
+    keeper: &'k mut Keeper<B>,
+    line: Line,
+    count: u64,
+    writer: &'w mut W,
+}
+
+impl<B: Book, W: Write> Session<'_, '_, B, W> {
+    // Answers the line that is open: its text goes out whole, and a part of it if the writer refuses the rest.
+    fn answer_line(&mut self, alloc: Global) -> Result<(), HookFault>
+        ensures answered { B.is_sound self.new.keeper.now → IsAnswered result (B.shows self.old.keeper.now) self.old.line (B.shows self.new.keeper.now) (W.contents self.old.writer.now) (W.contents self.new.writer.now) }
+        ensures was { B.is_sound self.new.keeper.now → B.is_sound self.old.keeper.now }
+        ensures cause { IfErr result (MayStop B.may_answer) }
+        ensures line { self.new.line ≡ self.old.line }
+        ensures count { self.new.count ≡ self.old.count }
+        ensures same_keeper { self.new.keeper.ghost_name ≡ self.old.keeper.ghost_name }
+        ensures same_writer { self.new.writer.ghost_name ≡ self.old.writer.ghost_name }
+    {
+        let text = match line_answer(alloc, self.keeper, &self.line) {
+            Ok(text) => text,
+            Err(fault) => return Err(HookFault::Gate(fault)),
+        };
+        match send(self.writer, text.as_bytes()) {
+            Ok(()) => Ok(()),
+            Err(_) => Err(HookFault::Write),
+        }
+    }
+
+    // Takes one byte: a line feed ends the line that is open, which is answered; any other byte goes on with it.
+    fn take_byte(&mut self, alloc: Global, byte: u8) -> Result<(), HookFault>
+        requires { self.old.count < 2 ^ 32 }
+        ensures taken { (opened : Records) (input : List ℕ) (before : Option (List ℕ))
+            → IsUpTo (B.is_sound self.old.keeper.now) opened input (B.shows self.old.keeper.now) self.old.line self.old.count before (W.contents self.old.writer.now)
+            → TakesByte (B.is_sound self.new.keeper.now) result opened input byte (B.shows self.new.keeper.now) self.new.line self.new.count before (W.contents self.new.writer.now) }
+        ensures was { B.is_sound self.new.keeper.now → B.is_sound self.old.keeper.now }
+        ensures cause { IfErr result (MayStop B.may_answer) }
+        ensures count { self.new.count ≤ self.old.count + 1 }
+        ensures same_keeper { self.new.keeper.ghost_name ≡ self.old.keeper.ghost_name }
+        ensures same_writer { self.new.writer.ghost_name ≡ self.old.writer.ghost_name }
+    {
+        if byte != b'\n' {
+            self.line.add(byte);
+            return Ok(());
+        }
+        match self.answer_line(alloc) {
+            Ok(()) => {
+                self.line.clear();
+                self.count += 1;
+                Ok(())
+            }
+            Err(fault) => Err(fault),
+        }
+    }
+
+    // Takes the bytes of a chunk, in order.
+    fn take_chunk(&mut self, alloc: Global, bytes: &[u8]) -> Result<(), HookFault>
+        requires { self.old.count + length bytes.now ≤ 2 ^ 32 }
+        ensures taken { (opened : Records) (input : List ℕ) (before : Option (List ℕ))
+            → IsUpTo (B.is_sound self.old.keeper.now) opened input (B.shows self.old.keeper.now) self.old.line self.old.count before (W.contents self.old.writer.now)
+            → TakesBytes (B.is_sound self.new.keeper.now) result opened input bytes.now (B.shows self.new.keeper.now) self.new.line self.new.count before (W.contents self.new.writer.now) }
+        ensures was { B.is_sound self.new.keeper.now → B.is_sound self.old.keeper.now }
+        ensures cause { IfErr result (MayStop B.may_answer) }
+        ensures count { self.new.count ≤ self.old.count + length bytes.now }
+        ensures same_keeper { self.new.keeper.ghost_name ≡ self.old.keeper.ghost_name }
+        ensures same_writer { self.new.writer.ghost_name ≡ self.old.writer.ghost_name }
+    {
+        for byte in bytes {
+            match self.take_byte(alloc, *byte) {
+                Ok(()) => {}
+                Err(fault) => return Err(fault),
+            }
+        }
+        Ok(())
+    }
+
+    // Answers the last line, if bytes follow the last line feed, and counts it.
+    fn finish(&mut self, alloc: Global) -> Result<u64, HookFault>
+        requires { self.old.count ≤ 2 ^ 32 }
+        ensures within { (input : List ℕ) → length input ≤ MAX_INPUT → IsWithinLimit result input }
+        ensures served { (opened : Records) (input : List ℕ) (left before : Option (List ℕ))
+            → IsUpTo (B.is_sound self.old.keeper.now) opened input (B.shows self.old.keeper.now) self.old.line self.old.count before (W.contents self.old.writer.now)
+            → IsAtEnd left → B.is_sound self.new.keeper.now
+            → IsServed result opened input left (B.shows self.new.keeper.now) before (W.contents self.new.writer.now) }
+        ensures was { B.is_sound self.new.keeper.now → B.is_sound self.old.keeper.now }
+        ensures cause { IfErr result (MayEnd B.may_answer) }
+        ensures same_keeper { self.new.keeper.ghost_name ≡ self.old.keeper.ghost_name }
+        ensures same_writer { self.new.writer.ghost_name ≡ self.old.writer.ghost_name }
+    {
+        if self.line.is_empty() {
+            return Ok(self.count);
+        }
+        match self.answer_line(alloc) {
+            Ok(()) => Ok(self.count + 1),
+            Err(fault) => Err(fault),
+        }
+    }
+
+    // Takes the whole input of a reader, chunk by chunk.
+    fn serve<R: Read>(&mut self, alloc: Global, reader: &mut R) -> Result<u64, HookFault>
+        requires { IsUpTo (B.is_sound self.old.keeper.now) (B.shows self.old.keeper.now) [] (B.shows self.old.keeper.now) self.old.line self.old.count (W.contents self.old.writer.now) (W.contents self.old.writer.now) }
+        ensures served { (input : List ℕ) × Consumes (R.remaining reader.old) (R.remaining reader.new) input
+            × IsWithinLimit result input
+            × (B.is_sound self.new.keeper.now
+            → IsServed result (B.shows self.old.keeper.now) input (R.remaining reader.new) (B.shows self.new.keeper.now) (W.contents self.old.writer.now) (W.contents self.new.writer.now)) }
+        ensures end { OnOk result (IsAtEnd (R.remaining reader.new)) }
+        ensures was { B.is_sound self.new.keeper.now → B.is_sound self.old.keeper.now }
+        ensures cause { IfErr result (MayEnd B.may_answer) }
+        ensures same_keeper { self.new.keeper.ghost_name ≡ self.old.keeper.ghost_name }
+        ensures same_writer { self.new.writer.ghost_name ≡ self.old.writer.ghost_name }
+    {
+        let mut buffer = [0; CHUNK];
+        let mut left = MAX_INPUT;
+        'chunks: loop {
+            let n = read_part(reader, &mut buffer, room_for(left))?;
+            if n == 0 {
+                return self.finish(alloc);
+            }
+            if left == 0 {
+                return Err(HookFault::TooMuch);
+            }
+            match self.take_chunk(alloc, &buffer[..n]) {
+                Ok(()) => left -= n as u64,
+                Err(fault) => return Err(fault),
+            }
+        }
+    }
+}
+
+/// Answers each line of a reader on a writer, in order: a delivery by its answer, any other line by its error. The
+/// lines are JSON Lines (jsonlines.org). The answer to a line is written before more of the input is asked for. At the
+/// end of the input it answers the count of lines.
+///
+/// Each fault ends the call; the lines before the one that it came at are answered. After `Read` and `TooMuch` a line
+/// that isn't complete is dropped. After `Write` the line has acted, and a part of its answer, but not all, is written.
+/// After `Gate`, which has a fault of the keeper's, nothing of the answer is written, and the line has changed nothing; but
+/// after `Memory` it may have acted, with its answer kept. Whatever the fault, an answer that is kept is written if the
+/// delivery is handed in again. Of the reader up to 8,191 bytes behind that line may be taken.
+///
+/// What is said of answers, of the count and of the book holds if the book's premise does; how much is read, and which faults
+/// may come, holds without it.
+///
+/// The buffers have a fixed size, whatever the input. The writer isn't flushed, so it shouldn't keep bytes back.
+pub fn serve_lines<B: Book, R: Read, W: Write>(
+    alloc: Global,
+    keeper: &mut Keeper<B>,
+    reader: &mut R,
+    writer: &mut W,
+) -> Result<u64, HookFault>
+    // Within the limit, input was consumed. If the book is sound, what is written is the text for its lines.
+    ensures served { (input : List ℕ) × Consumes (R.remaining reader.old) (R.remaining reader.new) input
+        × IsWithinLimit result input
+        × (B.is_sound keeper.new
+        → IsServed result (B.shows keeper.old) input (R.remaining reader.new) (B.shows keeper.new) (W.contents writer.old) (W.contents writer.new)) }
+
+    // It succeeds at the end of the input alone.
+    ensures end { OnOk result (IsAtEnd (R.remaining reader.new)) }
+
+    // A fault of the gate is one that the keeper may answer.
+    ensures cause { IfErr result (MayEnd B.may_answer) }
+
+    // A book that is sound in the end was sound before.
+    ensures was { B.is_sound keeper.new → B.is_sound keeper.old }
+{
+    let mut session = Session {
+        keeper,
+        line: Line::new(),
+        count: 0,
+        writer,
+    };
+    session.serve(alloc, reader)
+}
