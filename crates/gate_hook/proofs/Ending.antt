@@ -6,7 +6,8 @@ use Rattle.std.specs.Io.KnownBytes.{IsAtEnd}
 use Rattle.gate_queue.specs.declared.fault.Fault.{Fault}
 use Rattle.gate_store.specs.Run.{Records}
 use Rattle.gate_hook.specs.Lines.{ended_lines, open_line, last_line, lines_of, AreComplete, IsServed, IsWithinLimit, MayEnd}
-use Rattle.gate_hook.specs.Serving.{IsAnswered, IsUpTo, IsRead, MayStop, StopsBehind, StopsWithin, kept_of}
+use Rattle.gate_hook.specs.Receiving.{IsRead}
+use Rattle.gate_hook.specs.Serving.{IsAnswered, IsUpTo, MayStop, StopsBehind, StopsWithin, kept_of}
 use Rattle.gate_hook.specs.declared.fault.HookFault.{HookFault}
 use Rattle.gate_hook.specs.declared.fault.HookFault.TheVariants.{Gate, Read, Write, TooMuch}
 use Rattle.gate_hook.proofs.Splitting.{ended_at, ended_lines-feed}

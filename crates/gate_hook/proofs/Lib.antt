@@ -1,6 +1,11 @@
+pub mod Asking
 pub mod Ending
+pub mod Fields
 pub mod Kept
+pub mod NoHead
+pub mod Numerals
 pub mod Progress
+pub mod Responding
 pub mod Splitting
 pub mod Taking
 pub mod Whole

@@ -2,9 +2,19 @@
 --     Deliveries   the delivery that a text is, or why it is none
 --     Errors       the text of an error
 --     Lines        the lines of a text, and what is written for them, by the run and the answers of gate_store
+--     Heads        the checks of the head of a request, in their order
+--     Requests     what a request asks for, or why it is refused
+--     Responses    a response as bytes, and which one a refusal has
+--     Served       what is sent for one request, and the records after it
 -- The other files are of functions within the crate.
 pub mod Deliveries
 pub mod Errors
+pub mod Heads
 pub mod Lines
+pub mod Receiving
+pub mod Requests
+pub mod Responding
+pub mod Responses
 pub mod Sending
+pub mod Served
 pub mod Serving

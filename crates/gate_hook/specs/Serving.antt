@@ -1,6 +1,6 @@
 -- Serving in mid-course, for the contracts of the functions that `serve_lines` is made of.
-use Rattle.std.specs.Prelude.{◌≡◌, ◌≤◌, ◌<◌, ℕ, false, ⊤, List, [], ◌∷◌, ◌++◌, length, take, Option, Result, Ok, Err}
-use Rattle.std.specs.Io.KnownBytes.{Appends, Consumes, Keeps, IsAtEnd}
+use Rattle.std.specs.Prelude.{◌≡◌, ◌<◌, ℕ, false, ⊤, List, [], ◌∷◌, ◌++◌, length, take, Option, Result, Ok, Err}
+use Rattle.std.specs.Io.KnownBytes.{Appends}
 use Rattle.gate_queue.specs.declared.fault.Fault.{Fault}
 use Rattle.gate_store.specs.Run.{Records, IsOfKeepers}
 use Rattle.gate_hook.specs.Lines.{ended_lines, open_line, line_text, after_line, line_meets_full, text_for, after_lines, NoLineMeetsFull, StopsAtLine, max_kept}
@@ -25,14 +25,6 @@ IsAnswered (Err Write) old line new before after =
     × (line_meets_full old line ≡ false)
 IsAnswered (Err Read) old line new before after = ⊥
 IsAnswered (Err TooMuch) old line new before after = ⊥
-
--- A part of the input was read into the front of a buffer, at most `room` bytes; or the reader failed.
-abbrev pub IsRead : Result ℕ HookFault → Option (List ℕ) → Option (List ℕ) → List ℕ → ℕ → Type 0
-IsRead (Ok n) before after buffer room = (n ≤ room) × Consumes before after (take n buffer) × (n ≡ 0 → IsAtEnd after)
-IsRead (Err Read) before after buffer room = Keeps before after
-IsRead (Err (Gate fault)) before after buffer room = ⊥
-IsRead (Err Write) before after buffer room = ⊥
-IsRead (Err TooMuch) before after buffer room = ⊥
 
 -- the bytes that are kept of a line
 abbrev pub kept_of : List ℕ → List ℕ

@@ -1,4 +1,5 @@
 use gate_queue::Fault;
+use std::alloc::AllocError;
 use thiserror::Error;
 
 /// Why serving stopped before its end.
@@ -16,4 +17,16 @@ pub enum HookFault {
     /// The input isn't at its end after 4,294,967,296 bytes.
     #[error("TooMuch")]
     TooMuch,
+}
+
+impl From<AllocError> for HookFault {
+    ghost use Rattle.std.specs.Prelude.{◌≡◌};
+    ghost use Rattle.gate_hook.specs.declared.fault.HookFault.TheVariants.{Gate};
+    ghost use Rattle.gate_queue.specs.declared.fault.Fault.TheVariants.{Memory};
+
+    ghost from_gives = { λ _ fault. fault ≡ Gate Memory };
+
+    fn from(_error: AllocError) -> HookFault {
+        HookFault::Gate(Fault::Memory)
+    }
 }

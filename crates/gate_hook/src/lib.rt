@@ -1,12 +1,18 @@
 //! What comes in and goes out: deliveries as JSON, and lines of them, which a keeper answers.
 #![tactic(auto)]
 
+mod answering;
 mod errors;
 mod fault;
 mod field;
+mod head;
 mod line;
 mod lines;
 mod reading;
+mod receiving;
+mod refusal;
+mod requests;
+mod response;
 mod sending;
 #[cfg(test)]
 mod tests;
@@ -16,3 +22,4 @@ pub use fault::HookFault;
 pub use field::Field;
 pub use lines::serve_lines;
 pub use reading::{DeliveryFault, read_delivery};
+pub use requests::{Served, serve_one};

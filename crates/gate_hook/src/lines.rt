@@ -3,16 +3,18 @@ ghost use Rattle.std.specs.String.{string_bytes};
 ghost use Rattle.std.specs.Io.KnownBytes.{Consumes, IsAtEnd};
 ghost use Rattle.gate_store.specs.Run.{Records, AgreesOnFull, IsOfKeepers, meets_full};
 ghost use Rattle.gate_hook.specs.Lines.{line_text, after_line, line_meets_full, text_answered, after_reading, MayEnd, StopsAtLine, IsServed, IsWithinLimit};
-ghost use Rattle.gate_hook.specs.Serving.{IsAnswered, IsUpTo, IsRead, MayStop, TakesByte, TakesBytes};
+ghost use Rattle.gate_hook.specs.Serving.{IsAnswered, IsUpTo, MayStop, TakesByte, TakesBytes};
 
+use crate::answering::{delivery_answer, with_line_feed};
 use crate::errors::error_text;
 use crate::fault::HookFault;
 use crate::line::Line;
 use crate::reading::{DeliveryFault, read_delivery};
+use crate::receiving::read_part;
 use crate::sending::send;
 use gate_queue::Fault;
-use gate_store::{Book, Delivery, Keeper, answer_text};
-use std::alloc::{AllocError, Global};
+use gate_store::{Book, Keeper};
+use std::alloc::Global;
 use std::io::{Read, Write};
 
 // The answer to a line that is too long, with its line feed.
@@ -23,32 +25,6 @@ const CHUNK: usize = 8_192;
 
 // The most bytes that one call reads.
 const MAX_INPUT: u64 = 4_294_967_296;
-
-fn with_line_feed(text: String) -> Result<String, AllocError>
-    ensures { IfOk result (λ ended. string_bytes ended ≡ string_bytes text ++ 10 ∷ []) }
-{
-    let mut ended = text;
-    ended.push('\n')?;
-    Ok(ended)
-}
-
-// The text of the answer to a delivery, with its line feed.
-fn delivery_answer<B: Book>(
-    alloc: Global,
-    keeper: &mut Keeper<B>,
-    delivery: &Delivery,
-) -> Result<String, Fault>
-    ensures text { B.is_sound keeper.new → IfOk result (λ text. string_bytes text ≡ text_answered (B.shows keeper.old) (Ok delivery.now) ++ 10 ∷ []) }
-    ensures records { B.is_sound keeper.new → OnOk result (B.shows keeper.new ≡ after_reading (B.shows keeper.old) (Ok delivery.now)) }
-    ensures stops { B.is_sound keeper.new → IfErr result (λ fault. (B.shows keeper.new ≡ B.shows keeper.old) ⊎ ((fault ≡ Fault.Memory) × (B.shows keeper.new ≡ after_reading (B.shows keeper.old) (Ok delivery.now)) × (meets_full (B.shows keeper.old) delivery.now ≡ false))) }
-    ensures full { B.is_sound keeper.new → AgreesOnFull result (meets_full (B.shows keeper.old) delivery.now) }
-    ensures was { B.is_sound keeper.new → B.is_sound keeper.old }
-    ensures cause { IfErr result (IsOfKeepers B.may_answer) }
-{
-    let answer = keeper.deliver(alloc, delivery)?;
-    let text = answer_text(alloc, &answer)?;
-    Ok(with_line_feed(text)?)
-}
 
 // The text of the answer to a line, with its line feed.
 fn line_answer<B: Book>(alloc: Global, keeper: &mut Keeper<B>, line: &Line) -> Result<String, Fault>
@@ -80,18 +56,6 @@ fn room_for(left: u64) -> usize
     ensures last { left ≡ 0 → result ≡ 1 }
 {
     left.clamp(1, CHUNK as u64) as usize
-}
-
-// Reads at most `room` bytes to the front of the buffer. It doesn't try again after a failure.
-fn read_part<R: Read>(reader: &mut R, buffer: &mut [u8], room: usize) -> Result<usize, HookFault>
-    requires some { 0 < room }
-    requires within { room ≤ length buffer.old }
-    ensures { IsRead result (R.remaining reader.old) (R.remaining reader.new) buffer.new room }
-{
-    match reader.read(&mut buffer[..room]) {
-        Ok(n) => Ok(n),
-        Err(_) => Err(HookFault::Read),
-    }
 }
 
 // What one call has at hand: the keeper, the line that is open, how many lines have ended, and where the answers go.

@@ -1,0 +1,107 @@
+-- From what was asked to what is sent.
+use Rattle.std.proofs.Common.{◌≡◌, inl, inr, ℕ, ◌<◌, List, ◌++◌, length, take, Option, Some, None, Result, Ok, Err, refl, sym, ap, subst, ◌∙◌}
+use Rattle.std.specs.Io.KnownBytes.{Appends, Consumes}
+use Rattle.std.specs.String.{string_bytes}
+use Rattle.gate_queue.specs.declared.fault.Fault.{Fault}
+use Rattle.gate_queue.specs.declared.fault.Fault.TheVariants.{Memory, Store, Full}
+use Rattle.gate_store.specs.Run.{Records}
+use Rattle.gate_store.specs.declared.delivery.Delivery.{Delivery}
+use Rattle.gate_hook.specs.Lines.{MayEnd}
+use Rattle.gate_hook.specs.Receiving.{IsInput, IsUnread}
+use Rattle.gate_hook.specs.Requests.{Asks}
+use Rattle.gate_hook.specs.Responding.{Answers, HasSent, Responds}
+use Rattle.gate_hook.specs.Responses.{fault_response, response_text}
+use Rattle.gate_hook.specs.Served.{AnswersOne, Breaks, IsDue, IsRefused, after_wish, response_to}
+use Rattle.gate_hook.specs.declared.fault.HookFault.{HookFault}
+use Rattle.gate_hook.specs.declared.fault.HookFault.TheVariants.{Gate, Read, Write, TooMuch}
+use Rattle.gate_hook.specs.declared.refusal.Refusal.{Refusal}
+use Rattle.gate_hook.specs.declared.requests.Served.{Served}
+use Rattle.gate_hook.specs.declared.response.Response.{Response}
+use Rattle.gate_hook.proofs.NoHead.{is-left, left_of}
+
+-- A REQUEST THAT WASN'T READ: some input, and nothing has changed
+pub some-input : (before after : Option (List ℕ)) → ((taken : List ℕ) × Consumes before after taken) → (input : List ℕ) × IsInput before after input
+some-input before after (taken, consumed) = (taken ++ left_of after, (taken, left_of after, consumed, is-left after, refl))
+
+pub answers-unread : (fault : HookFault) (input : List ℕ) (records : Records) → IsUnread fault → Answers (Err fault) input records records
+answers-unread fault input records (inl read) = rw read refl
+answers-unread fault input records (inr memory) = rw memory (inl refl)
+
+pub may_end-unread : (may_answer : Fault → Type 0) (fault : HookFault) → IsUnread fault → MayEnd may_answer fault
+may_end-unread may_answer fault (inl read) = rw read tt
+may_end-unread may_answer fault (inr memory) = rw memory (inl (inl refl))
+
+-- ONE THAT WAS READ
+pub answers-read : (result : Result Response HookFault) (input : List ℕ) (wish : Result Delivery Refusal) (old new : Records)
+    → Asks input wish → Responds result old wish new → Answers result input old new
+answers-read (Ok made) input wish old new asks responds = (wish, asks, responds.0, responds.1, responds.2)
+answers-read (Err (Gate Memory)) input wish old new asks (inl same) = inl same
+answers-read (Err (Gate Memory)) input wish old new asks (inr kept) = inr (wish, asks, kept.0, kept.1)
+answers-read (Err (Gate Store)) input wish old new asks responds = (responds.0, (wish, asks, responds.1))
+answers-read (Err (Gate Full)) input wish old new asks responds = (responds.0, (wish, asks, responds.1))
+answers-read (Err Read) input wish old new asks responds = absurd responds
+answers-read (Err Write) input wish old new asks responds = absurd responds
+answers-read (Err TooMuch) input wish old new asks responds = absurd responds
+
+-- WHAT IS SENT
+due : (made : Response) (input : List ℕ) (old new : Records) → (is : Answers (Ok made) input old new) → IsDue input old (response_to old is.0) None new
+due made input old new is = (is.0, is.1, refl, is.3, is.4)
+
+pub sends-response : (result : Result Served HookFault) (made : Response) (input : List ℕ) (old new : Records) (before after : Option (List ℕ))
+    → Answers (Ok made) input old new → HasSent result (record { status = made.status; fault = None }) (string_bytes made.text) before after
+    → AnswersOne result input old new before after
+sends-response (Ok done) made input old new before after is sent =
+    subst (λ (served : Served). AnswersOne (Ok served) input old new before after) (sym sent.0)
+    (response_to old is.0, due made input old new is, is.2.status, subst (Appends before after) is.2.text sent.1)
+sends-response (Err Write) made input old new before after is sent = (
+  response_to old is.0,
+  None,
+  due made input old new is,
+  subst (λ (text : List ℕ). (taken : ℕ) × (taken < length text) × Appends before after (take taken text)) is.2.text sent,
+)
+sends-response (Err Read) made input old new before after is sent = absurd sent
+sends-response (Err (Gate fault)) made input old new before after is sent = absurd sent
+sends-response (Err TooMuch) made input old new before after is sent = absurd sent
+
+pub sends-fault : (result : Result Served HookFault) (fault : Fault) (input : List ℕ) (old new : Records) (before after : Option (List ℕ)) (text : List ℕ)
+    → text ≡ response_text fault_response → Breaks input fault old new → HasSent result (record { status = 503; fault = Some fault }) text before after
+    → AnswersOne result input old new before after
+sends-fault (Ok done) fault input old new before after text is breaks sent =
+    subst (λ (served : Served). AnswersOne (Ok served) input old new before after) (sym sent.0)
+    (fault_response, (refl, breaks), refl, subst (Appends before after) is sent.1)
+sends-fault (Err Write) fault input old new before after text is breaks sent = (
+  fault_response,
+  Some fault,
+  (refl, breaks),
+  subst (λ (text : List ℕ). (taken : ℕ) × (taken < length text) × Appends before after (take taken text)) is sent,
+)
+sends-fault (Err Read) fault input old new before after text is breaks sent = absurd sent
+sends-fault (Err (Gate other)) fault input old new before after text is breaks sent = absurd sent
+sends-fault (Err TooMuch) fault input old new before after text is breaks sent = absurd sent
+
+-- INPUT THAT ASKS FOR NO DELIVERY
+known-input : (after : Option (List ℕ)) (whole input : List ℕ) → IsInput (Some whole) after input → input ≡ whole
+known-input None whole input is = absurd is.2
+known-input (Some known) whole input is = is.4 ∙ ap (λ (rest : List ℕ). is.0 ++ rest) is.3 ∙ sym is.2
+
+same-input : (before after : Option (List ℕ)) (whole input : List ℕ) → before ≡ Some whole → IsInput before after input → input ≡ whole
+same-input before after whole input known is = known-input after whole input (subst (λ (old : Option (List ℕ)). IsInput old after input) known is)
+
+refused-wish : (wish : Result Delivery Refusal) (input : List ℕ) (old new : Records) → IsRefused input → Asks input wish → new ≡ after_wish old wish → new ≡ old
+refused-wish (Ok delivery) input old new refused asks is = absurd (refused delivery asks)
+refused-wish (Err refusal) input old new refused asks is = is
+
+pub refused-same : (result : Result Response HookFault) (input : List ℕ) (old new : Records) → IsRefused input → Answers result input old new → new ≡ old
+refused-same (Ok made) input old new refused is = refused-wish is.0 input old new refused is.1 is.3
+refused-same (Err (Gate Memory)) input old new refused (inl same) = same
+refused-same (Err (Gate Memory)) input old new refused (inr kept) = refused-wish kept.0 input old new refused kept.1 kept.2
+refused-same (Err (Gate Store)) input old new refused is = is.0
+refused-same (Err (Gate Full)) input old new refused is = is.0
+refused-same (Err Read) input old new refused is = is
+refused-same (Err Write) input old new refused is = absurd is
+refused-same (Err TooMuch) input old new refused is = absurd is
+
+pub unchanged : (result : Result Response HookFault) (before after : Option (List ℕ)) (whole input : List ℕ) (old new : Records)
+    → before ≡ Some whole → IsInput before after input → Answers result input old new → IsRefused whole → new ≡ old
+unchanged result before after whole input old new known is answers refused =
+    refused-same result input old new (subst IsRefused (sym (same-input before after whole input known is)) refused) answers

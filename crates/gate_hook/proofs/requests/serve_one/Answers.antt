@@ -1,0 +1,30 @@
+use Rattle.std.proofs.Common.{Err, Ok, codes, refl, sym}
+use Rattle.std.specs.Fmt.{digits}
+use Rattle.gate_hook.specs.Responses.{response_text}
+use Rattle.gate_hook.proofs.Responding.{sends-fault, sends-response, unchanged}
+use Rattle.gate_hook.proofs.requests.serve_one.Goals as goal
+
+pub returns-in-Ok-clause-served : goal.returns-in-Ok-clause-served
+returns-in-Ok-clause-served g c =
+    let answered = c.in-Ok.ensures.answered in
+    (answered.0, answered.1, λ sound. sends-response _ c.in-Ok.response _ _ _ _ _ (answered.2 sound) (rw (sym c.as_str.ensures.value) c.send_as.ensures))
+
+pub returns-in-Ok-clause-refused : goal.returns-in-Ok-clause-refused
+returns-in-Ok-clause-refused g c sound input known refused =
+    let answered = c.in-Ok.ensures.answered in
+    unchanged (Ok c.in-Ok.response) _ _ input answered.0 _ _ known answered.1 (answered.2 sound) refused
+
+pub returns-in-Err-Gate-clause-served : goal.returns-in-Err-Gate-clause-served
+unfolding response_text digits
+returns-in-Err-Gate-clause-served g c =
+    let answered = c.in-Err-Gate.ensures.answered in (
+      answered.0,
+      answered.1,
+      λ sound. sends-fault _ c.in-Err-Gate.fault _ _ _ _ _ (codes "HTTP/1.1 503 Service Unavailable\r\nContent-Length: 0\r\nConnection: close\r\n\r\n") refl
+          (rw c.in-Err-Gate.field-0-is at answered.2 sound) c.send_as-in-Err-Gate.ensures,
+    )
+
+pub returns-in-Err-Gate-clause-refused : goal.returns-in-Err-Gate-clause-refused
+returns-in-Err-Gate-clause-refused g c sound input known refused =
+    let answered = c.in-Err-Gate.ensures.answered in
+    unchanged (Err c.in-Err-Gate.field-0) _ _ input answered.0 _ _ known answered.1 (answered.2 sound) refused

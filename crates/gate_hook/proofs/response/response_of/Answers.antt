@@ -1,0 +1,16 @@
+use Rattle.std.proofs.Common.{List, ℕ, ap, codes, refl, ◌∙◌}
+use Rattle.gate_hook.specs.Responses.{field_if, message, now_of, response_text}
+use Rattle.gate_hook.proofs.response.response_of.Goals as goal
+
+pub returns : goal.returns
+unfolding response_text
+returns c =
+    let kind = c.as_str.ensures.value ∙ c.in_ok-kind.ensures in
+    let allow = c.as_str-2.ensures.value ∙ c.in_ok-allow.ensures in
+    let body = c.args.body.now in
+    record {
+      status = refl;
+      text = c.in_ok-text.ensures
+          ∙ ap (λ (bytes : List ℕ). message c.args.status bytes c.as_str-2.result.now body) kind
+          ∙ ap (λ (bytes : List ℕ). message c.args.status (field_if (codes "Content-Type") (now_of c.args.kind)) bytes body) allow;
+    }

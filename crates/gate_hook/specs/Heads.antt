@@ -1,0 +1,83 @@
+-- HEADS of requests (HTTP/1.0 and HTTP/1.1, RFC 9112), by the grammar of `httparse`: how long the body is, or why the request is
+-- refused.
+use Rattle.std.specs.Prelude.{ℕ, ◌≤◌, ◌==◌, ◌&&◌, ◌||◌, nat_lt, nat_le, Bool, true, false, List, [], ◌∷◌, length, map, Result, Ok, Err, codes}
+use Rattle.std.specs.List.{before_first, filter, list_all}
+use Rattle.std.specs.Char.{is_ascii_digit, to_ascii_lowercase}
+use Rattle.std.specs.Str.{bytes_eq}
+use Rattle.std.specs.Str.Parse.{digits_value}
+use Rattle.httparse.specs.Grammar.{RequestHead, ReadsRequest, print_request}
+use Rattle.httparse.specs.Spans.{name_and_value}
+use Rattle.gate_text.specs.Steps.{◌>>=◌}
+use Rattle.gate_hook.specs.declared.refusal.Refusal.{Refusal}
+use Rattle.gate_hook.specs.declared.refusal.Refusal.TheVariants.{BadRequest, NotFound, MethodNotAllowed, NotImplemented, LengthRequired, ContentTooLarge}
+
+-- LIMITS, in bytes and in fields
+abbrev pub max_head : ℕ
+max_head = 16384
+
+abbrev pub max_fields : ℕ
+max_fields = 64
+
+abbrev pub max_body : ℕ
+max_body = 65536
+
+-- The input begins with this head, which keeps the limits, and then comes the rest.
+pub record BeginsWith (input : List ℕ) (head : RequestHead) (rest : List ℕ) : Type 0 where
+  pub reads : ReadsRequest input head rest
+  pub size : length (print_request head) ≤ max_head
+  pub fields : length head.fields ≤ max_fields
+
+abbrev pub HasNoHead : List ℕ → Type 0
+HasNoHead input = (head : RequestHead) (rest : List ℕ) → BeginsWith input head rest → ⊥
+
+-- whether a field has this name, in either case
+abbrev pub is_named : List ℕ → List ℕ × List ℕ → Bool
+is_named name field = bytes_eq (map to_ascii_lowercase field.0) (map to_ascii_lowercase name)
+
+-- the values of the fields of this name, in their order and without white space round them
+abbrev pub values_in : List ℕ → List (List ℕ × List ℕ) → List (List ℕ)
+values_in name fields = map (λ (field : List ℕ × List ℕ). field.1) (filter (is_named name) fields)
+
+abbrev pub values_of : List ℕ → RequestHead → List (List ℕ)
+values_of name head = values_in name (map name_and_value head.fields)
+
+abbrev pub has_none : List (List ℕ) → Bool
+has_none values = length values == 0
+
+abbrev pub has_one : List (List ℕ) → Bool
+has_one values = length values == 1
+
+-- the bytes of a target up to its first question mark
+abbrev pub path_of : List ℕ → List ℕ
+path_of target = before_first (λ byte. byte == 63) target
+
+-- one or more decimal digits, and nothing else
+abbrev pub is_numeral : List ℕ → Bool
+is_numeral digits = nat_lt 0 (length digits) && list_all is_ascii_digit digits
+
+-- THE CHECKS of a request, in their order: the first that fails refuses it
+abbrev pub checked : Bool → Refusal → Result (Unit {0}) Refusal
+checked true refusal = Ok tt
+checked false refusal = Err refusal
+
+-- the length of a body, by the values of `Content-Length`
+abbrev pub size_of : List ℕ → Result ℕ Refusal
+size_of value = do
+  numeral ← checked (is_numeral value) BadRequest
+  fits ← checked (nat_le (digits_value 10 value) max_body) ContentTooLarge
+  Ok (digits_value 10 value)
+
+abbrev pub size_by : List (List ℕ) → Result ℕ Refusal
+size_by [] = Err LengthRequired
+size_by (value ∷ others) = do
+  alone ← checked (has_none others) BadRequest
+  size_of value
+
+-- those of a head, which then says how long the body is
+abbrev pub size_in : RequestHead → Result ℕ Refusal
+size_in head = do
+  host ← checked (head.minor == 0 || has_one (values_of (codes "host") head)) BadRequest
+  route ← checked (bytes_eq (path_of head.target) (codes "/deliveries")) NotFound
+  method ← checked (bytes_eq head.method (codes "POST")) MethodNotAllowed
+  encoding ← checked (has_none (values_of (codes "transfer-encoding") head)) NotImplemented
+  size_by (values_of (codes "content-length") head)

@@ -1,0 +1,87 @@
+-- What was read of a request, for the contracts of the functions that read it.
+use Rattle.std.specs.Prelude.{◌≡◌, ◌⊎◌, ℕ, ◌-◌, ◌≤◌, ⊤, List, [], ◌∷◌, ◌++◌, length, take, drop, Option, Some, None, Result, Ok, Err}
+use Rattle.std.specs.Io.KnownBytes.{Consumes, Keeps, IsAtEnd}
+use Rattle.httparse.specs.Grammar.{RequestHead, ReadsRequest, HasNoRequest, print_request}
+use Rattle.httparse.specs.Spans.{RequestOverflows}
+use Rattle.gate_queue.specs.declared.fault.Fault.TheVariants.{Memory}
+use Rattle.gate_text.specs.Steps.{◌>>=◌}
+use Rattle.gate_store.specs.declared.delivery.Delivery.{Delivery}
+use Rattle.gate_hook.specs.Deliveries.{delivery_of}
+use Rattle.gate_hook.specs.Requests.{Asks, body_in, delivery_or}
+use Rattle.gate_hook.specs.declared.refusal.Refusal.{Refusal}
+use Rattle.gate_hook.specs.Heads.{max_fields, max_head, size_in, HasNoHead}
+use Rattle.gate_hook.specs.declared.fault.HookFault.{HookFault}
+use Rattle.gate_hook.specs.declared.fault.HookFault.TheVariants.{Gate, Read, Write, TooMuch}
+use Rattle.gate_hook.specs.declared.head.Found.{Found}
+use Rattle.gate_hook.specs.declared.head.Found.TheVariants.{Whole, Unfinished, Never}
+use Rattle.gate_hook.specs.declared.head.Head.{Head}
+
+-- the first of some values, if there is one
+abbrev pub first_value : List (List ℕ) → Option (List ℕ)
+first_value [] = None
+first_value (value ∷ others) = Some value
+
+-- these bytes begin with a head, of which this is told
+pub record IsHeadOf (told : Head) (bytes : List ℕ) : Type 0 where
+  pub head : RequestHead
+  pub reads : ReadsRequest bytes head (drop told.len bytes)
+  pub len : told.len ≡ length (print_request head)
+  pub fields : length head.fields ≤ max_fields
+  pub size : told.size ≡ size_in head
+
+abbrev pub IsFound : Found → List ℕ → Type 0
+IsFound (Whole told) bytes = IsHeadOf told bytes
+IsFound Unfinished bytes = HasNoRequest bytes
+IsFound Never bytes = RequestOverflows max_fields bytes
+
+-- these bytes are what a reader has left, if that is known
+abbrev pub IsLeft : Option (List ℕ) → List ℕ → Type 0
+IsLeft None rest = ⊤
+IsLeft (Some known) rest = rest ≡ known
+
+-- A part of the input was read into the front of a buffer, at most `room` bytes; or the reader failed.
+abbrev pub IsRead : Result ℕ HookFault → Option (List ℕ) → Option (List ℕ) → List ℕ → ℕ → Type 0
+IsRead (Ok n) before after buffer room = (n ≤ room) × Consumes before after (take n buffer) × (n ≡ 0 → IsAtEnd after)
+IsRead (Err Read) before after buffer room = Keeps before after
+IsRead (Err (Gate fault)) before after buffer room = ⊥
+IsRead (Err Write) before after buffer room = ⊥
+IsRead (Err TooMuch) before after buffer room = ⊥
+
+-- what may keep a request from being read
+abbrev pub IsUnread : HookFault → Type 0
+IsUnread fault = (fault ≡ Read) ⊎ (fault ≡ Gate Memory)
+
+-- The request wasn't read, whatever was taken of it.
+abbrev pub Fails : HookFault → Option (List ℕ) → Option (List ℕ) → Type 0
+Fails fault before after = IsUnread fault × ((taken : List ℕ) × Consumes before after taken)
+
+-- Some bytes more were read, none at the end alone.
+abbrev pub IsMore : Result ℕ HookFault → Option (List ℕ) → Option (List ℕ) → List ℕ → List ℕ → ℕ → Type 0
+IsMore (Ok n) before after old new room =
+    (more : List ℕ) × Consumes before after more × (new ≡ old ++ more) × (length more ≡ n) × (n ≤ room) × (n ≡ 0 → IsAtEnd after)
+IsMore (Err fault) before after old new room = Fails fault before after
+
+-- The bytes that were read begin with a head within the limit; or with what is left of the input they have none.
+abbrev pub HasReadHead : Result (Option Head) HookFault → Option (List ℕ) → Option (List ℕ) → List ℕ → Type 0
+HasReadHead (Ok (Some told)) before after bytes = Consumes before after bytes × IsHeadOf told bytes × (told.len ≤ max_head)
+HasReadHead (Ok None) before after bytes = Consumes before after bytes × ((rest : List ℕ) × IsLeft after rest × HasNoHead (bytes ++ rest))
+HasReadHead (Err fault) before after bytes = Fails fault before after
+
+-- Behind the first `front` bytes there are so many, or the input is at its end.
+abbrev pub HasReadBody : Result (Unit {0}) HookFault → Option (List ℕ) → Option (List ℕ) → List ℕ → List ℕ → ℕ → ℕ → Type 0
+HasReadBody (Ok _) before after old new front size =
+    (more : List ℕ) × Consumes before after more × (new ≡ old ++ more) × ((size ≤ length new - front) ⊎ IsAtEnd after)
+HasReadBody (Err fault) before after old new front size = Fails fault before after
+
+-- what the input was: the bytes that were taken, and those that are left
+abbrev pub IsInput : Option (List ℕ) → Option (List ℕ) → List ℕ → Type 0
+IsInput before after input = (taken : List ℕ) × (rest : List ℕ) × Consumes before after taken × IsLeft after rest × (input ≡ taken ++ rest)
+
+-- what a head and the bytes behind it ask for
+abbrev pub asked_by : Result ℕ Refusal → List ℕ → Result Delivery Refusal
+asked_by size rest = size >>= λ (size : ℕ). body_in size rest >>= λ (body : List ℕ). delivery_or (delivery_of body)
+
+-- The request was read, as far as its answer needs.
+abbrev pub HasAsked : Result (Result Delivery Refusal) HookFault → Option (List ℕ) → Option (List ℕ) → Type 0
+HasAsked (Ok wish) before after = (input : List ℕ) × IsInput before after input × Asks input wish
+HasAsked (Err fault) before after = Fails fault before after

@@ -1,0 +1,31 @@
+-- REQUESTS: what a request asks for, or why it is refused, in the order of the checks.
+use Rattle.std.specs.Prelude.{◌≡◌, ◌⊎◌, ℕ, nat_le, List, length, take, Result, Ok, Err, if◌then◌else◌}
+use Rattle.httparse.specs.Grammar.{RequestHead}
+use Rattle.gate_text.specs.Steps.{◌>>=◌}
+use Rattle.gate_store.specs.declared.delivery.Delivery.{Delivery}
+use Rattle.gate_hook.specs.Deliveries.{delivery_of}
+use Rattle.gate_hook.specs.Heads.{BeginsWith, HasNoHead, size_in}
+use Rattle.gate_hook.specs.declared.reading.DeliveryFault.{DeliveryFault}
+use Rattle.gate_hook.specs.declared.refusal.Refusal.{Refusal}
+use Rattle.gate_hook.specs.declared.refusal.Refusal.TheVariants.{BadRequest, NoDelivery}
+
+-- so many bytes of the rest are the body
+abbrev pub body_in : ℕ → List ℕ → Result (List ℕ) Refusal
+body_in size rest = if nat_le size (length rest) then Ok (take size rest) else Err BadRequest
+
+abbrev pub delivery_or : Result Delivery DeliveryFault → Result Delivery Refusal
+delivery_or (Ok delivery) = Ok delivery
+delivery_or (Err fault) = Err (NoDelivery fault)
+
+-- what the request asks for
+abbrev pub asked : RequestHead → List ℕ → Result Delivery Refusal
+asked head rest = do
+  size ← size_in head
+  body ← body_in size rest
+  delivery_or (delivery_of body)
+
+-- what the input asks for: it has one head at the most, and input without a head is refused
+abbrev pub Asks : List ℕ → Result Delivery Refusal → Type 0
+Asks input wish =
+    ((head : RequestHead) × (rest : List ℕ) × BeginsWith input head rest × (wish ≡ asked head rest))
+    ⊎ (HasNoHead input × (wish ≡ Err BadRequest))

@@ -1,0 +1,41 @@
+-- How a response is made and sent, for the contracts of the functions that `serve_one` is made of.
+use Rattle.std.specs.Prelude.{◌≡◌, ◌⊎◌, ℕ, ◌<◌, List, length, take, Option, Result, Ok, Err}
+use Rattle.std.specs.Io.KnownBytes.{Appends}
+use Rattle.gate_queue.specs.declared.fault.Fault.TheVariants.{Memory, Store, Full}
+use Rattle.gate_store.specs.Run.{Records}
+use Rattle.gate_store.specs.declared.delivery.Delivery.{Delivery}
+use Rattle.gate_hook.specs.Requests.{Asks}
+use Rattle.gate_hook.specs.Responses.{IsResponse}
+use Rattle.gate_hook.specs.Served.{Breaks, HasRoom, IsDelivery, MeetsFull, after_wish, response_to}
+use Rattle.gate_hook.specs.declared.fault.HookFault.{HookFault}
+use Rattle.gate_hook.specs.declared.fault.HookFault.TheVariants.{Gate, Read, Write, TooMuch}
+use Rattle.gate_hook.specs.declared.refusal.Refusal.{Refusal}
+use Rattle.gate_hook.specs.declared.requests.Served.{Served}
+use Rattle.gate_hook.specs.declared.response.Response.{Response}
+
+-- what making the response to this wish leaves
+abbrev pub Responds : Result Response HookFault → Records → Result Delivery Refusal → Records → Type 0
+Responds (Ok made) old wish new = IsResponse made (response_to old wish) × (new ≡ after_wish old wish) × HasRoom old wish
+Responds (Err (Gate Memory)) old wish new = (new ≡ old) ⊎ ((new ≡ after_wish old wish) × HasRoom old wish)
+Responds (Err (Gate Store)) old wish new = (new ≡ old) × IsDelivery wish
+Responds (Err (Gate Full)) old wish new = (new ≡ old) × MeetsFull old wish
+Responds (Err Read) old wish new = ⊥
+Responds (Err Write) old wish new = ⊥
+Responds (Err TooMuch) old wish new = ⊥
+
+-- what reading a request and making its response leave
+abbrev pub Answers : Result Response HookFault → List ℕ → Records → Records → Type 0
+Answers (Ok made) input old new =
+    (wish : Result Delivery Refusal) × Asks input wish × IsResponse made (response_to old wish) × (new ≡ after_wish old wish) × HasRoom old wish
+Answers (Err (Gate fault)) input old new = Breaks input fault old new
+Answers (Err Read) input old new = new ≡ old
+Answers (Err Write) input old new = ⊥
+Answers (Err TooMuch) input old new = ⊥
+
+-- a text was sent whole, or the writer refused it or the rest of it
+abbrev pub HasSent : Result Served HookFault → Served → List ℕ → Option (List ℕ) → Option (List ℕ) → Type 0
+HasSent (Ok done) served text before after = (done ≡ served) × Appends before after text
+HasSent (Err Write) served text before after = (taken : ℕ) × (taken < length text) × Appends before after (take taken text)
+HasSent (Err Read) served text before after = ⊥
+HasSent (Err (Gate fault)) served text before after = ⊥
+HasSent (Err TooMuch) served text before after = ⊥

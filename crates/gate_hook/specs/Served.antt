@@ -1,0 +1,68 @@
+-- ONE REQUEST: what is sent for it, and the records after it.
+use Rattle.std.specs.Prelude.{◌≡◌, ◌⊎◌, ℕ, ◌<◌, true, false, ⊤, List, [], length, take, Option, Some, None, Result, Ok, Err}
+use Rattle.std.specs.Io.KnownBytes.{Appends}
+use Rattle.gate_queue.specs.declared.fault.Fault.{Fault}
+use Rattle.gate_queue.specs.declared.fault.Fault.TheVariants.{Memory, Store, Full}
+use Rattle.gate_store.specs.Answers.{answer_text_of}
+use Rattle.gate_store.specs.Run.{Records, answer_to, after_delivery, meets_full}
+use Rattle.gate_store.specs.declared.delivery.Delivery.{Delivery}
+use Rattle.gate_hook.specs.Requests.{Asks}
+use Rattle.gate_hook.specs.Responses.{Response, response_text, answer_response, refusal_response, fault_response}
+use Rattle.gate_hook.specs.declared.fault.HookFault.{HookFault}
+use Rattle.gate_hook.specs.declared.fault.HookFault.TheVariants.{Gate, Read, Write, TooMuch}
+use Rattle.gate_hook.specs.declared.refusal.Refusal.{Refusal}
+use Rattle.gate_hook.specs.declared.requests.Served.{Served}
+
+-- A delivery is answered by the run. A refusal changes nothing.
+abbrev pub response_to : Records → Result Delivery Refusal → Response
+response_to records (Ok delivery) = answer_response (answer_text_of (answer_to records delivery))
+response_to records (Err refusal) = refusal_response refusal
+
+abbrev pub after_wish : Records → Result Delivery Refusal → Records
+after_wish records (Ok delivery) = after_delivery records delivery
+after_wish records (Err refusal) = records
+
+-- no act of a delivery that was let act met a full gate
+abbrev pub HasRoom : Records → Result Delivery Refusal → Type 0
+HasRoom records (Ok delivery) = meets_full records delivery ≡ false
+HasRoom records (Err refusal) = ⊤
+
+-- one of whose acts did
+abbrev pub MeetsFull : Records → Result Delivery Refusal → Type 0
+MeetsFull records (Ok delivery) = meets_full records delivery ≡ true
+MeetsFull records (Err refusal) = ⊥
+
+abbrev pub IsDelivery : Result Delivery Refusal → Type 0
+IsDelivery (Ok delivery) = ⊤
+IsDelivery (Err refusal) = ⊥
+
+-- The faults, and what each leaves: nothing has changed; or after `Memory`, the delivery has acted and its answer is kept, but there
+-- was no memory for its text. The records fail only at a delivery, and `Full` comes only at one of which an act meets a full gate.
+abbrev pub Breaks : List ℕ → Fault → Records → Records → Type 0
+Breaks input Memory old new =
+    (new ≡ old) ⊎ ((wish : Result Delivery Refusal) × Asks input wish × (new ≡ after_wish old wish) × HasRoom old wish)
+Breaks input Store old new = (new ≡ old) × ((wish : Result Delivery Refusal) × Asks input wish × IsDelivery wish)
+Breaks input Full old new = (new ≡ old) × ((wish : Result Delivery Refusal) × Asks input wish × MeetsFull old wish)
+
+-- this response is due, with this fault if there was one, and leaves these records
+abbrev pub IsDue : List ℕ → Records → Response → Option Fault → Records → Type 0
+IsDue input old response None new =
+    (wish : Result Delivery Refusal) × Asks input wish × (response ≡ response_to old wish) × (new ≡ after_wish old wish) × HasRoom old wish
+IsDue input old response (Some fault) new = (response ≡ fault_response) × Breaks input fault old new
+
+-- What serving one request leaves, of the input that there is: the response that is due is written, or a part from its front if the
+-- writer refused the rest; after a failed read nothing is written and nothing has changed.
+abbrev pub AnswersOne : Result Served HookFault → List ℕ → Records → Records → Option (List ℕ) → Option (List ℕ) → Type 0
+AnswersOne (Ok served) input old new before after =
+    (response : Response) × IsDue input old response served.fault new × (served.status ≡ response.status)
+    × Appends before after (response_text response)
+AnswersOne (Err Write) input old new before after =
+    (response : Response) × (fault : Option Fault) × IsDue input old response fault new
+    × ((taken : ℕ) × (taken < length (response_text response)) × Appends before after (take taken (response_text response)))
+AnswersOne (Err Read) input old new before after = (new ≡ old) × Appends before after []
+AnswersOne (Err (Gate fault)) input old new before after = ⊥
+AnswersOne (Err TooMuch) input old new before after = ⊥
+
+-- the input asks for no delivery
+abbrev pub IsRefused : List ℕ → Type 0
+IsRefused input = (delivery : Delivery) → Asks input (Ok delivery) → ⊥

@@ -1,0 +1,35 @@
+ghost use Rattle.std.specs.Prelude.{◌≡◌, false, ◌++◌, ◌∷◌, [], IfOk, IfErr, OnOk, Ok, ◌⊎◌};
+ghost use Rattle.std.specs.String.{string_bytes};
+ghost use Rattle.gate_store.specs.Run.{AgreesOnFull, IsOfKeepers, meets_full};
+ghost use Rattle.gate_hook.specs.Lines.{text_answered, after_reading};
+
+use gate_queue::Fault;
+use gate_store::{Book, Delivery, Keeper, answer_text};
+use std::alloc::{AllocError, Global};
+
+/// The text with a line feed behind it.
+pub fn with_line_feed(text: String) -> Result<String, AllocError>
+    ensures { IfOk result (λ ended. string_bytes ended ≡ string_bytes text ++ 10 ∷ []) }
+{
+    let mut ended = text;
+    ended.push('\n')?;
+    Ok(ended)
+}
+
+/// The text of the answer to a delivery, with its line feed.
+pub fn delivery_answer<B: Book>(
+    alloc: Global,
+    keeper: &mut Keeper<B>,
+    delivery: &Delivery,
+) -> Result<String, Fault>
+    ensures text { B.is_sound keeper.new → IfOk result (λ text. string_bytes text ≡ text_answered (B.shows keeper.old) (Ok delivery.now) ++ 10 ∷ []) }
+    ensures records { B.is_sound keeper.new → OnOk result (B.shows keeper.new ≡ after_reading (B.shows keeper.old) (Ok delivery.now)) }
+    ensures stops { B.is_sound keeper.new → IfErr result (λ fault. (B.shows keeper.new ≡ B.shows keeper.old) ⊎ ((fault ≡ Fault.Memory) × (B.shows keeper.new ≡ after_reading (B.shows keeper.old) (Ok delivery.now)) × (meets_full (B.shows keeper.old) delivery.now ≡ false))) }
+    ensures full { B.is_sound keeper.new → AgreesOnFull result (meets_full (B.shows keeper.old) delivery.now) }
+    ensures was { B.is_sound keeper.new → B.is_sound keeper.old }
+    ensures cause { IfErr result (IsOfKeepers B.may_answer) }
+{
+    let answer = keeper.deliver(alloc, delivery)?;
+    let text = answer_text(alloc, &answer)?;
+    Ok(with_line_feed(text)?)
+}

@@ -1,0 +1,193 @@
+ghost use Rattle.std.specs.Prelude.{◌≡◌, ℕ, All, length, map, codes, IsTrue, option_copied, ◌==◌};
+ghost use Rattle.std.specs.List.{list_all, position};
+ghost use Rattle.std.specs.Char.{is_ascii_digit};
+ghost use Rattle.httparse.specs.Grammar.{RequestHead};
+ghost use Rattle.httparse.specs.Spans.{IsHeaderWithin, IsRequestAt, IsRequestWithin, header_bytes};
+ghost use Rattle.gate_hook.specs.Heads as heads;
+ghost use Rattle.gate_hook.specs.Receiving.{IsFound, first_value};
+
+use crate::refusal::Refusal;
+use http::Method;
+use httparse::Status;
+use httparse::spans::{EMPTY_HEADER_SPAN, HeaderSpan, RequestSpans, parse_request};
+use std::str;
+
+/// The most bytes that a head may have.
+pub const MAX_HEAD: usize = 16_384;
+
+// The most fields that it may have.
+const MAX_FIELDS: usize = 64;
+
+// The most bytes that a body may have.
+const MAX_BODY: u64 = 65_536;
+
+/// A head that was read: how many bytes it has, and how long the body is, or why the request is refused.
+#[derive(Clone, Copy)]
+pub struct Head {
+    pub len: usize,
+    pub size: Result<usize, Refusal>,
+}
+
+/// What stands at the front of some bytes.
+#[derive(Clone, Copy)]
+pub enum Found {
+    /// A whole head.
+    Whole(Head),
+    /// No whole head yet. More bytes may make one.
+    Unfinished,
+    /// No head with so few fields, whatever follows.
+    Never,
+}
+
+// Whether a field has this name, in either case. Fields are told as places in the bytes.
+fn is_named(bytes: &[u8], field: HeaderSpan, name: &str) -> bool
+    requires { IsHeaderWithin (length bytes.now) field }
+    ensures { result ≡ heads.is_named name.now (header_bytes bytes.now field) }
+{
+    field.name.of(bytes).eq_ignore_ascii_case(name.as_bytes())
+}
+
+// How many fields have this name.
+fn count_of(bytes: &[u8], fields: &[HeaderSpan], name: &str) -> usize
+    requires { All (IsHeaderWithin (length bytes.now)) fields.now }
+    ensures { result ≡ length (heads.values_in name.now (map (header_bytes bytes.now) fields.now)) }
+{
+    let mut count = 0;
+    for field in fields {
+        if is_named(bytes, *field, name) {
+            count += 1;
+        }
+    }
+    count
+}
+
+// The value of the first field of this name, if there is one.
+fn first_of<'a>(bytes: &'a [u8], fields: &[HeaderSpan], name: &str) -> Option<&'a [u8]>
+    requires { All (IsHeaderWithin (length bytes.now)) fields.now }
+    ensures { option_copied result ≡ first_value (heads.values_in name.now (map (header_bytes bytes.now) fields.now)) }
+{
+    for field in fields {
+        if is_named(bytes, *field, name) {
+            return Some(field.value.of(bytes));
+        }
+    }
+    None
+}
+
+// The place of the first question mark, if there is one.
+fn question_mark(target: &[u8]) -> Option<usize>
+    ensures { result ≡ position (λ byte. byte == 63) target.now }
+{
+    target.iter().position(|byte| *byte == b'?')
+}
+
+// The bytes of a target up to its first question mark.
+fn path_of(target: &[u8]) -> &[u8]
+    ensures { result.now ≡ heads.path_of target.now }
+{
+    match question_mark(target) {
+        Some(end) => &target[..end],
+        None => target,
+    }
+}
+
+// Goes on if a test passes, and else refuses.
+fn checked(passes: bool, refusal: Refusal) -> Result<(), Refusal>
+    ensures { result ≡ heads.checked passes refusal }
+{
+    if passes { Ok(()) } else { Err(refusal) }
+}
+
+// Whether these bytes are decimal digits alone.
+fn are_digits(value: &[u8]) -> bool
+    ensures { result ≡ list_all is_ascii_digit value.now }
+{
+    value.iter().all(|byte| byte.is_ascii_digit())
+}
+
+// Whether there are one or more decimal digits, and nothing else.
+fn is_numeral(value: &[u8]) -> bool
+    ensures { result ≡ heads.is_numeral value.now }
+{
+    !value.is_empty() && are_digits(value)
+}
+
+// The length that decimal digits write, if a body may have it. One that no `u64` holds is too great, too.
+fn size_from(digits: &str) -> Result<usize, Refusal>
+    requires { IsTrue (heads.is_numeral digits.now) }
+    ensures { result ≡ heads.size_of digits.now }
+{
+    let Ok(size) = digits.parse::<u64>() else {
+        return Err(Refusal::ContentTooLarge);
+    };
+    checked(size <= MAX_BODY, Refusal::ContentTooLarge)?;
+    Ok(size as usize)
+}
+
+// The length that the value of a `Content-Length` gives.
+fn size_of(value: &[u8]) -> Result<usize, Refusal>
+    ensures { result ≡ heads.size_of value.now }
+{
+    if !is_numeral(value) {
+        return Err(Refusal::BadRequest);
+    }
+    match str::from_utf8(value) {
+        Ok(digits) => size_from(digits),
+        Err(_) => Err(Refusal::BadRequest),
+    }
+}
+
+// The length by all fields: exactly one has to give it.
+fn size_by(bytes: &[u8], fields: &[HeaderSpan]) -> Result<usize, Refusal>
+    requires { All (IsHeaderWithin (length bytes.now)) fields.now }
+    ensures { result ≡ heads.size_by (heads.values_in (codes "content-length") (map (header_bytes bytes.now) fields.now)) }
+{
+    let Some(value) = first_of(bytes, fields, "content-length") else {
+        return Err(Refusal::LengthRequired);
+    };
+    checked(
+        count_of(bytes, fields, "content-length") == 1,
+        Refusal::BadRequest,
+    )?;
+    size_of(value)
+}
+
+// How long the body is, or why the request is refused.
+fn size_in(bytes: &[u8], fields: &[HeaderSpan], request: &RequestSpans) -> Result<usize, Refusal>
+    requires within { IsRequestWithin bytes.now fields.now request.now }
+    ensures { (head : RequestHead) → IsRequestAt bytes.now fields.now request.now head → result ≡ heads.size_in head }
+{
+    let fields = &fields[..request.headers];
+    checked(
+        request.version == 0 || count_of(bytes, fields, "host") == 1,
+        Refusal::BadRequest,
+    )?;
+    checked(
+        path_of(request.path.of(bytes)) == b"/deliveries".as_slice(),
+        Refusal::NotFound,
+    )?;
+    checked(
+        request.method.of(bytes) == Method::POST.as_str().as_bytes(),
+        Refusal::MethodNotAllowed,
+    )?;
+    checked(
+        count_of(bytes, fields, "transfer-encoding") == 0,
+        Refusal::NotImplemented,
+    )?;
+    size_by(bytes, fields)
+}
+
+/// What stands at the front of these bytes.
+pub fn head_in(bytes: &[u8]) -> Found
+    ensures { IsFound result bytes.now }
+{
+    let mut fields = [EMPTY_HEADER_SPAN; MAX_FIELDS];
+    match parse_request(bytes, &mut fields) {
+        Ok(Status::Complete(request)) => Found::Whole(Head {
+            len: request.len,
+            size: size_in(bytes, &fields, &request),
+        }),
+        Ok(Status::Partial) => Found::Unfinished,
+        Err(_) => Found::Never,
+    }
+}

@@ -1,0 +1,53 @@
+ghost use Rattle.std.specs.Prelude.{◌≡◌};
+ghost use Rattle.gate_hook.specs.Responses as responses;
+
+use crate::reading::DeliveryFault;
+use http::StatusCode;
+
+/// Why a request is refused: the first check that it fails.
+#[derive(Clone, Copy, Debug, PartialEq, Eq)]
+pub enum Refusal {
+    /// There is no whole head within the limits, or not one `Host`, or no good length, or the body is cut short: 400.
+    BadRequest,
+    /// No route has this target: 404.
+    NotFound,
+    /// The route has another method: 405.
+    MethodNotAllowed,
+    /// The body has a transfer encoding: 501.
+    NotImplemented,
+    /// The length of the body isn't given: 411.
+    LengthRequired,
+    /// The body is longer than 65,536 bytes: 413.
+    ContentTooLarge,
+    /// The body is no delivery: 400 if it is no JSON object, and else 422.
+    NoDelivery(DeliveryFault),
+}
+
+// The status of a response to a body that is no delivery. Want of memory is no refusal, but has a status too.
+fn fault_status(fault: DeliveryFault) -> StatusCode
+    ensures { result ≡ responses.fault_status fault }
+{
+    match fault {
+        DeliveryFault::NotJson => StatusCode::BAD_REQUEST,
+        DeliveryFault::BadField(_) | DeliveryFault::UnknownEvent =>
+            StatusCode::UNPROCESSABLE_ENTITY,
+        DeliveryFault::Memory => StatusCode::SERVICE_UNAVAILABLE,
+    }
+}
+
+impl Refusal {
+    /// The status of the response.
+    pub fn status(self) -> StatusCode
+        ensures { result ≡ (responses.refusal_response self).status }
+    {
+        match self {
+            Refusal::BadRequest => StatusCode::BAD_REQUEST,
+            Refusal::NotFound => StatusCode::NOT_FOUND,
+            Refusal::MethodNotAllowed => StatusCode::METHOD_NOT_ALLOWED,
+            Refusal::NotImplemented => StatusCode::NOT_IMPLEMENTED,
+            Refusal::LengthRequired => StatusCode::LENGTH_REQUIRED,
+            Refusal::ContentTooLarge => StatusCode::PAYLOAD_TOO_LARGE,
+            Refusal::NoDelivery(fault) => fault_status(fault),
+        }
+    }
+}

@@ -1,0 +1,198 @@
+ghost use Rattle.std.specs.Prelude.{◌≡◌, ◌≤◌, ℕ, List, Ok, Some, IfSome, length, drop, IfOk, IfErr, OnOk, ◌⊎◌, false};
+ghost use Rattle.gate_store.specs.Run.{AgreesOnFull, IsOfKeepers, after_delivery, meets_full};
+ghost use Rattle.gate_hook.specs.Deliveries.{delivery_of};
+ghost use Rattle.gate_hook.specs.Lines.{MayEnd};
+ghost use Rattle.gate_hook.specs.Receiving.{HasAsked, IsInput, asked_by};
+ghost use Rattle.gate_hook.specs.Requests.{delivery_or};
+ghost use Rattle.gate_hook.specs.Responding.{Answers, HasSent, Responds};
+ghost use Rattle.gate_hook.specs.Responses.{IsResponse};
+ghost use Rattle.gate_hook.specs.Served.{AnswersOne, IsRefused, response_to};
+
+use crate::answering::delivery_answer;
+use crate::fault::HookFault;
+use crate::head::Head;
+use crate::reading::{DeliveryFault, read_delivery};
+use crate::receiving::{read_body, read_head};
+use crate::refusal::Refusal;
+use crate::response::{Response, json_response, refusal_response};
+use crate::sending::send;
+use gate_queue::Fault;
+use gate_store::{Book, Delivery, Keeper};
+use http::StatusCode;
+use std::alloc::{AllocError, Global};
+use std::io::{Read, Write};
+
+// The response after a fault. It takes no memory.
+const UNAVAILABLE: &str =
+    "HTTP/1.1 503 Service Unavailable\r\nContent-Length: 0\r\nConnection: close\r\n\r\n";
+
+/// How a request was served.
+#[derive(Clone, Copy, Debug, PartialEq, Eq)]
+pub struct Served {
+    /// The status of the response.
+    pub status: StatusCode,
+    /// The fault that was met, if the status is 503.
+    pub fault: Option<Fault>,
+}
+
+// What a request asks for: the delivery that its body is, or why it is refused.
+type Wish = Result<Delivery, Refusal>;
+
+// What a body asks for.
+fn wish_of(alloc: Global, body: &[u8]) -> Result<Wish, AllocError>
+    ensures { IfOk result (λ wish. wish ≡ delivery_or (delivery_of body.now)) }
+{
+    match read_delivery(alloc, body) {
+        Ok(delivery) => Ok(Ok(delivery)),
+        Err(DeliveryFault::Memory) => Err(AllocError),
+        Err(fault) => Ok(Err(Refusal::NoDelivery(fault))),
+    }
+}
+
+// What bytes ask for that begin with this head, and that have all of the body that there is.
+fn wish_in(alloc: Global, bytes: &[u8], head: &Head) -> Result<Wish, AllocError>
+    requires { head.now.len ≤ length bytes.now }
+    ensures { IfOk result (λ wish. wish ≡ asked_by head.now.size (drop head.now.len bytes.now)) }
+{
+    let rest = &bytes[head.len..];
+    match head.size {
+        Ok(size) => match rest.get(..size) {
+            Some(body) => wish_of(alloc, body),
+            None => Ok(Err(Refusal::BadRequest)),
+        },
+        Err(refusal) => Ok(Err(refusal)),
+    }
+}
+
+// Reads a request, as far as its answer needs.
+fn read_wish<R: Read>(alloc: Global, reader: &mut R) -> Result<Wish, HookFault>
+    ensures { HasAsked result (R.remaining reader.old) (R.remaining reader.new) }
+{
+    let mut bytes = Vec::new(alloc);
+    let head = match read_head(reader, &mut bytes) {
+        Ok(Some(head)) => head,
+        Ok(None) => return Ok(Err(Refusal::BadRequest)),
+        Err(fault) => return Err(fault),
+    };
+    match read_body(reader, &mut bytes, head.len, head.size.unwrap_or(0)) {
+        Ok(()) => {}
+        Err(fault) => return Err(fault),
+    }
+    match wish_in(alloc, &bytes, &head) {
+        Ok(wish) => Ok(wish),
+        Err(_) => Err(HookFault::Gate(Fault::Memory)),
+    }
+}
+
+// The response to a delivery.
+fn answered<B: Book>(
+    alloc: Global,
+    keeper: &mut Keeper<B>,
+    delivery: &Delivery,
+) -> Result<Response, Fault>
+    ensures response { B.is_sound keeper.new → IfOk result (λ response. IsResponse response (response_to (B.shows keeper.old) (Ok delivery.now))) }
+    ensures records { B.is_sound keeper.new → OnOk result (B.shows keeper.new ≡ after_delivery (B.shows keeper.old) delivery.now) }
+    ensures stops { B.is_sound keeper.new → IfErr result (λ fault. (B.shows keeper.new ≡ B.shows keeper.old) ⊎ ((fault ≡ Fault.Memory) × (B.shows keeper.new ≡ after_delivery (B.shows keeper.old) delivery.now) × (meets_full (B.shows keeper.old) delivery.now ≡ false))) }
+    ensures full { B.is_sound keeper.new → AgreesOnFull result (meets_full (B.shows keeper.old) delivery.now) }
+    ensures was { B.is_sound keeper.new → B.is_sound keeper.old }
+    ensures cause { IfErr result (IsOfKeepers B.may_answer) }
+{
+    let text = delivery_answer(alloc, keeper, delivery)?;
+    Ok(json_response(alloc, StatusCode::OK, text.as_str())?)
+}
+
+// The response to what is asked.
+fn respond<B: Book>(
+    alloc: Global,
+    keeper: &mut Keeper<B>,
+    wish: &Wish,
+) -> Result<Response, HookFault>
+    ensures responds { B.is_sound keeper.new → Responds result (B.shows keeper.old) wish.now (B.shows keeper.new) }
+    ensures was { B.is_sound keeper.new → B.is_sound keeper.old }
+    ensures cause { IfErr result (MayEnd B.may_answer) }
+{
+    match wish {
+        Ok(delivery) => match answered(alloc, keeper, delivery) {
+            Ok(response) => Ok(response),
+            Err(fault) => Err(HookFault::Gate(fault)),
+        },
+        Err(refusal) => Ok(refusal_response(alloc, *refusal)?),
+    }
+}
+
+// Reads a request, and makes its response.
+fn answer<B: Book, R: Read>(
+    alloc: Global,
+    keeper: &mut Keeper<B>,
+    reader: &mut R,
+) -> Result<Response, HookFault>
+    ensures answered { (input : List ℕ) × IsInput (R.remaining reader.old) (R.remaining reader.new) input
+        × (B.is_sound keeper.new → Answers result input (B.shows keeper.old) (B.shows keeper.new)) }
+    ensures was { B.is_sound keeper.new → B.is_sound keeper.old }
+    ensures cause { IfErr result (MayEnd B.may_answer) }
+{
+    let wish = match read_wish(alloc, reader) {
+        Ok(wish) => wish,
+        Err(fault) => return Err(fault),
+    };
+    respond(alloc, keeper, &wish)
+}
+
+// Sends a text, and tells how the request was served by it.
+fn send_as<W: Write>(writer: &mut W, text: &str, served: Served) -> Result<Served, HookFault>
+    ensures { HasSent result served text.now (W.contents writer.old) (W.contents writer.new) }
+{
+    match send(writer, text.as_bytes()) {
+        Ok(()) => Ok(served),
+        Err(_) => Err(HookFault::Write),
+    }
+}
+
+/// Serves one request of HTTP/1.0 or HTTP/1.1 (RFC 9112): reads it, lets a keeper answer the delivery that it has, and writes one
+/// response. It reads no more than the answer needs, and nothing of a request that is refused by its head.
+///
+/// A request that is refused changes nothing; the checks stand in `specs/Heads.antt` and `specs/Requests.antt`, in their order. After
+/// a fault of the keeper, or if there is no memory for a request or a response, the status is 503, and the response takes no memory.
+/// Nothing has changed then; but after `Memory` the delivery may have acted, with its answer kept. Whatever the fault, an answer that
+/// is kept is sent if the delivery is handed in again.
+///
+/// The two errors are `Read`, after which nothing is written and nothing has changed, and `Write`, after which a part of the
+/// response, but not all, is written, and a delivery that acted stays. The writer isn't flushed.
+pub fn serve_one<B: Book, R: Read, W: Write>(
+    alloc: Global,
+    keeper: &mut Keeper<B>,
+    reader: &mut R,
+    writer: &mut W,
+) -> Result<Served, HookFault>
+    // What is written, and the records after it, are those that the input asks for.
+    ensures served { (input : List ℕ) × IsInput (R.remaining reader.old) (R.remaining reader.new) input
+        × (B.is_sound keeper.new
+        → AnswersOne result input (B.shows keeper.old) (B.shows keeper.new) (W.contents writer.old) (W.contents writer.new)) }
+
+    // Input that asks for no delivery leaves the records as they were.
+    ensures refused { B.is_sound keeper.new → (input : List ℕ) → R.remaining reader.old ≡ Some input → IsRefused input → B.shows keeper.new ≡ B.shows keeper.old }
+
+    // A fault is one that the keeper may answer.
+    ensures cause { IfOk result (λ served. IfSome served.fault (IsOfKeepers B.may_answer)) }
+
+    // A book that is sound in the end was sound before.
+    ensures was { B.is_sound keeper.new → B.is_sound keeper.old }
+{
+    match answer(alloc, keeper, reader) {
+        Ok(response) => {
+            let served = Served {
+                status: response.status,
+                fault: None,
+            };
+            send_as(writer, response.text.as_str(), served)
+        }
+        Err(HookFault::Gate(fault)) => {
+            let served = Served {
+                status: StatusCode::SERVICE_UNAVAILABLE,
+                fault: Some(fault),
+            };
+            send_as(writer, UNAVAILABLE, served)
+        }
+        Err(fault) => Err(fault),
+    }
+}

@@ -1,0 +1,98 @@
+ghost use Rattle.std.specs.Prelude.{◌≡◌, ℕ, List, Some, None, IfOk};
+ghost use Rattle.std.specs.String.{string_bytes};
+ghost use Rattle.gate_hook.specs.Responses as responses;
+ghost use Rattle.gate_hook.specs.Responses.{IsResponse, now_of};
+
+use crate::answering::with_line_feed;
+use crate::errors::error_text;
+use crate::refusal::Refusal;
+use http::{Method, StatusCode};
+use std::alloc::{AllocError, Global};
+
+// The kind of a body that is JSON.
+const JSON: &str = "application/json";
+
+/// A response as it is sent: its status, and all its bytes.
+#[derive(Drop)]
+pub struct Response {
+    pub status: StatusCode,
+    pub text: String,
+}
+
+// A field line.
+fn field(alloc: Global, name: &str, value: &str) -> Result<String, AllocError>
+    ensures { IfOk result (λ text. string_bytes text ≡ responses.field name.now value.now) }
+{
+    format!(in alloc; "{name}: {value}\r\n")
+}
+
+// The same, if there is a value.
+fn field_if(alloc: Global, name: &str, value: Option<&str>) -> Result<String, AllocError>
+    ensures { IfOk result (λ text. string_bytes text ≡ responses.field_if name.now (now_of value.entry)) }
+{
+    match value {
+        Some(value) => field(alloc, name, value),
+        None => Ok(String::new(alloc)),
+    }
+}
+
+// The message, of which two fields stand here only if they are needed.
+fn message(
+    alloc: Global,
+    status: StatusCode,
+    kind: &str,
+    allow: &str,
+    body: &str,
+) -> Result<String, AllocError>
+    ensures { IfOk result (λ text. string_bytes text ≡ responses.message status kind.now allow.now body.now) }
+{
+    let length = body.len();
+    format!(in alloc;
+        "HTTP/1.1 {status}\r\n{kind}Content-Length: {length}\r\n{allow}Connection: close\r\n\r\n{body}"
+    )
+}
+
+// The response of these parts.
+#[tactic(auto, unfolding(crate::specs::Responses::response_text))]
+fn response_of(
+    alloc: Global,
+    status: StatusCode,
+    kind: Option<&str>,
+    allow: Option<&str>,
+    body: &str,
+) -> Result<Response, AllocError>
+    ensures { IfOk result (λ response. IsResponse response (record { status = status; kind = now_of kind.entry; allow = now_of allow.entry; body = body.now })) }
+{
+    let kind = field_if(alloc, "Content-Type", kind)?;
+    let allow = field_if(alloc, "Allow", allow)?;
+    let text = message(alloc, status, kind.as_str(), allow.as_str(), body)?;
+    Ok(Response { status, text })
+}
+
+/// The response whose body is a JSON text and a line feed, which the text here has already.
+pub fn json_response(alloc: Global, status: StatusCode, body: &str) -> Result<Response, AllocError>
+    ensures { IfOk result (λ response. IsResponse response (record { status = status; kind = Some responses.json; allow = None; body = body.now })) }
+{
+    response_of(alloc, status, Some(JSON), None, body)
+}
+
+/// The response to a request that is refused.
+pub fn refusal_response(alloc: Global, refusal: Refusal) -> Result<Response, AllocError>
+    ensures { IfOk result (λ response. IsResponse response (responses.refusal_response refusal)) }
+{
+    let status = refusal.status();
+    match refusal {
+        Refusal::NoDelivery(fault) => {
+            let text = with_line_feed(error_text(alloc, &fault)?)?;
+            json_response(alloc, status, text.as_str())
+        }
+        Refusal::MethodNotAllowed => {
+            response_of(alloc, status, None, Some(Method::POST.as_str()), "")
+        }
+        Refusal::BadRequest
+        | Refusal::NotFound
+        | Refusal::NotImplemented
+        | Refusal::LengthRequired
+        | Refusal::ContentTooLarge => response_of(alloc, status, None, None, ""),
+    }
+}
