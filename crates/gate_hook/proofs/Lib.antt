@@ -4,6 +4,7 @@ pub mod Fields
 pub mod Kept
 pub mod NoHead
 pub mod Numerals
+pub mod OneWish
 pub mod Progress
 pub mod Responding
 pub mod Splitting

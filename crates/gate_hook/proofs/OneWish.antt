@@ -1,0 +1,16 @@
+-- Input asks for one thing at the most.
+use Rattle.std.proofs.Common.{◌≡◌, ℕ, inl, inr, List, Result, refl, sym, ap, ◌∙◌}
+use Rattle.httparse.proofs.GrammarLemmas.{request_unique}
+use Rattle.httparse.specs.Grammar.{RequestHead}
+use Rattle.gate_store.specs.declared.delivery.Delivery.{Delivery}
+use Rattle.gate_hook.specs.Heads.{BeginsWith}
+use Rattle.gate_hook.specs.Requests.{Asks, asked}
+use Rattle.gate_hook.specs.declared.refusal.Refusal.{Refusal}
+
+pub one-wish : (input : List ℕ) (wish other : Result Delivery Refusal) → Asks input wish → Asks input other → wish ≡ other
+one-wish input wish other (inl (head, rest, begins, is)) (inl (head', rest', begins', is')) =
+    let same = request_unique input head head' rest rest' begins.reads begins'.reads in
+    is ∙ ap (λ (one : RequestHead). asked one rest) same.0 ∙ ap (asked head') same.1 ∙ sym is'
+one-wish input wish other (inl (head, rest, begins, is)) (inr (none, is')) = absurd (none head rest begins)
+one-wish input wish other (inr (none, is)) (inl (head, rest, begins, is')) = absurd (none head rest begins)
+one-wish input wish other (inr (none, is)) (inr (none', is')) = is ∙ sym is'
