@@ -8,8 +8,6 @@ mod line;
 mod lines;
 mod reading;
 mod sending;
-#[cfg(test)]
-mod tests;
 
 pub use errors::error_text;
 pub use fault::HookFault;

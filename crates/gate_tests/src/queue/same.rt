@@ -1,7 +1,8 @@
 ghost use Rattle.std.specs.Prelude.{◌≡◌, ◌↔◌, IsTrue, IfOk};
 
 use super::reading::read_act;
-use crate::readers::{check_pair, check_that, commit, context, cut, number};
+use crate::checks::{check_pair, check_that, cut};
+use crate::readers::{commit, context, number};
 use gate_queue::{Act, Branch, Head, Heads, Order, Orders, Reply, StatusState, Why};
 use gate_rules::Rule;
 use gate_text::List;

@@ -1,6 +1,7 @@
 use super::fitness::{fitness, flags};
 use super::levels::{admitted, with_role};
-use crate::readers::{check_that, check_words, cut, label, name, number, row_of, rule_words};
+use crate::checks::{check_that, check_words, cut, row_of};
+use crate::readers::{label, name, number, rule_words};
 use gate_rules::{Desk, Level, Rule};
 use gate_text::{ChangeNo, Name, Spoken, read_comment};
 use std::alloc::Global;

@@ -1,4 +1,4 @@
-use crate::readers::{self, check_that, check_words, row_of};
+use crate::checks::{check_that, check_words, row_of};
 use gate_text::{
     ChangeNo, Commit, Context, DeliveryId, Label, List, Name, Text, TextFault, TryCopy, copy_map,
 };
@@ -245,16 +245,14 @@ fn count_of<T: TryCopy + Drop>(rt: &impl Abort, alloc: Global, items: Vec<T>) ->
 fn lists(rt: HostRuntime) {
     let mut names = Vec::new(rt.alloc());
     for text in ["zoe", "al", "vera"] {
-        names
-            .push(readers::name(&rt, rt.alloc(), text))
-            .expect(&rt, "memory");
+        let name = Name::read(rt.alloc(), text).expect(&rt, "a name");
+        names.push(name).expect(&rt, "memory");
     }
     check_that(&rt, "names", count_of(&rt, rt.alloc(), names) == 3);
     let mut labels = Vec::new(rt.alloc());
     for text in ["zoe", "al", "vera"] {
-        labels
-            .push(readers::label(&rt, rt.alloc(), text))
-            .expect(&rt, "memory");
+        let label = Label::read(rt.alloc(), text).expect(&rt, "a label");
+        labels.push(label).expect(&rt, "memory");
     }
     check_that(&rt, "labels", count_of(&rt, rt.alloc(), labels) == 3);
 }
@@ -269,7 +267,8 @@ fn map_of(
     for word in text.split_whitespace() {
         let (id, change) = word.split_once(':').expect(rt, "a colon");
         let id = DeliveryId::read(alloc, id).expect(rt, "an identifier");
-        map.insert(id, readers::number(rt, change))?;
+        let change = ChangeNo::read(change).expect(rt, "a change number");
+        map.insert(id, change)?;
     }
     Ok(map)
 }
