@@ -15,8 +15,6 @@ mod refusal;
 mod requests;
 mod response;
 mod sending;
-#[cfg(test)]
-mod tests;
 
 pub use errors::error_text;
 pub use fault::HookFault;

@@ -1,7 +1,9 @@
-//! Tests of the libraries of `gate`, which they call as any other crate does. A crate with tests is proved twice, once with
-//! them and once without, so the tests of five crates stand here together.
+//! Tests of gate_rules, gate_queue and gate_store, by the calls that they offer, which they call as any other crate does. They
+//! need no database.
 #![tactic(auto)]
 
+#[cfg(test)]
+mod checks;
 #[cfg(test)]
 mod queue;
 #[cfg(test)]
@@ -10,5 +12,3 @@ mod readers;
 mod rules;
 #[cfg(test)]
 mod store;
-#[cfg(test)]
-mod text;

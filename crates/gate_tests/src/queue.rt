@@ -12,7 +12,8 @@ mod states;
 mod stories;
 mod tries;
 
-use crate::readers::{check_that, check_words, cut, is_change, name, number, row_of};
+use crate::checks::{check_that, check_words, cut, row_of};
+use crate::readers::{is_change, name, number};
 use gate_queue::{Fault, Gate, Reply};
 use gate_rules::{Desk, Role, Rule};
 use gate_text::Settings;

@@ -1,3 +1,2 @@
 mod answers;
 mod keeper;
-mod records;

@@ -1,6 +1,7 @@
 ghost use Rattle.std.specs.Prelude.{◌<◌};
 
-use crate::readers::{check_words, commit, context, cut, number, row_of};
+use crate::checks::{check_words, cut, row_of};
+use crate::readers::{commit, context, number};
 use gate_queue::{AllBut, Batch, Branch, Lane, Queue, Report, Stage};
 use std::alloc::Global;
 use std::process::Abort;

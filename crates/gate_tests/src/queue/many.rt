@@ -1,5 +1,5 @@
 use super::{check_shown, started, stepped};
-use crate::readers::counted;
+use crate::checks::counted;
 use gate_queue::Gate;
 use std::alloc::Global;
 use std::ops::Range;

@@ -1,7 +1,8 @@
 ghost use Rattle.gate_text.specs.Limits.{KeepsLimits};
 ghost use Rattle.gate_queue.specs.Acts.{ActKeepsLimits, IsMoment};
 
-use crate::readers::{commit, context, cut, label, name, number, role, rule_words};
+use crate::checks::cut;
+use crate::readers::{commit, context, label, name, number, role, rule_words};
 use gate_queue::{Act, Head, Order, Reply, StatusState, Why};
 use gate_text::{ChangeNo, Commit, Spoken, Text, read_comment};
 use std::alloc::Global;

@@ -1,7 +1,8 @@
 ghost use Rattle.std.specs.Prelude.{◌≡◌, ◌↔◌, IsTrue, IfOk};
 
 use super::reading::read_act;
-use crate::readers::{check_pair, check_that, commit, context, cut, number};
+use crate::checks::{check_pair, check_that, cut};
+use crate::readers::{commit, context, number};
 use gate_queue::{Act, Branch, Head, Heads, Order, Orders, Reply, StatusState, Why};
 use gate_rules::Rule;
 use gate_text::List;
@@ -33,24 +34,39 @@ fn clone_of_state(state: &StatusState) -> Result<StatusState, AllocError>
     state.clone()
 }
 
+// Whether failures of two statuses are the same reason.
+fn are_same_failures(rt: &impl Abort, alloc: Global, one: &str, other: &str) -> bool {
+    let one = Why::Failed(context(rt, alloc, one));
+    let other = Why::Failed(context(rt, alloc, other));
+    is_same_why(&one, &other)
+}
+
+fn head(rt: &impl Abort, alloc: Global, digit: &str) -> Head {
+    Head {
+        change: number(rt, "1"),
+        head: commit(rt, alloc, digit),
+    }
+}
+
+fn are_same_heads(rt: &impl Abort, alloc: Global, one: &str, other: &str) -> bool {
+    is_same_head(&head(rt, alloc, one), &head(rt, alloc, other))
+}
+
 #[test]
 fn reasons_states_and_heads(rt: HostRuntime) {
-    let failed = |name| Why::Failed(context(&rt, rt.alloc(), name));
-    check_that(&rt, "a reason", is_same_why(&failed("ci"), &failed("ci")));
-    check_that(
+    let alloc = rt.alloc();
+    check_pair(&rt, "ci", "ci", are_same_failures(&rt, alloc, "ci", "ci"));
+    check_pair(
         &rt,
-        "two reasons",
-        !is_same_why(&failed("ci"), &failed("lint")),
+        "ci",
+        "lint",
+        are_same_failures(&rt, alloc, "ci", "lint"),
     );
+    check_pair(&rt, "a", "a", are_same_heads(&rt, alloc, "a", "a"));
+    check_pair(&rt, "a", "b", are_same_heads(&rt, alloc, "a", "b"));
     let error = StatusState::Error;
     let clone = clone_of_state(&error).expect(&rt, "memory");
     check_that(&rt, "a clone", is_same_state(&error, &clone));
-    let head = |digit| Head {
-        change: number(&rt, "1"),
-        head: commit(&rt, rt.alloc(), digit),
-    };
-    check_that(&rt, "a head", is_same_head(&head("a"), &head("a")));
-    check_that(&rt, "two heads", !is_same_head(&head("a"), &head("b")));
 }
 
 // Acts, no two of which are the same.

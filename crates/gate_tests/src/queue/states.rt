@@ -1,6 +1,6 @@
 use super::reading::read_act;
 use super::started;
-use crate::readers::{check_words, cut, row_of};
+use crate::checks::{check_words, cut, row_of};
 use gate_queue::{Batch, Batches, Branch, Changes, Gate, Lane, Queue, Stage, State};
 use gate_rules::Desk;
 use std::alloc::Global;

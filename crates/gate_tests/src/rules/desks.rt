@@ -1,4 +1,5 @@
-use crate::readers::{change, cut, name, number};
+use crate::checks::cut;
+use crate::readers::{change, name, number};
 use gate_rules::{Desk, Role};
 use gate_text::{Settings, read_settings};
 use std::alloc::Global;

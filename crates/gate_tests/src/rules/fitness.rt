@@ -1,6 +1,7 @@
 use super::desks::{desk, strict};
 use super::words::check_table;
-use crate::readers::{change, check_that, check_words, commit, cut, is_change, number};
+use crate::checks::{check_that, check_words, cut};
+use crate::readers::{change, commit, is_change, number};
 use gate_queue::LosesApproval;
 use gate_rules::{Change, Desk, Phase, blocking_label, has_too_few_reviews, is_blocked};
 use gate_text::{ChangeNo, Label, Settings, read_settings};

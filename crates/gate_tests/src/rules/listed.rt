@@ -1,5 +1,6 @@
 use super::desks::put;
-use crate::readers::{check_words, cut, name, row_of};
+use crate::checks::{check_words, cut, row_of};
+use crate::readers::name;
 use gate_rules::{Desk, Role};
 use std::alloc::Global;
 use std::process::Abort;

@@ -1,6 +1,7 @@
 use super::fitness::{fitness, flags};
 use super::levels::{admitted, with_role};
-use crate::readers::{check_that, check_words, cut, label, name, number, row_of, rule_words};
+use crate::checks::{check_that, check_words, cut, row_of};
+use crate::readers::{label, name, number, rule_words};
 use gate_rules::{Desk, Level, Rule};
 use gate_text::{ChangeNo, Name, Spoken, read_comment};
 use std::alloc::Global;
@@ -96,18 +97,18 @@ pub(crate) fn check_table(
     }
 }
 
+fn check_copy(rt: &impl Abort, alloc: Global, rule: Rule) {
+    let copy = rule.copy(alloc).expect(rt, "memory");
+    check_that(rt, rule.word(), copy == rule);
+}
+
 #[test]
 fn copied_rules(rt: HostRuntime) {
-    let rules = [
-        Rule::UnknownChange,
-        Rule::NotPermitted(Level::Reviewer),
-        Rule::Blocked(label(&rt, rt.alloc(), "hold")),
-        Rule::TooFewReviews(1, 2),
-        Rule::BadSettings(3),
-        Rule::NoSuchBatch,
-    ];
-    for rule in rules.iter() {
-        let copy = rule.copy(rt.alloc()).expect(&rt, "memory");
-        check_that(&rt, rule.word(), copy == *rule);
-    }
+    let alloc = rt.alloc();
+    check_copy(&rt, alloc, Rule::UnknownChange);
+    check_copy(&rt, alloc, Rule::NotPermitted(Level::Reviewer));
+    check_copy(&rt, alloc, Rule::Blocked(label(&rt, alloc, "hold")));
+    check_copy(&rt, alloc, Rule::TooFewReviews(1, 2));
+    check_copy(&rt, alloc, Rule::BadSettings(3));
+    check_copy(&rt, alloc, Rule::NoSuchBatch);
 }

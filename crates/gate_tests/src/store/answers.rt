@@ -1,4 +1,4 @@
-use crate::readers::check_words;
+use crate::checks::check_words;
 use gate_store::{AnswerFault, answer_text, read_answer, reread};
 use std::alloc::Global;
 use std::process::Abort;

@@ -1,15 +1,19 @@
-use crate::readers::{check_that, check_words, commit, cut, name};
-use crate::store::records::sql_book;
-use gate_queue::{Fault, Gate};
+ghost use Rattle.std.specs.Prelude.{◌≤◌};
+
+use crate::checks::{check_words, cut};
+use crate::readers::{commit, name};
+use gate_queue::Gate;
 use gate_rules::Role;
 use gate_store::{Book, Delivery, Event, Keeper, PlainBook, answer_text};
 use gate_text::{ChangeNo, DeliveryId, Text};
 use std::alloc::Global;
 use std::process::Abort;
 
+type PlainKeeper = Keeper<PlainBook>;
+
 const DONE: &str = "[{\"orders\":[],\"verdict\":\"done\"}]";
 
-pub(super) fn identifier(rt: &impl Abort, alloc: Global, text: &str) -> DeliveryId {
+fn identifier(rt: &impl Abort, alloc: Global, text: &str) -> DeliveryId {
     DeliveryId::read(alloc, text).expect(rt, "an identifier")
 }
 
@@ -52,7 +56,7 @@ fn base_of<'a>(rt: &impl Abort, gate: &'a Gate) -> &'a str {
 }
 
 // What a delivery is answered, or its fault.
-fn answered<B: Book>(rt: &impl Abort, alloc: Global, keeper: &mut Keeper<B>, line: &str) -> String {
+fn answered(rt: &impl Abort, alloc: Global, keeper: &mut PlainKeeper, line: &str) -> String {
     let delivery = delivery(rt, alloc, line);
     match keeper.deliver(alloc, &delivery) {
         Ok(answer) => answer_text(alloc, &answer).expect(rt, "memory"),
@@ -60,32 +64,20 @@ fn answered<B: Book>(rt: &impl Abort, alloc: Global, keeper: &mut Keeper<B>, lin
     }
 }
 
-fn check_answer<B: Book>(
-    rt: &impl Abort,
-    alloc: Global,
-    keeper: &mut Keeper<B>,
-    line: &str,
-    due: &str,
-) {
+fn check_answer(rt: &impl Abort, alloc: Global, keeper: &mut PlainKeeper, line: &str, due: &str) {
     let found = answered(rt, alloc, keeper, line);
     check_words(rt, line, found.as_str(), due);
 }
 
 // A delivery is answered done, and leads to this base.
-fn check_base<B: Book>(
-    rt: &impl Abort,
-    alloc: Global,
-    keeper: &mut Keeper<B>,
-    line: &str,
-    base: &str,
-) {
+fn check_base(rt: &impl Abort, alloc: Global, keeper: &mut PlainKeeper, line: &str, base: &str) {
     check_answer(rt, alloc, keeper, line, DONE);
     let gate = keeper.gate(alloc).expect(rt, "memory");
     check_words(rt, line, base_of(rt, &gate), base);
 }
 
 // What a book keeps under an identifier.
-pub(super) fn kept<B: Book>(rt: &impl Abort, alloc: Global, book: &mut B, id: &str) -> String {
+fn kept(rt: &impl Abort, alloc: Global, book: &mut PlainBook, id: &str) -> String {
     let id = identifier(rt, alloc, id);
     match book.kept(alloc, &id).expect(rt, "memory") {
         Some(answer) => answer_text(alloc, &answer).expect(rt, "memory"),
@@ -93,60 +85,45 @@ pub(super) fn kept<B: Book>(rt: &impl Abort, alloc: Global, book: &mut B, id: &s
     }
 }
 
-// A book without records.
-fn plain_book(alloc: Global) -> PlainBook {
-    PlainBook::new(alloc, Gate::new(alloc))
+// A keeper without records, whose first batch will have this number.
+fn keeper_at(alloc: Global, next: u64) -> PlainKeeper
+    requires low { 1 ≤ next }
+    requires high { next ≤ 9_000_000_000_000_000 }
+{
+    Keeper::new(PlainBook::new(alloc, Gate::starting_at(alloc, next)))
 }
 
-fn check_repeats<B: Book + Drop>(rt: &impl Abort, alloc: Global, book: B) {
-    let mut keeper = Keeper::new(book);
-    check_base(rt, alloc, &mut keeper, "d1 base 0", "0");
-    check_base(rt, alloc, &mut keeper, "d1 base 1", "0");
-    check_base(rt, alloc, &mut keeper, "d2 base 1", "1");
-    check_base(rt, alloc, &mut keeper, "d1 role alice", "1");
-}
-
-#[test]
-fn repeats(rt: HostRuntime) {
-    let alloc = rt.alloc();
-    check_repeats(&rt, alloc, plain_book(alloc));
-    check_repeats(&rt, alloc, sql_book(&rt, alloc));
+// A book holds the answer to `d1`, and the base 0.
+fn check_book(rt: &impl Abort, alloc: Global, book: &mut PlainBook) {
+    check_words(rt, "d1", kept(rt, alloc, book, "d1").as_str(), DONE);
+    check_words(rt, "d9", kept(rt, alloc, book, "d9").as_str(), "none");
+    let gate = book.load(alloc).expect(rt, "memory");
+    check_words(rt, "load", base_of(rt, &gate), "0");
 }
 
 // The book goes out and into another keeper, which answers the same.
-fn check_handed_on<B: Book + Drop>(rt: &impl Abort, alloc: Global, book: B) {
-    let mut keeper = Keeper::new(book);
-    check_base(rt, alloc, &mut keeper, "d1 base 0", "0");
-    let mut book = keeper.into_book();
-    check_words(rt, "d1", kept(rt, alloc, &mut book, "d1").as_str(), DONE);
-    check_words(rt, "d9", kept(rt, alloc, &mut book, "d9").as_str(), "none");
-    let gate = book.load(alloc).expect(rt, "memory");
-    check_words(rt, "load", base_of(rt, &gate), "0");
-    let mut keeper = Keeper::new(book);
-    check_base(rt, alloc, &mut keeper, "d1 base 1", "0");
-    check_base(rt, alloc, &mut keeper, "d9 base 1", "1");
-}
-
 #[test]
 fn a_book_that_is_handed_on(rt: HostRuntime) {
-    let alloc = rt.alloc();
-    check_handed_on(&rt, alloc, plain_book(alloc));
-    check_handed_on(&rt, alloc, sql_book(&rt, alloc));
+    let mut keeper = keeper_at(rt.alloc(), 1);
+    check_base(&rt, rt.alloc(), &mut keeper, "d1 base 0", "0");
+    let mut book = keeper.into_book();
+    check_book(&rt, rt.alloc(), &mut book);
+    let mut keeper = Keeper::new(book);
+    check_base(&rt, rt.alloc(), &mut keeper, "d1 base 1", "0");
+    check_base(&rt, rt.alloc(), &mut keeper, "d9 base 1", "1");
 }
 
 // The numbers are used up: each act is `Full`, and what has no act, or has its answer, is not.
 #[test]
 fn a_full_gate(rt: HostRuntime) {
     let alloc = rt.alloc();
-    let gate = Gate::starting_at(alloc, 8_999_999_999_999_997);
-    let mut keeper = Keeper::new(PlainBook::new(alloc, gate));
+    let mut keeper = keeper_at(alloc, 8_999_999_999_999_997);
     check_answer(&rt, alloc, &mut keeper, "d1 base 0", "Full");
     check_answer(&rt, alloc, &mut keeper, "d1 role alice", "Full");
     check_answer(&rt, alloc, &mut keeper, "d2 Thanks!", "[]");
     check_answer(&rt, alloc, &mut keeper, "d2 base 0", "[]");
     check_answer(&rt, alloc, &mut keeper, "d3 bors ping", "Full");
-    let gate = Gate::starting_at(alloc, 8_999_999_999_999_996);
-    let mut keeper = Keeper::new(PlainBook::new(alloc, gate));
+    let mut keeper = keeper_at(alloc, 8_999_999_999_999_996);
     check_answer(&rt, alloc, &mut keeper, "d1 role alice", DONE);
 }
 
@@ -160,43 +137,35 @@ fn deliveries(rt: &impl Abort, alloc: Global, lines: &str) -> Vec<Delivery> {
     deliveries
 }
 
-// The fault of a run, and how many answers it gives.
-fn check_run_over<B: Book + Drop>(
-    rt: &impl Abort,
-    alloc: Global,
-    book: B,
-    lines: &str,
-    count: usize,
-    due: &str,
-) {
-    let mut keeper = Keeper::new(book);
+// How many answers a run gives, and its fault.
+fn told(rt: &impl Abort, alloc: Global, keeper: &mut PlainKeeper, lines: &str) -> String {
     let deliveries = deliveries(rt, alloc, lines);
     let (answers, fault) = keeper.run(alloc, deliveries.as_slice());
-    check_that(rt, lines, answers.len() == count);
-    let found = match fault {
-        None => "none",
-        Some(Fault::Full) => "Full",
-        Some(_) => "another",
-    };
-    check_words(rt, lines, found, due);
+    let count = answers.len();
+    match fault {
+        None => format!(in alloc; "{count}"),
+        Some(fault) => format!(in alloc; "{count} {fault}"),
+    }
+    .expect(rt, "memory")
 }
 
-fn check_run(rt: &impl Abort, alloc: Global, gate: Gate, lines: &str, count: usize, due: &str) {
-    check_run_over(rt, alloc, PlainBook::new(alloc, gate), lines, count, due);
+// A run by a keeper whose next batch has this number.
+fn check_run(rt: &impl Abort, alloc: Global, next: u64, lines: &str, due: &str)
+    requires low { 1 ≤ next }
+    requires high { next ≤ 9_000_000_000_000_000 }
+{
+    let mut keeper = keeper_at(alloc, next);
+    let found = told(rt, alloc, &mut keeper, lines);
+    check_words(rt, lines, found.as_str(), due);
 }
 
 #[test]
 fn runs(rt: HostRuntime) {
-    let alloc = rt.alloc();
     let facts = "d1 base 0\nd2 role alice";
-    check_run(&rt, alloc, Gate::new(alloc), "", 0, "none");
-    check_run(&rt, alloc, Gate::new(alloc), facts, 2, "none");
-    check_run_over(&rt, alloc, sql_book(&rt, alloc), facts, 2, "none");
-    let gate = Gate::starting_at(alloc, 8_999_999_999_999_996);
-    check_run(&rt, alloc, gate, facts, 2, "none");
-    let gate = Gate::starting_at(alloc, 8_999_999_999_999_997);
-    check_run(&rt, alloc, gate, facts, 0, "Full");
+    check_run(&rt, rt.alloc(), 1, "", "0");
+    check_run(&rt, rt.alloc(), 1, facts, "2");
+    check_run(&rt, rt.alloc(), 8_999_999_999_999_996, facts, "2");
+    check_run(&rt, rt.alloc(), 8_999_999_999_999_997, facts, "0 Full");
     let comments = "d1 Thanks!\nd1 base 0\nd2 base 0\nd3 Thanks!";
-    let gate = Gate::starting_at(alloc, 8_999_999_999_999_997);
-    check_run(&rt, alloc, gate, comments, 2, "Full");
+    check_run(&rt, rt.alloc(), 8_999_999_999_999_997, comments, "2 Full");
 }

@@ -1,15 +1,11 @@
-mod failing;
-mod fakes;
-mod texts;
-
 use std::process::Abort;
 
 // An assertion is dear to prove where many values are alive, so all stand in these two functions.
-fn check_text(rt: &impl Abort, found: &str, due: &str) {
+pub(crate) fn check_text(rt: &impl Abort, found: &str, due: &str) {
     assert_eq!(rt; found, due);
 }
 
 // What was asked about a case is so; a number of the case is told if it isn't.
-fn check_that(rt: &impl Abort, case: usize, is_so: bool) {
+pub(crate) fn check_that(rt: &impl Abort, case: usize, is_so: bool) {
     assert!(rt; is_so, "{case}");
 }

@@ -1,4 +1,4 @@
-use crate::readers::{check_that, check_words, counted, cut, row_of};
+use crate::checks::{check_that, check_words, counted, cut, row_of};
 use gate_text::{Command, Names, Spoken, read_comment};
 use std::alloc::Global;
 use std::process::Abort;

@@ -1,5 +1,5 @@
-use super::check_text;
-use crate::{DeliveryFault, Field, HookFault, error_text};
+use crate::checks::check_text;
+use gate_hook::{DeliveryFault, Field, HookFault, error_text};
 use gate_queue::{Fault, Reply};
 use gate_rules::{Level, Rule};
 use gate_store::answer_text;

@@ -1,4 +1,4 @@
-use crate::readers::{check_pair, check_that, check_words, counted, cut, row_of};
+use crate::checks::{check_pair, check_that, check_words, counted, cut, row_of};
 use gate_text::{Context, Contexts, Key, Label, Labels, Settings, SettingsFault, read_settings};
 use std::alloc::{AllocError, Global};
 use std::process::Abort;

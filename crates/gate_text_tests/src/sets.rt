@@ -1,7 +1,36 @@
-use crate::readers::{check_that, check_words, counted, label, label_set, name, name_set, row_of};
-use gate_text::{Set, Word};
+use crate::checks::{check_that, check_words, counted, row_of};
+use gate_text::{Label, LabelSet, Name, NameSet, Set, Word};
 use std::alloc::Global;
 use std::process::Abort;
+
+fn name(rt: &impl Abort, alloc: Global, text: &str) -> Name {
+    Name::read(alloc, text).expect(rt, "a name")
+}
+
+fn label(rt: &impl Abort, alloc: Global, text: &str) -> Label {
+    Label::read(alloc, text).expect(rt, "a label")
+}
+
+// The names of a list, and none of `-`.
+fn name_set(rt: &impl Abort, alloc: Global, list: &str) -> NameSet {
+    let mut set = NameSet::new(alloc);
+    if list != "-" {
+        for word in list.split(',') {
+            set.insert(name(rt, alloc, word)).expect(rt, "memory");
+        }
+    }
+    set
+}
+
+fn label_set(rt: &impl Abort, alloc: Global, list: &str) -> LabelSet {
+    let mut set = LabelSet::new(alloc);
+    if list != "-" {
+        for word in list.split(',') {
+            set.insert(label(rt, alloc, word)).expect(rt, "memory");
+        }
+    }
+    set
+}
 
 // Whether a copy of a set equals it, and without this word the other set.
 fn copied<T: Word + Drop>(

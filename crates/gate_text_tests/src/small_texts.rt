@@ -1,4 +1,4 @@
-use crate::readers::{self, check_that, check_words, row_of};
+use crate::checks::{check_that, check_words, row_of};
 use gate_text::{
     ChangeNo, Commit, Context, DeliveryId, Label, List, Name, Text, TextFault, TryCopy, copy_map,
 };
@@ -6,82 +6,85 @@ use std::alloc::{AllocError, Global};
 use std::collections::BTreeMap;
 use std::process::Abort;
 
-// What a text is read as, or its refusal.
-fn told(rt: &impl Abort, alloc: Global, read: Result<&str, TextFault>) -> String {
-    match read {
-        Ok(text) => String::from_str(alloc, text).expect(rt, "memory"),
-        Err(fault) => format!(in alloc; "{fault:?}").expect(rt, "memory"),
-    }
+// A text that was kept.
+fn kept(rt: &impl Abort, alloc: Global, text: &str) -> String {
+    String::from_str(alloc, text).expect(rt, "memory")
+}
+
+// Why a text was refused.
+fn refused(rt: &impl Abort, alloc: Global, fault: TextFault) -> String {
+    format!(in alloc; "{fault:?}").expect(rt, "memory")
 }
 
 // Each of these tells the copy of a text that was read.
 fn name_copy(rt: &impl Abort, alloc: Global, name: &Name) -> String {
     let copy = name.copy(alloc).expect(rt, "memory");
-    told(rt, alloc, Ok(copy.text()))
+    kept(rt, alloc, copy.text())
 }
 
 fn label_copy(rt: &impl Abort, alloc: Global, label: &Label) -> String {
     let copy = label.copy(alloc).expect(rt, "memory");
-    told(rt, alloc, Ok(copy.text()))
+    kept(rt, alloc, copy.text())
+}
+
+fn context_copy(rt: &impl Abort, alloc: Global, context: &Context) -> String {
+    let copy = context.copy(alloc).expect(rt, "memory");
+    kept(rt, alloc, copy.text())
 }
 
 fn identifier_copy(rt: &impl Abort, alloc: Global, id: &DeliveryId) -> String {
     let copy = id.copy(alloc).expect(rt, "memory");
-    told(rt, alloc, Ok(copy.text()))
+    kept(rt, alloc, copy.text())
 }
 
 // Each of these reads a text, copies what it has read, and tells the copy.
 fn name(rt: &impl Abort, alloc: Global, text: &str) -> String {
     match &Name::read(alloc, text) {
         Ok(name) => name_copy(rt, alloc, name),
-        Err(fault) => told(rt, alloc, Err(*fault)),
+        Err(fault) => refused(rt, alloc, *fault),
     }
 }
 
 fn label(rt: &impl Abort, alloc: Global, text: &str) -> String {
     match &Label::read(alloc, text) {
         Ok(label) => label_copy(rt, alloc, label),
-        Err(fault) => told(rt, alloc, Err(*fault)),
+        Err(fault) => refused(rt, alloc, *fault),
     }
 }
 
 fn context(rt: &impl Abort, alloc: Global, text: &str) -> String {
-    match Context::read(alloc, text) {
-        Ok(context) => told(
-            rt,
-            alloc,
-            Ok(context.copy(alloc).expect(rt, "memory").text()),
-        ),
-        Err(fault) => told(rt, alloc, Err(fault)),
+    match &Context::read(alloc, text) {
+        Ok(context) => context_copy(rt, alloc, context),
+        Err(fault) => refused(rt, alloc, *fault),
     }
 }
 
 fn identifier(rt: &impl Abort, alloc: Global, text: &str) -> String {
     match &DeliveryId::read(alloc, text) {
         Ok(id) => identifier_copy(rt, alloc, id),
-        Err(fault) => told(rt, alloc, Err(*fault)),
+        Err(fault) => refused(rt, alloc, *fault),
     }
 }
 
 fn commit(rt: &impl Abort, alloc: Global, text: &str) -> String {
     match Commit::read(text) {
-        Ok(commit) => told(rt, alloc, Ok(commit.text())),
-        Err(fault) => told(rt, alloc, Err(fault)),
+        Ok(commit) => kept(rt, alloc, commit.text()),
+        Err(fault) => refused(rt, alloc, fault),
     }
 }
 
 fn change(rt: &impl Abort, alloc: Global, text: &str) -> String {
     match ChangeNo::read(text) {
         Ok(change) => format!(in alloc; "{}", change.number()).expect(rt, "memory"),
-        Err(fault) => told(rt, alloc, Err(fault)),
+        Err(fault) => refused(rt, alloc, fault),
     }
 }
 
 // Any text, as a copy of what was kept of it.
 fn any(rt: &impl Abort, alloc: Global, text: &str) -> String {
-    let kept = Text::from_str(alloc, text).expect(rt, "memory");
-    let copy = kept.copy(alloc).expect(rt, "memory");
-    told(rt, alloc, Ok(copy.as_str()))
+    let first = Text::from_str(alloc, text).expect(rt, "memory");
+    let copy = first.copy(alloc).expect(rt, "memory");
+    kept(rt, alloc, copy.as_str())
 }
 
 // What a reader answers to the text.
@@ -101,7 +104,7 @@ fn answer(rt: &impl Abort, alloc: Global, reader: &str, text: &str) -> String {
 fn written_out(rt: &impl Abort, alloc: Global, text: &str) -> String {
     match text.split_once(" x ") {
         Some((count, rest)) => letters(rt, alloc, count, rest),
-        None => String::from_str(alloc, text).expect(rt, "memory"),
+        None => kept(rt, alloc, text),
     }
 }
 
@@ -232,29 +235,25 @@ fn any_text_is_kept(rt: HostRuntime) {
     }
 }
 
-// Copies a list through the bound, gives it back, and counts it.
+// Copies a list through the bound, and counts the items of the copy.
 fn count_of<T: TryCopy + Drop>(rt: &impl Abort, alloc: Global, items: Vec<T>) -> usize {
     let list = List::from(items);
     let copy = list.copy(alloc).expect(rt, "memory");
-    let count = copy.as_slice().len();
-    check_that(rt, "a list", copy.into_vec().len() == count);
-    count
+    copy.into_vec().len()
 }
 
 #[test]
 fn lists(rt: HostRuntime) {
     let mut names = Vec::new(rt.alloc());
     for text in ["zoe", "al", "vera"] {
-        names
-            .push(readers::name(&rt, rt.alloc(), text))
-            .expect(&rt, "memory");
+        let name = Name::read(rt.alloc(), text).expect(&rt, "a name");
+        names.push(name).expect(&rt, "memory");
     }
     check_that(&rt, "names", count_of(&rt, rt.alloc(), names) == 3);
     let mut labels = Vec::new(rt.alloc());
     for text in ["zoe", "al", "vera"] {
-        labels
-            .push(readers::label(&rt, rt.alloc(), text))
-            .expect(&rt, "memory");
+        let label = Label::read(rt.alloc(), text).expect(&rt, "a label");
+        labels.push(label).expect(&rt, "memory");
     }
     check_that(&rt, "labels", count_of(&rt, rt.alloc(), labels) == 3);
 }
@@ -269,7 +268,8 @@ fn map_of(
     for word in text.split_whitespace() {
         let (id, change) = word.split_once(':').expect(rt, "a colon");
         let id = DeliveryId::read(alloc, id).expect(rt, "an identifier");
-        map.insert(id, readers::number(rt, change))?;
+        let change = ChangeNo::read(change).expect(rt, "a change number");
+        map.insert(id, change)?;
     }
     Ok(map)
 }

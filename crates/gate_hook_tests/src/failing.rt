@@ -1,13 +1,13 @@
-use super::check_that;
-use super::fakes::{Refusal, Sink, Source};
-use crate::{HookFault, serve_lines};
+use crate::checks::check_that;
+use crate::fakes::{Refusal, Sink, Source};
+use gate_hook::{HookFault, serve_lines};
 use gate_queue::{Fault, Gate};
 use gate_store::{Keeper, PlainBook};
 use std::alloc::Global;
 use std::io::ErrorKind;
 use std::process::Abort;
 
-// What `stdin` and `stdout` of this crate have.
+// What `stdin` and `stdout` of gate_bot have.
 const INPUT: &str = concat!(
     r#"{"id":"d1","event":"role","person":"alice","role":"reviewer"}"#,
     "\n",

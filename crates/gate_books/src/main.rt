@@ -1,0 +1,45 @@
+//! A program for tests alone: it serves lines over other books than the program `gate` does, or tells what the book of that
+//! program holds at the end.
+//!
+//! `gate_books plain` serves them over a book without a database, `gate_books loaded` loads the state from the tables before
+//! each line, and `gate_books tables` prints the rows of the tables in place of the answers. `.ci/test_rows` starts it.
+#![tactic(auto)]
+
+mod fault;
+mod serving;
+mod tables;
+
+use crate::fault::BooksFault;
+use std::env;
+use std::io::{self, BufReader};
+use std::process::ExitCode;
+
+/// Does what the word behind the program's name asks for. The status is 1 after a fault, with one line `gate_books: WORD` on
+/// standard error.
+fn main(rt: HostRuntime) -> ExitCode {
+    match run(&rt) {
+        Ok(()) => ExitCode::SUCCESS,
+        Err(fault) => {
+            // If standard error fails too, there is nothing left to tell it by.
+            let _ = eprintln!(rt; "gate_books: {fault}");
+            ExitCode::FAILURE
+        }
+    }
+}
+
+fn run(rt: &HostRuntime) -> Result<(), BooksFault> {
+    let asked = asked(rt)?;
+    let mut reader = BufReader::new(rt.alloc(), rt.reader())?;
+    let mut writer = io::writer(rt);
+    match asked.as_str() {
+        "plain" => serving::serve_plain(rt.alloc(), &mut reader, &mut writer),
+        "loaded" => serving::serve_loaded(rt.alloc(), &mut reader, &mut writer),
+        "tables" => tables::print_tables(rt.alloc(), &mut reader, &mut writer),
+        _ => Err(BooksFault::Usage),
+    }
+}
+
+// The word behind the program's name.
+fn asked(rt: &HostRuntime) -> Result<String, BooksFault> {
+    env::args(rt)?.nth(1).ok_or(BooksFault::Usage)
+}

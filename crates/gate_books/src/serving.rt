@@ -1,0 +1,62 @@
+use crate::fault::BooksFault;
+use gate_hook::serve_lines;
+use gate_queue::Gate;
+use gate_sql::SqlBook;
+use gate_store::{Keeper, PlainBook};
+use sqlite::{Connection, MemStore};
+use std::alloc::Global;
+use std::io::{BufRead, Read, Write};
+
+/// The book that the program `gate` has.
+pub type MemoryBook = SqlBook<MemStore>;
+
+/// A book in a new database in memory.
+pub fn memory_book(alloc: Global) -> Result<MemoryBook, BooksFault> {
+    let connection = Connection::open_in_memory(alloc)?;
+    match SqlBook::new(alloc, connection) {
+        Ok(book) => Ok(book),
+        Err(refused) => Err(BooksFault::from(refused.fault)),
+    }
+}
+
+/// Serves all lines over a book without a database.
+pub fn serve_plain<R: Read, W: Write>(
+    alloc: Global,
+    reader: &mut R,
+    writer: &mut W,
+) -> Result<(), BooksFault> {
+    let mut keeper = Keeper::new(PlainBook::new(alloc, Gate::new(alloc)));
+    serve_lines(alloc, &mut keeper, reader, writer)?;
+    Ok(())
+}
+
+/// Serves all lines over one book in a database, each by a keeper of its own. A keeper that is new has no gate at hand, and so
+/// it loads the one of the book.
+pub fn serve_loaded<R: BufRead, W: Write>(
+    alloc: Global,
+    reader: &mut R,
+    writer: &mut W,
+) -> Result<(), BooksFault> {
+    let mut book = memory_book(alloc)?;
+    for _ in 0..u64::MAX {
+        let mut line = Vec::new(alloc);
+        if reader.read_until(b'\n', &mut line)? == 0 {
+            break;
+        }
+        book = served(alloc, book, line.as_slice(), writer)?;
+    }
+    Ok(())
+}
+
+// The book after one line, which a keeper has answered.
+fn served<W: Write>(
+    alloc: Global,
+    book: MemoryBook,
+    line: &[u8],
+    writer: &mut W,
+) -> Result<MemoryBook, BooksFault> {
+    let mut keeper = Keeper::new(book);
+    let mut rest = line;
+    serve_lines(alloc, &mut keeper, &mut rest, writer)?;
+    Ok(keeper.into_book())
+}

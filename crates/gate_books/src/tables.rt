@@ -1,0 +1,79 @@
+use crate::fault::BooksFault;
+use crate::serving::memory_book;
+use gate_hook::serve_lines;
+use gate_store::Keeper;
+use sqlite::types::ValueRef;
+use sqlite::{Connection, MemStore, Row};
+use std::alloc::Global;
+use std::io::{self, Read, Write};
+
+// The tables, and a statement that shows the rows of each by their key.
+const TABLES: [(&str, &str); 8] = [
+    ("desk", "SELECT * FROM desk ORDER BY one"),
+    ("people", "SELECT * FROM people ORDER BY name"),
+    ("changes", "SELECT * FROM changes ORDER BY number"),
+    (
+        "marks",
+        "SELECT * FROM marks ORDER BY change_no, kind, word",
+    ),
+    ("batches", "SELECT * FROM batches ORDER BY number"),
+    ("members", "SELECT * FROM members ORDER BY batch, place"),
+    ("statuses", "SELECT * FROM statuses ORDER BY batch, name"),
+    ("answers", "SELECT * FROM answers ORDER BY id"),
+];
+
+/// Serves all lines over a book in a database, drops the answers, and prints the rows of the tables: one on each line, the name
+/// of the table and the values of the columns with `|` between two.
+pub fn print_tables<R: Read, W: Write>(
+    alloc: Global,
+    reader: &mut R,
+    writer: &mut W,
+) -> Result<(), BooksFault> {
+    let mut connection = connection_after(alloc, reader)?;
+    for (table, sql) in TABLES {
+        print_table(&mut connection, writer, table, sql)?;
+    }
+    Ok(())
+}
+
+// The database of a book after all lines.
+fn connection_after<R: Read>(
+    alloc: Global,
+    reader: &mut R,
+) -> Result<Connection<MemStore>, BooksFault> {
+    let mut keeper = Keeper::new(memory_book(alloc)?);
+    serve_lines(alloc, &mut keeper, reader, &mut io::sink())?;
+    Ok(keeper.into_book().into_connection())
+}
+
+fn print_table<W: Write>(
+    connection: &mut Connection<MemStore>,
+    writer: &mut W,
+    table: &str,
+    sql: &str,
+) -> Result<(), BooksFault> {
+    for row in connection.query_all(sql, &[])? {
+        print_row(writer, table, &row)?;
+    }
+    Ok(())
+}
+
+fn print_row<W: Write>(writer: &mut W, table: &str, row: &Row) -> Result<(), BooksFault> {
+    write!(writer, "{table}")?;
+    for column in 0..row.column_count() {
+        write!(writer, "|")?;
+        print_value(writer, row.get_ref(column)?)?;
+    }
+    writeln!(writer)?;
+    Ok(())
+}
+
+fn print_value<W: Write>(writer: &mut W, value: ValueRef<'_>) -> Result<(), BooksFault> {
+    match value {
+        ValueRef::Int(number) => write!(writer, "{number}")?,
+        ValueRef::Text(text) => writer.write_all(text)?,
+        // No column may have such a value.
+        _ => write!(writer, "?")?,
+    }
+    Ok(())
+}
