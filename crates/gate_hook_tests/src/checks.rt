@@ -9,3 +9,8 @@ pub(crate) fn check_text(rt: &impl Abort, found: &str, due: &str) {
 pub(crate) fn check_that(rt: &impl Abort, case: usize, is_so: bool) {
     assert!(rt; is_so, "{case}");
 }
+
+// What was asked about a row is answered in these words.
+pub(crate) fn check_words(rt: &impl Abort, row: &str, found: &str, words: &str) {
+    assert_eq!(rt; found, words, "{row:?}");
+}

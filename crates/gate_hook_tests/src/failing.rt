@@ -1,5 +1,5 @@
 use crate::checks::check_that;
-use crate::fakes::{Refusal, Sink, Source};
+use crate::fakes::{NEVER, Refusal, Sink, Source, keeper_on, sink_of, source_of};
 use gate_hook::{HookFault, serve_lines};
 use gate_queue::{Fault, Gate};
 use gate_store::{Keeper, PlainBook};
@@ -33,9 +33,6 @@ const OUTPUT: &str = concat!(
     "\n",
 );
 
-// A call that is never reached.
-const NEVER: usize = usize::MAX;
-
 // How many lines of the text are complete.
 fn line_feeds(text: &[u8]) -> usize {
     let mut count = 0usize;
@@ -58,30 +55,6 @@ fn first_lines(rt: &impl Abort, alloc: Global, text: &str, count: usize) -> Stri
         lines.push_str(line).expect(rt, "memory");
     }
     lines
-}
-
-fn source(input: &str, step: usize) -> Source<'_> {
-    Source {
-        rest: input.as_bytes(),
-        step,
-        bad_call: NEVER,
-        kind: ErrorKind::Other,
-        calls: 0,
-    }
-}
-
-fn sink(alloc: Global, step: usize) -> Sink {
-    Sink {
-        held: Vec::new(alloc),
-        step,
-        bad_call: NEVER,
-        refusal: Refusal::TakesNothing,
-        calls: 0,
-    }
-}
-
-fn keeper_on(alloc: Global, gate: Gate) -> Keeper<PlainBook> {
-    Keeper::new(PlainBook::new(alloc, gate))
 }
 
 // Whether serving by this keeper ends so, and has written what is due.
@@ -109,8 +82,8 @@ fn ends_so(
 }
 
 fn check_pieces(rt: &impl Abort, alloc: Global, step_in: usize, step_out: usize) {
-    let mut source = source(INPUT, step_in);
-    let mut sink = sink(alloc, step_out);
+    let mut source = source_of(INPUT, step_in);
+    let mut sink = sink_of(alloc, step_out);
     let is_so = ends_so(alloc, &mut source, &mut sink, Ok(5), OUTPUT.as_bytes());
     check_that(rt, step_in, is_so);
 }
@@ -138,10 +111,10 @@ fn check_bad_read(
     bad_call: usize,
     kind: ErrorKind,
 ) {
-    let mut source = source(input, step);
+    let mut source = source_of(input, step);
     source.bad_call = bad_call;
     source.kind = kind;
-    let mut sink = sink(alloc, NEVER);
+    let mut sink = sink_of(alloc, NEVER);
     let all = reads(input, step);
     let (end, lines) = if bad_call < all {
         let complete = line_feeds(first_bytes(input, bad_call.saturating_mul(step)));
@@ -196,8 +169,8 @@ fn check_bad_write(
     refusal: Refusal,
     due: &[u8],
 ) {
-    let mut source = source(INPUT, 1);
-    let mut sink = sink(alloc, step);
+    let mut source = source_of(INPUT, 1);
+    let mut sink = sink_of(alloc, step);
     sink.bad_call = bad_call;
     sink.refusal = refusal;
     let (end, calls) = end_of_write(rt, alloc, due);
@@ -228,8 +201,8 @@ fn a_write_within_a_line_that_fails(rt: HostRuntime) {
 #[test]
 fn a_last_line_that_is_not_written(rt: HostRuntime) {
     for refusal in REFUSALS {
-        let mut source = source("\nhello", NEVER);
-        let mut sink = sink(rt.alloc(), NEVER);
+        let mut source = source_of("\nhello", NEVER);
+        let mut sink = sink_of(rt.alloc(), NEVER);
         sink.bad_call = 1;
         sink.refusal = refusal;
         let due = "{\"error\":\"NotJson\",\"number\":1}\n".as_bytes();
@@ -241,16 +214,16 @@ fn a_last_line_that_is_not_written(rt: HostRuntime) {
 
 // Whether this keeper answers all of these lines, and so.
 fn answers_so(alloc: Global, keeper: &mut Keeper<PlainBook>, input: &str, due: &str) -> bool {
-    let mut source = source(input, NEVER);
-    let mut sink = sink(alloc, NEVER);
+    let mut source = source_of(input, NEVER);
+    let mut sink = sink_of(alloc, NEVER);
     let end = Ok(line_feeds(input.as_bytes()) as u64);
     serves_so(alloc, keeper, &mut source, &mut sink, end, due.as_bytes())
 }
 
 // Whether this keeper meets a full gate at these lines, and has then written what is due.
 fn fills_so(alloc: Global, keeper: &mut Keeper<PlainBook>, input: &str, due: &str) -> bool {
-    let mut source = source(input, NEVER);
-    let mut sink = sink(alloc, NEVER);
+    let mut source = source_of(input, NEVER);
+    let mut sink = sink_of(alloc, NEVER);
     let end = Err(HookFault::Gate(Fault::Full));
     serves_so(alloc, keeper, &mut source, &mut sink, end, due.as_bytes())
 }
@@ -260,8 +233,8 @@ fn fills_so(alloc: Global, keeper: &mut Keeper<PlainBook>, input: &str, due: &st
 #[test]
 fn a_keeper_goes_on_after_a_failed_write(rt: HostRuntime) {
     let mut keeper = keeper_on(rt.alloc(), Gate::new(rt.alloc()));
-    let mut first = source(INPUT, 50);
-    let mut written = sink(rt.alloc(), NEVER);
+    let mut first = source_of(INPUT, 50);
+    let mut written = sink_of(rt.alloc(), NEVER);
     written.bad_call = 2;
     let end = Err(HookFault::Write);
     let due = first_lines(&rt, rt.alloc(), OUTPUT, 2);

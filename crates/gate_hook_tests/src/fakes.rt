@@ -1,3 +1,6 @@
+use gate_queue::Gate;
+use gate_store::{Keeper, PlainBook};
+use std::alloc::Global;
 use std::io::{Error, ErrorKind, Read, Result, Write};
 
 /// Gives at most `step` bytes at a call, and fails at one call. A call after that goes on as if nothing had been, so
@@ -62,4 +65,34 @@ impl Write for Sink {
     fn flush(&mut self) -> Result<()> {
         Ok(())
     }
+}
+
+/// A call that is never reached.
+pub const NEVER: usize = usize::MAX;
+
+/// Gives this input, and never fails.
+pub fn source_of(input: &str, step: usize) -> Source<'_> {
+    Source {
+        rest: input.as_bytes(),
+        step,
+        bad_call: NEVER,
+        kind: ErrorKind::Other,
+        calls: 0,
+    }
+}
+
+/// Takes all, and never fails.
+pub fn sink_of(alloc: Global, step: usize) -> Sink {
+    Sink {
+        held: Vec::new(alloc),
+        step,
+        bad_call: NEVER,
+        refusal: Refusal::TakesNothing,
+        calls: 0,
+    }
+}
+
+/// A keeper of this gate, without records in a database.
+pub fn keeper_on(alloc: Global, gate: Gate) -> Keeper<PlainBook> {
+    Keeper::new(PlainBook::new(alloc, gate))
 }

@@ -1,4 +1,4 @@
-//! Tests of gate_hook, by the calls that it offers: readers and writers that fail, and texts that no line is answered. What a
+//! Tests of gate_hook, by the calls that it offers: requests and their responses, readers and writers that fail, and texts that no line is answered. What a
 //! line of input can show stands in `rows/`.
 #![tactic(auto)]
 
@@ -8,5 +8,7 @@ mod checks;
 mod failing;
 #[cfg(test)]
 mod fakes;
+#[cfg(test)]
+mod requests;
 #[cfg(test)]
 mod texts;
