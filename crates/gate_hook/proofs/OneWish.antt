@@ -1,9 +1,8 @@
 -- Input asks for one thing at the most.
-use Rattle.std.proofs.Common.{◌≡◌, ℕ, inl, inr, List, Result, refl, sym, ap, ◌∙◌}
+use Rattle.std.proofs.Common.{◌≡◌, ℕ, inl, inr, List, Result, sym, ap, ◌∙◌}
 use Rattle.httparse.proofs.GrammarLemmas.{request_unique}
 use Rattle.httparse.specs.Grammar.{RequestHead}
 use Rattle.gate_store.specs.declared.delivery.Delivery.{Delivery}
-use Rattle.gate_hook.specs.Heads.{BeginsWith}
 use Rattle.gate_hook.specs.Requests.{Asks, asked}
 use Rattle.gate_hook.specs.declared.refusal.Refusal.{Refusal}
 

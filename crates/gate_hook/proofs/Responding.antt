@@ -1,5 +1,5 @@
 -- From what was asked to what is sent.
-use Rattle.std.proofs.Common.{◌≡◌, inl, inr, ℕ, ◌<◌, List, ◌++◌, length, take, Option, Some, None, Result, Ok, Err, refl, sym, ap, subst, ◌∙◌}
+use Rattle.std.proofs.Common.{◌≡◌, inl, inr, ℕ, ◌<◌, List, ◌++◌, length, take, Option, Some, None, Result, Ok, Err, refl, sym, ap, arith, true≢false, ◌↔◌, IsSome, IfOk, subst, ◌∙◌}
 use Rattle.std.specs.Io.KnownBytes.{Appends, Consumes}
 use Rattle.std.specs.String.{string_bytes}
 use Rattle.gate_queue.specs.declared.fault.Fault.{Fault}
@@ -10,13 +10,15 @@ use Rattle.gate_hook.specs.Lines.{MayEnd}
 use Rattle.gate_hook.specs.Receiving.{IsInput, IsUnread}
 use Rattle.gate_hook.specs.Requests.{Asks}
 use Rattle.gate_hook.specs.Responding.{Answers, HasSent, Responds}
-use Rattle.gate_hook.specs.Responses.{fault_response, response_text}
+use Rattle.gate_hook.specs.Responses.{Response, fault_response, response_text}
 use Rattle.gate_hook.specs.Served.{AnswersOne, Breaks, IsDue, IsRefused, after_wish, response_to}
 use Rattle.gate_hook.specs.declared.fault.HookFault.{HookFault}
 use Rattle.gate_hook.specs.declared.fault.HookFault.TheVariants.{Gate, Read, Write, TooMuch}
 use Rattle.gate_hook.specs.declared.refusal.Refusal.{Refusal}
 use Rattle.gate_hook.specs.declared.requests.Served.{Served}
-use Rattle.gate_hook.specs.declared.response.Response.{Response}
+use Rattle.gate_hook.specs.declared.refusal.Refusal.TheVariants.{BadRequest, NotFound, MethodNotAllowed, NotImplemented, LengthRequired, ContentTooLarge, NoDelivery}
+use Rattle.gate_hook.specs.declared.reading.DeliveryFault.TheVariants.{NotJson, BadField, UnknownEvent, Memory as NoMemory}
+use Rattle.gate_hook.specs.declared.response.Response.{Response as Made}
 use Rattle.gate_hook.proofs.NoHead.{is-left, left_of}
 
 -- A REQUEST THAT WASN'T READ: some input, and nothing has changed
@@ -32,7 +34,7 @@ may_end-unread may_answer fault (inl read) = rw read tt
 may_end-unread may_answer fault (inr memory) = rw memory (inl (inl refl))
 
 -- ONE THAT WAS READ
-pub answers-read : (result : Result Response HookFault) (input : List ℕ) (wish : Result Delivery Refusal) (old new : Records)
+pub answers-read : (result : Result Made HookFault) (input : List ℕ) (wish : Result Delivery Refusal) (old new : Records)
     → Asks input wish → Responds result old wish new → Answers result input old new
 answers-read (Ok made) input wish old new asks responds = (wish, asks, responds.0, responds.1, responds.2)
 answers-read (Err (Gate Memory)) input wish old new asks (inl same) = inl same
@@ -44,10 +46,10 @@ answers-read (Err Write) input wish old new asks responds = absurd responds
 answers-read (Err TooMuch) input wish old new asks responds = absurd responds
 
 -- WHAT IS SENT
-due : (made : Response) (input : List ℕ) (old new : Records) → (is : Answers (Ok made) input old new) → IsDue input old (response_to old is.0) None new
+due : (made : Made) (input : List ℕ) (old new : Records) → (is : Answers (Ok made) input old new) → IsDue input old (response_to old is.0) None new
 due made input old new is = (is.0, is.1, refl, is.3, is.4)
 
-pub sends-response : (result : Result Served HookFault) (made : Response) (input : List ℕ) (old new : Records) (before after : Option (List ℕ))
+pub sends-response : (result : Result Served HookFault) (made : Made) (input : List ℕ) (old new : Records) (before after : Option (List ℕ))
     → Answers (Ok made) input old new → HasSent result (record { status = made.status; fault = None }) (string_bytes made.text) before after
     → AnswersOne result input old new before after
 sends-response (Ok done) made input old new before after is sent =
@@ -91,7 +93,7 @@ refused-wish : (wish : Result Delivery Refusal) (input : List ℕ) (old new : Re
 refused-wish (Ok delivery) input old new refused asks is = absurd (refused delivery asks)
 refused-wish (Err refusal) input old new refused asks is = is
 
-pub refused-same : (result : Result Response HookFault) (input : List ℕ) (old new : Records) → IsRefused input → Answers result input old new → new ≡ old
+pub refused-same : (result : Result Made HookFault) (input : List ℕ) (old new : Records) → IsRefused input → Answers result input old new → new ≡ old
 refused-same (Ok made) input old new refused is = refused-wish is.0 input old new refused is.1 is.3
 refused-same (Err (Gate Memory)) input old new refused (inl same) = same
 refused-same (Err (Gate Memory)) input old new refused (inr kept) = refused-wish kept.0 input old new refused kept.1 kept.2
@@ -101,7 +103,31 @@ refused-same (Err Read) input old new refused is = is
 refused-same (Err Write) input old new refused is = absurd is
 refused-same (Err TooMuch) input old new refused is = absurd is
 
-pub unchanged : (result : Result Response HookFault) (before after : Option (List ℕ)) (whole input : List ℕ) (old new : Records)
+pub unchanged : (result : Result Made HookFault) (before after : Option (List ℕ)) (whole input : List ℕ) (old new : Records)
     → before ≡ Some whole → IsInput before after input → Answers result input old new → IsRefused whole → new ≡ old
 unchanged result before after whole input old new known is answers refused =
     refused-same result input old new (subst IsRefused (sym (same-input before after whole input known is)) refused) answers
+
+-- 503 IS THE STATUS AFTER A FAULT ALONE
+not_503 : (records : Records) (wish : Result Delivery Refusal) → (response_to records wish).status ≡ 503 → ⊥
+not_503 records (Ok delivery) is = grind (arith, is)
+not_503 records (Err BadRequest) is = grind (arith, is)
+not_503 records (Err NotFound) is = grind (arith, is)
+not_503 records (Err MethodNotAllowed) is = grind (arith, is)
+not_503 records (Err NotImplemented) is = grind (arith, is)
+not_503 records (Err LengthRequired) is = grind (arith, is)
+not_503 records (Err ContentTooLarge) is = grind (arith, is)
+not_503 records (Err (NoDelivery NotJson)) is = grind (arith, is)
+not_503 records (Err (NoDelivery (BadField field))) is = grind (arith, is)
+not_503 records (Err (NoDelivery UnknownEvent)) is = grind (arith, is)
+not_503 records (Err (NoDelivery NoMemory)) is = grind (arith, is)
+
+told : (status : ℕ) (fault : Option Fault) (input : List ℕ) (old new : Records) (response : Response) → IsDue input old response fault new → status ≡ response.status
+    → (status ≡ 503) ↔ IsSome fault
+told status None input old new response is_due is = (λ (unavailable : status ≡ 503). absurd (not_503 old is_due.0 (sym (ap (λ (one : Response). one.status) is_due.2) ∙ sym is ∙ unavailable)), λ some. absurd (true≢false (sym some)))
+told status (Some fault) input old new response is_due is = (λ unavailable. refl, λ some. is ∙ ap (λ (one : Response). one.status) is_due.0)
+
+pub exact-one : (result : Result Served HookFault) (input : List ℕ) (old new : Records) (before after : Option (List ℕ))
+    → AnswersOne result input old new before after → IfOk result (λ (served : Served). (served.status ≡ 503) ↔ IsSome served.fault)
+exact-one (Ok served) input old new before after is = told served.status served.fault input old new is.0 is.1 is.2
+exact-one (Err fault) input old new before after is = tt

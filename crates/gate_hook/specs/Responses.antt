@@ -55,11 +55,12 @@ bare status = record { status = status; kind = None; allow = None; body = [] }
 abbrev pub of_json : ℕ → List ℕ → Response
 of_json status text = record { status = status; kind = Some json; allow = None; body = text ++ 10 ∷ [] }
 
+-- of a body that is no delivery; `Memory` isn't what a body says, and never comes here
 abbrev pub fault_status : DeliveryFault → ℕ
 fault_status NotJson = 400
 fault_status (BadField field) = 422
 fault_status UnknownEvent = 422
-fault_status Memory = 503
+fault_status Memory = 400
 
 abbrev pub refusal_response : Refusal → Response
 refusal_response BadRequest = bare 400

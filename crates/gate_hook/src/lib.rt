@@ -1,4 +1,4 @@
-//! What comes in and goes out: deliveries as JSON, and lines of them, which a keeper answers.
+//! What comes in and goes out: deliveries as JSON, lines of them, and requests over HTTP, which a keeper answers.
 #![tactic(auto)]
 
 mod answering;

@@ -23,15 +23,14 @@ pub enum Refusal {
     NoDelivery(DeliveryFault),
 }
 
-// The status of a response to a body that is no delivery. Want of memory is no refusal, but has a status too.
+// The status of a response to a body that is no delivery. Want of memory is no refusal: no refusal holds it.
 fn fault_status(fault: DeliveryFault) -> StatusCode
     ensures { result ≡ responses.fault_status fault }
 {
     match fault {
-        DeliveryFault::NotJson => StatusCode::BAD_REQUEST,
+        DeliveryFault::NotJson | DeliveryFault::Memory => StatusCode::BAD_REQUEST,
         DeliveryFault::BadField(_) | DeliveryFault::UnknownEvent =>
             StatusCode::UNPROCESSABLE_ENTITY,
-        DeliveryFault::Memory => StatusCode::SERVICE_UNAVAILABLE,
     }
 }
 

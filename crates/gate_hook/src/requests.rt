@@ -1,4 +1,4 @@
-ghost use Rattle.std.specs.Prelude.{◌≡◌, ◌≤◌, ℕ, List, Ok, Some, IfSome, length, drop, IfOk, IfErr, OnOk, ◌⊎◌, false};
+ghost use Rattle.std.specs.Prelude.{◌≡◌, ◌≤◌, ◌↔◌, ℕ, List, Ok, Some, IfSome, IsSome, length, drop, IfOk, IfErr, OnOk, ◌⊎◌, false};
 ghost use Rattle.gate_store.specs.Run.{AgreesOnFull, IsOfKeepers, after_delivery, meets_full};
 ghost use Rattle.gate_hook.specs.Deliveries.{delivery_of};
 ghost use Rattle.gate_hook.specs.Lines.{MayEnd};
@@ -149,7 +149,7 @@ fn send_as<W: Write>(writer: &mut W, text: &str, served: Served) -> Result<Serve
 }
 
 /// Serves one request of HTTP/1.0 or HTTP/1.1 (RFC 9112): reads it, lets a keeper answer the delivery that it has, and writes one
-/// response. It reads no more than the answer needs, and nothing of a request that is refused by its head.
+/// response. It asks for no more bytes once the answer is known, and for none of the body if the head is refused.
 ///
 /// A request that is refused changes nothing; the checks stand in `specs/Heads.antt` and `specs/Requests.antt`, in their order. After
 /// a fault of the keeper, or if there is no memory for a request or a response, the status is 503, and the response takes no memory.
@@ -171,6 +171,9 @@ pub fn serve_one<B: Book, R: Read, W: Write>(
 
     // Input that asks for no delivery leaves the records as they were.
     ensures refused { B.is_sound keeper.new → (input : List ℕ) → R.remaining reader.old ≡ Some input → IsRefused input → B.shows keeper.new ≡ B.shows keeper.old }
+
+    // The status is 503 exactly if there was a fault.
+    ensures exact { B.is_sound keeper.new → IfOk result (λ served. (served.status ≡ 503) ↔ IsSome served.fault) }
 
     // A fault is one that the keeper may answer.
     ensures cause { IfOk result (λ served. IfSome served.fault (IsOfKeepers B.may_answer)) }

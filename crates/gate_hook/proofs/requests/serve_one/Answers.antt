@@ -1,7 +1,7 @@
 use Rattle.std.proofs.Common.{Err, Ok, codes, refl, sym}
 use Rattle.std.specs.Fmt.{digits}
 use Rattle.gate_hook.specs.Responses.{response_text}
-use Rattle.gate_hook.proofs.Responding.{sends-fault, sends-response, unchanged}
+use Rattle.gate_hook.proofs.Responding.{exact-one, sends-fault, sends-response, unchanged}
 use Rattle.gate_hook.proofs.requests.serve_one.Goals as goal
 
 pub returns-in-Ok-clause-served : goal.returns-in-Ok-clause-served
@@ -28,3 +28,9 @@ pub returns-in-Err-Gate-clause-refused : goal.returns-in-Err-Gate-clause-refused
 returns-in-Err-Gate-clause-refused g c sound input known refused =
     let answered = c.in-Err-Gate.ensures.answered in
     unchanged (Err c.in-Err-Gate.field-0) _ _ input answered.0 _ _ known answered.1 (answered.2 sound) refused
+
+pub returns-in-Ok-clause-exact : goal.returns-in-Ok-clause-exact
+returns-in-Ok-clause-exact g c sound = exact-one _ _ _ _ _ _ ((returns-in-Ok-clause-served g c).2 sound)
+
+pub returns-in-Err-Gate-clause-exact : goal.returns-in-Err-Gate-clause-exact
+returns-in-Err-Gate-clause-exact g c sound = exact-one _ _ _ _ _ _ ((returns-in-Err-Gate-clause-served g c).2 sound)
