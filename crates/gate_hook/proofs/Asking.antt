@@ -8,8 +8,8 @@ use Rattle.std.specs.Result.{result_unwrap_or}
 use Rattle.httparse.specs.Grammar.{print_request}
 use Rattle.gate_store.specs.declared.delivery.Delivery.{Delivery}
 use Rattle.gate_hook.specs.Heads.{BeginsWith, max_head}
-use Rattle.gate_hook.specs.Receiving.{HasAsked, HasReadBody, HasReadHead, IsHeadOf, asked_by}
-use Rattle.gate_hook.specs.Requests.{body_in}
+use Rattle.gate_hook.specs.Receiving.{HasAsked, HasReadBody, HasReadHead, IsHeadOf}
+use Rattle.gate_hook.specs.Requests.{asked_by, body_in}
 use Rattle.gate_hook.specs.declared.head.Head.{Head}
 use Rattle.gate_hook.specs.declared.refusal.Refusal.{Refusal}
 use Rattle.gate_hook.proofs.NoHead.{is-left, left_of}
@@ -24,14 +24,14 @@ asked-same : (size : Result ℕ Refusal) (rest more : List ℕ) → result_unwra
 asked-same (Ok size) rest more fits = rw (body-same size rest more fits) refl
 asked-same (Err refusal) rest more fits = refl
 
-none-left : (after : Option (List ℕ)) → IsAtEnd after → left_of after ≡ []
-none-left None end = refl
-none-left (Some known) end = end
+left-none : (after : Option (List ℕ)) → IsAtEnd after → left_of after ≡ []
+left-none None end = refl
+left-none (Some known) end = end
 
 -- the bytes of the body are there, or no more bytes come
 asked-whole : (size : Result ℕ Refusal) (rest : List ℕ) (after : Option (List ℕ)) → (result_unwrap_or size 0 ≤ length rest) ⊎ IsAtEnd after → asked_by size (rest ++ left_of after) ≡ asked_by size rest
 asked-whole size rest after (inl fits) = asked-same size rest (left_of after) fits
-asked-whole size rest after (inr end) = ap (asked_by size) (ap (λ (more : List ℕ). rest ++ more) (none-left after end) ∙ append-nil rest)
+asked-whole size rest after (inr end) = ap (asked_by size) (ap (λ (more : List ℕ). rest ++ more) (left-none after end) ∙ append-nil rest)
 
 -- a head stands at the front of all that was read and is left
 begins : (first more others : List ℕ) (told : Head) (is : IsHeadOf told first) → told.len ≤ max_head → BeginsWith ((first ++ more) ++ others) is.head (drop told.len first ++ (more ++ others))

@@ -6,10 +6,9 @@ use Rattle.gate_queue.specs.declared.fault.Fault.{Fault}
 use Rattle.gate_queue.specs.declared.fault.Fault.TheVariants.{Memory, Store, Full}
 use Rattle.gate_store.specs.Run.{Records}
 use Rattle.gate_store.specs.declared.delivery.Delivery.{Delivery}
-use Rattle.gate_hook.specs.Lines.{MayEnd}
 use Rattle.gate_hook.specs.Receiving.{IsInput, IsUnread}
 use Rattle.gate_hook.specs.Requests.{Asks}
-use Rattle.gate_hook.specs.Responding.{Answers, HasSent, Responds}
+use Rattle.gate_hook.specs.Responding.{Answers, HasSent, MayFail, Responds}
 use Rattle.gate_hook.specs.Responses.{Response, fault_response, response_text}
 use Rattle.gate_hook.specs.Served.{AnswersOne, Breaks, IsDue, IsRefused, after_wish, response_to}
 use Rattle.gate_hook.specs.declared.fault.HookFault.{HookFault}
@@ -29,9 +28,9 @@ pub answers-unread : (fault : HookFault) (input : List ℕ) (records : Records) 
 answers-unread fault input records (inl read) = rw read refl
 answers-unread fault input records (inr memory) = rw memory (inl refl)
 
-pub may_end-unread : (may_answer : Fault → Type 0) (fault : HookFault) → IsUnread fault → MayEnd may_answer fault
-may_end-unread may_answer fault (inl read) = rw read tt
-may_end-unread may_answer fault (inr memory) = rw memory (inl (inl refl))
+pub may_fail-unread : (may_answer : Fault → Type 0) (fault : HookFault) → IsUnread fault → MayFail may_answer fault
+may_fail-unread may_answer fault (inl read) = rw read tt
+may_fail-unread may_answer fault (inr memory) = rw memory (inl (inl refl))
 
 -- ONE THAT WAS READ
 pub answers-read : (result : Result Made HookFault) (input : List ℕ) (wish : Result Delivery Refusal) (old new : Records)

@@ -4,10 +4,8 @@ use Rattle.std.specs.Io.KnownBytes.{Consumes, Keeps, IsAtEnd}
 use Rattle.httparse.specs.Grammar.{RequestHead, ReadsRequest, HasNoRequest, print_request}
 use Rattle.httparse.specs.Spans.{RequestOverflows}
 use Rattle.gate_queue.specs.declared.fault.Fault.TheVariants.{Memory}
-use Rattle.gate_text.specs.Steps.{◌>>=◌}
 use Rattle.gate_store.specs.declared.delivery.Delivery.{Delivery}
-use Rattle.gate_hook.specs.Deliveries.{delivery_of}
-use Rattle.gate_hook.specs.Requests.{Asks, body_in, delivery_or}
+use Rattle.gate_hook.specs.Requests.{Asks}
 use Rattle.gate_hook.specs.declared.refusal.Refusal.{Refusal}
 use Rattle.gate_hook.specs.Heads.{max_fields, max_head, size_in, HasNoHead}
 use Rattle.gate_hook.specs.declared.fault.HookFault.{HookFault}
@@ -76,10 +74,6 @@ HasReadBody (Err fault) before after old new front size = Fails fault before aft
 -- what the input was: the bytes that were taken, and those that are left
 abbrev pub IsInput : Option (List ℕ) → Option (List ℕ) → List ℕ → Type 0
 IsInput before after input = (taken : List ℕ) × (rest : List ℕ) × Consumes before after taken × IsLeft after rest × (input ≡ taken ++ rest)
-
--- what a head and the bytes behind it ask for
-abbrev pub asked_by : Result ℕ Refusal → List ℕ → Result Delivery Refusal
-asked_by size rest = size >>= λ (size : ℕ). body_in size rest >>= λ (body : List ℕ). delivery_or (delivery_of body)
 
 -- The request was read, as far as its answer needs.
 abbrev pub HasAsked : Result (Result Delivery Refusal) HookFault → Option (List ℕ) → Option (List ℕ) → Type 0

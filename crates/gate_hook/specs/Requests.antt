@@ -13,16 +13,20 @@ use Rattle.gate_hook.specs.declared.refusal.Refusal.TheVariants.{BadRequest, NoD
 abbrev pub body_in : ℕ → List ℕ → Result (List ℕ) Refusal
 body_in size rest = if nat_le size (length rest) then Ok (take size rest) else Err BadRequest
 
-abbrev pub delivery_or : Result Delivery DeliveryFault → Result Delivery Refusal
-delivery_or (Ok delivery) = Ok delivery
-delivery_or (Err fault) = Err (NoDelivery fault)
+abbrev pub delivery_or_refusal : Result Delivery DeliveryFault → Result Delivery Refusal
+delivery_or_refusal (Ok delivery) = Ok delivery
+delivery_or_refusal (Err fault) = Err (NoDelivery fault)
+
+-- what the bytes behind a head ask for, by what the head says of the body
+abbrev pub asked_by : Result ℕ Refusal → List ℕ → Result Delivery Refusal
+asked_by said rest = do
+  size ← said
+  body ← body_in size rest
+  delivery_or_refusal (delivery_of body)
 
 -- what the request asks for
 abbrev pub asked : RequestHead → List ℕ → Result Delivery Refusal
-asked head rest = do
-  size ← size_in head
-  body ← body_in size rest
-  delivery_or (delivery_of body)
+asked head rest = asked_by (size_in head) rest
 
 -- what the input asks for: it has one head at the most, and input without a head is refused
 abbrev pub Asks : List ℕ → Result Delivery Refusal → Type 0

@@ -1,8 +1,9 @@
 -- How a response is made and sent, for the contracts of the functions that `serve_one` is made of.
-use Rattle.std.specs.Prelude.{◌≡◌, ◌⊎◌, ℕ, ◌<◌, List, length, take, Option, Result, Ok, Err}
+use Rattle.std.specs.Prelude.{◌≡◌, ◌⊎◌, ℕ, ◌<◌, ⊤, List, length, take, Option, Result, Ok, Err}
 use Rattle.std.specs.Io.KnownBytes.{Appends}
+use Rattle.gate_queue.specs.declared.fault.Fault.{Fault}
 use Rattle.gate_queue.specs.declared.fault.Fault.TheVariants.{Memory, Store, Full}
-use Rattle.gate_store.specs.Run.{Records}
+use Rattle.gate_store.specs.Run.{Records, IsOfKeepers}
 use Rattle.gate_store.specs.declared.delivery.Delivery.{Delivery}
 use Rattle.gate_hook.specs.Requests.{Asks}
 use Rattle.gate_hook.specs.Responses.{IsResponse}
@@ -22,6 +23,13 @@ Responds (Err (Gate Full)) old wish new = (new ≡ old) × MeetsFull old wish
 Responds (Err Read) old wish new = ⊥
 Responds (Err Write) old wish new = ⊥
 Responds (Err TooMuch) old wish new = ⊥
+
+-- The faults that keep a response from being made: of those of the gate, the ones that a keeper may answer, and a failed read.
+abbrev pub MayFail : (Fault → Type 0) → HookFault → Type 0
+MayFail may_answer (Gate fault) = IsOfKeepers may_answer fault
+MayFail may_answer Read = ⊤
+MayFail may_answer Write = ⊥
+MayFail may_answer TooMuch = ⊥
 
 -- what reading a request and making its response leave
 abbrev pub Answers : Result Response HookFault → List ℕ → Records → Records → Type 0

@@ -37,7 +37,7 @@ IsDelivery (Ok delivery) = ⊤
 IsDelivery (Err refusal) = ⊥
 
 -- The faults, and what each leaves: nothing has changed; or after `Memory`, the delivery has acted and its answer is kept, but there
--- was no memory for its text. The records fail only at a delivery, and `Full` comes only at one of which an act meets a full gate.
+-- was no memory for its text or its response. The records fail only at a delivery, and `Full` comes only at one of which an act meets a full gate.
 abbrev pub Breaks : List ℕ → Fault → Records → Records → Type 0
 Breaks input Memory old new =
     (new ≡ old) ⊎ ((wish : Result Delivery Refusal) × Asks input wish × (new ≡ after_wish old wish) × HasRoom old wish)

@@ -5,7 +5,7 @@ use thiserror::Error;
 /// Why serving stopped before its end.
 #[derive(Clone, Copy, Debug, PartialEq, Eq, Error)]
 pub enum HookFault {
-    /// A delivery met a fault, or there was no memory to read a line or to write its answer.
+    /// A delivery met a fault, or there was no memory to read a line or to write its answer. From `serve_lines` alone.
     #[error(transparent)]
     Gate(Fault),
     /// The reader failed; an interrupted read is a failure too.
@@ -14,7 +14,7 @@ pub enum HookFault {
     /// The writer failed, or took no byte.
     #[error("Write")]
     Write,
-    /// The input isn't at its end after 4,294,967,296 bytes.
+    /// The input isn't at its end after 4,294,967,296 bytes. From `serve_lines` alone.
     #[error("TooMuch")]
     TooMuch,
 }

@@ -1,10 +1,9 @@
 ghost use Rattle.std.specs.Prelude.{◌≡◌, ◌≤◌, ◌↔◌, ℕ, List, Ok, Some, IfSome, IsSome, length, drop, IfOk, IfErr, OnOk, ◌⊎◌, false};
 ghost use Rattle.gate_store.specs.Run.{AgreesOnFull, IsOfKeepers, after_delivery, meets_full};
 ghost use Rattle.gate_hook.specs.Deliveries.{delivery_of};
-ghost use Rattle.gate_hook.specs.Lines.{MayEnd};
-ghost use Rattle.gate_hook.specs.Receiving.{HasAsked, IsInput, asked_by};
-ghost use Rattle.gate_hook.specs.Requests.{delivery_or};
-ghost use Rattle.gate_hook.specs.Responding.{Answers, HasSent, Responds};
+ghost use Rattle.gate_hook.specs.Receiving.{HasAsked, IsInput};
+ghost use Rattle.gate_hook.specs.Requests.{asked_by, delivery_or_refusal};
+ghost use Rattle.gate_hook.specs.Responding.{Answers, HasSent, MayFail, Responds};
 ghost use Rattle.gate_hook.specs.Responses.{IsResponse};
 ghost use Rattle.gate_hook.specs.Served.{AnswersOne, IsRefused, response_to};
 
@@ -40,7 +39,7 @@ type Wish = Result<Delivery, Refusal>;
 
 // What a body asks for.
 fn wish_of(alloc: Global, body: &[u8]) -> Result<Wish, AllocError>
-    ensures { IfOk result (λ wish. wish ≡ delivery_or (delivery_of body.now)) }
+    ensures { IfOk result (λ wish. wish ≡ delivery_or_refusal (delivery_of body.now)) }
 {
     match read_delivery(alloc, body) {
         Ok(delivery) => Ok(Ok(delivery)),
@@ -109,7 +108,7 @@ fn respond<B: Book>(
 ) -> Result<Response, HookFault>
     ensures responds { B.is_sound keeper.new → Responds result (B.shows keeper.old) wish.now (B.shows keeper.new) }
     ensures was { B.is_sound keeper.new → B.is_sound keeper.old }
-    ensures cause { IfErr result (MayEnd B.may_answer) }
+    ensures cause { IfErr result (MayFail B.may_answer) }
 {
     match wish {
         Ok(delivery) => match answered(alloc, keeper, delivery) {
@@ -129,7 +128,7 @@ fn answer<B: Book, R: Read>(
     ensures answered { (input : List ℕ) × IsInput (R.remaining reader.old) (R.remaining reader.new) input
         × (B.is_sound keeper.new → Answers result input (B.shows keeper.old) (B.shows keeper.new)) }
     ensures was { B.is_sound keeper.new → B.is_sound keeper.old }
-    ensures cause { IfErr result (MayEnd B.may_answer) }
+    ensures cause { IfErr result (MayFail B.may_answer) }
 {
     let wish = match read_wish(alloc, reader) {
         Ok(wish) => wish,
@@ -149,7 +148,7 @@ fn send_as<W: Write>(writer: &mut W, text: &str, served: Served) -> Result<Serve
 }
 
 /// Serves one request of HTTP/1.0 or HTTP/1.1 (RFC 9112): reads it, lets a keeper answer the delivery that it has, and writes one
-/// response. It asks for no more bytes once the answer is known, and for none of the body if the head is refused.
+/// response. It asks for no more bytes once the answer is known. Up to 1,023 bytes behind the head may have been taken with it.
 ///
 /// A request that is refused changes nothing; the checks stand in `specs/Heads.antt` and `specs/Requests.antt`, in their order. After
 /// a fault of the keeper, or if there is no memory for a request or a response, the status is 503, and the response takes no memory.
@@ -158,6 +157,9 @@ fn send_as<W: Write>(writer: &mut W, text: &str, served: Served) -> Result<Serve
 ///
 /// The two errors are `Read`, after which nothing is written and nothing has changed, and `Write`, after which a part of the
 /// response, but not all, is written, and a delivery that acted stays. The writer isn't flushed.
+///
+/// What is said of responses and of the book holds if the book's premise does; which errors and which faults may come, holds without
+/// it.
 pub fn serve_one<B: Book, R: Read, W: Write>(
     alloc: Global,
     keeper: &mut Keeper<B>,
@@ -171,6 +173,9 @@ pub fn serve_one<B: Book, R: Read, W: Write>(
 
     // Input that asks for no delivery leaves the records as they were.
     ensures refused { B.is_sound keeper.new → (input : List ℕ) → R.remaining reader.old ≡ Some input → IsRefused input → B.shows keeper.new ≡ B.shows keeper.old }
+
+    // It ends by a failed read or a failed write alone.
+    ensures ends { IfErr result (λ fault. (fault ≡ HookFault.Read) ⊎ (fault ≡ HookFault.Write)) }
 
     // The status is 503 exactly if there was a fault.
     ensures exact { B.is_sound keeper.new → IfOk result (λ served. (served.status ≡ 503) ↔ IsSome served.fault) }

@@ -1,6 +1,6 @@
 use std::process::Abort;
 
-// An assertion is dear to prove where many values are alive, so all stand in these two functions.
+// An assertion is dear to prove where many values are alive, so all stand in these functions.
 pub(crate) fn check_text(rt: &impl Abort, found: &str, due: &str) {
     assert_eq!(rt; found, due);
 }

@@ -1,5 +1,5 @@
-//! Tests of gate_hook, by the calls that it offers: requests and their responses, readers and writers that fail, and texts that no line is answered. What a
-//! line of input can show stands in `rows/`.
+//! Tests of gate_hook, by the calls that it offers: requests and their responses, readers and writers that fail, and texts that
+//! no line is answered. What a line of input can show stands in `rows/`.
 #![tactic(auto)]
 
 #[cfg(test)]

@@ -64,13 +64,23 @@ fn check_response(rt: &impl Abort, alloc: Global, request: &str, due: &str) {
     let mut source = source_of(request.as_str(), NEVER);
     let mut sink = sink_of(alloc, NEVER);
     let words = served_by(rt, alloc, &mut keeper, &mut source, &mut sink);
-    check_that(rt, 0, sink.held.as_slice() == due.as_bytes());
     check_words(
         rt,
         request.as_str(),
         words.as_str(),
         status_of(due.as_str()),
     );
+    check_held(rt, request.as_str(), &sink, due.as_bytes());
+}
+
+// What was written is what is due.
+fn check_held(rt: &impl Abort, row: &str, sink: &Sink, due: &[u8]) {
+    let words = if sink.held.as_slice() == due {
+        "due"
+    } else {
+        "not due"
+    };
+    check_words(rt, row, words, "due");
 }
 
 // The number in a status line.
@@ -95,6 +105,9 @@ fn check_responses(rt: &impl Abort, alloc: Global, table: &str) {
 fn responses(rt: HostRuntime) {
     let table = r#"
         POST /deliveries HTTP/1.1|Host: here|Content-Length: 61||{"id":"d1","event":"role","person":"alice","role":"reviewer"} => HTTP/1.1 200 OK|Content-Type: application/json|Content-Length: 33|Connection: close||[{"orders":[],"verdict":"done"}]~
+        POST /deliveries HTTP/1.1|Host: here|Content-Length: 61||{"id":"d1","event":"role","person":"alice","role":"reviewer"}GET /nowhere HTTP/1.1|| => HTTP/1.1 200 OK|Content-Type: application/json|Content-Length: 33|Connection: close||[{"orders":[],"verdict":"done"}]~
+        |~POST /deliveries?a HTTP/1.1~hOST:x~cONTENT-length:    061  ~~{"id":"d1","event":"role","person":"alice","role":"reviewer"} => HTTP/1.1 200 OK|Content-Type: application/json|Content-Length: 33|Connection: close||[{"orders":[],"verdict":"done"}]~
+        POST /deliveries HTTP/1.0|Content-Length:61||{"id":"d1","event":"role","person":"alice","role":"reviewer"} => HTTP/1.1 200 OK|Content-Type: application/json|Content-Length: 33|Connection: close||[{"orders":[],"verdict":"done"}]~
         GET /deliveries HTTP/1.1|Host: here|| => HTTP/1.1 405 Method Not Allowed|Content-Length: 0|Allow: POST|Connection: close||
         POST /deliveries HTTP/1.1|Host: here|Content-Length: 5||hello => HTTP/1.1 400 Bad Request|Content-Type: application/json|Content-Length: 31|Connection: close||{"error":"NotJson","number":1}~
         POST /deliveries HTTP/1.1|Host: here|Content-Length: 0|| => HTTP/1.1 400 Bad Request|Content-Type: application/json|Content-Length: 31|Connection: close||{"error":"NotJson","number":1}~
@@ -173,7 +186,7 @@ fn methods(rt: HostRuntime) {
     }
 }
 
-// The request that the format shows, with bytes behind it that are none of its own.
+// The request that the format shows.
 const REQUEST: &str = concat!(
     "POST /deliveries HTTP/1.1\r\nHost: here\r\nContent-Length: 61\r\n\r\n",
     r#"{"id":"d1","event":"role","person":"alice","role":"reviewer"}"#,
@@ -195,8 +208,8 @@ fn check_served(
 ) {
     let mut keeper = keeper_on(alloc, Gate::new(alloc));
     let found = served_by(rt, alloc, &mut keeper, source, sink);
-    check_words(rt, "served", found.as_str(), words);
-    check_that(rt, source.calls, sink.held.as_slice() == due);
+    check_words(rt, words, found.as_str(), words);
+    check_held(rt, words, sink, due);
 }
 
 fn check_pieces(rt: &impl Abort, alloc: Global, step_in: usize, step_out: usize) {
@@ -283,7 +296,8 @@ fn a_read_of_a_request_that_fails(rt: HostRuntime) {
     }
 }
 
-// One write goes wrong: `due` is written. The delivery has acted, and its identifier asks again, whatever the delivery says.
+// One write goes wrong: what came before it is written. The delivery has acted, and its identifier asks again, whatever else the
+// second delivery says.
 fn check_bad_write(rt: &impl Abort, alloc: Global, bad_call: usize, refusal: Refusal) {
     let mut keeper = keeper_on(alloc, Gate::new(alloc));
     let mut first = source_of(REQUEST, NEVER);
@@ -297,13 +311,29 @@ fn check_bad_write(rt: &impl Abort, alloc: Global, bad_call: usize, refusal: Ref
         bad_call,
         Some(refusing.held.as_slice()) == RESPONSE.as_bytes().get(..bad_call),
     );
+    check_repeat(rt, alloc, &mut keeper);
+}
+
+// Another delivery under the same identifier gets the body that is kept.
+fn check_repeat(rt: &impl Abort, alloc: Global, keeper: &mut Keeper<PlainBook>) {
     let again =
         "POST /deliveries HTTP/1.1\r\nHost: here\r\nContent-Length: 39\r\n\r\n{\"id\":\"d1\",\"event\":\"closed\",\"change\":1}";
-    let mut second = source_of(again, NEVER);
-    let mut taking = sink_of(alloc, NEVER);
-    let words = served_by(rt, alloc, &mut keeper, &mut second, &mut taking);
+    let mut source = source_of(again, NEVER);
+    let mut sink = sink_of(alloc, NEVER);
+    let words = served_by(rt, alloc, keeper, &mut source, &mut sink);
     check_words(rt, "again", words.as_str(), "200");
-    check_that(rt, bad_call, taking.held.as_slice() == RESPONSE.as_bytes());
+    check_held(rt, "again", &sink, RESPONSE.as_bytes());
+}
+
+#[test]
+fn a_request_that_is_repeated(rt: HostRuntime) {
+    let mut keeper = keeper_on(rt.alloc(), Gate::new(rt.alloc()));
+    let mut source = source_of(REQUEST, NEVER);
+    let mut sink = sink_of(rt.alloc(), NEVER);
+    let words = served_by(&rt, rt.alloc(), &mut keeper, &mut source, &mut sink);
+    check_words(&rt, "first", words.as_str(), "200");
+    check_repeat(&rt, rt.alloc(), &mut keeper);
+    check_repeat(&rt, rt.alloc(), &mut keeper);
 }
 
 #[test]
@@ -334,7 +364,7 @@ fn a_fault(rt: HostRuntime) {
     check_that(&rt, 0, sink.held.as_slice() == due.as_bytes());
 }
 
-// A request of `fields` fields besides `Host`, the last of which fills its head up to `len` bytes; its body is good.
+// A request of a `Content-Length` and `fields` other fields, the last of which fills its head up to `len` bytes. Its body is good.
 fn filled(rt: &impl Abort, alloc: Global, fields: usize, len: usize) -> String {
     let mut text = String::from_str(
         alloc,
