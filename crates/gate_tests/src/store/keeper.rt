@@ -1,6 +1,6 @@
 ghost use Rattle.std.specs.Prelude.{◌≤◌};
 
-use crate::checks::{check_words, cut};
+use crate::checks::{check_words, cut, row_of};
 use crate::readers::{commit, name};
 use gate_queue::Gate;
 use gate_rules::Role;
@@ -113,18 +113,34 @@ fn a_book_that_is_handed_on(rt: HostRuntime) {
     check_base(&rt, rt.alloc(), &mut keeper, "d9 base 1", "1");
 }
 
+// Each row of a table is a delivery, and what a keeper whose first batch will have this number answers to it.
+fn check_answers(rt: &impl Abort, alloc: Global, next: u64, table: &str)
+    requires low { 1 ≤ next }
+    requires high { next ≤ 9_000_000_000_000_000 }
+{
+    let mut keeper = keeper_at(alloc, next);
+    for line in table.lines() {
+        if let Some((delivery, due)) = row_of(rt, line) {
+            check_answer(rt, alloc, &mut keeper, delivery, due);
+        }
+    }
+}
+
 // The numbers are used up: each act is `Full`, and what has no act, or has its answer, is not.
 #[test]
 fn a_full_gate(rt: HostRuntime) {
-    let alloc = rt.alloc();
-    let mut keeper = keeper_at(alloc, 8_999_999_999_999_997);
-    check_answer(&rt, alloc, &mut keeper, "d1 base 0", "Full");
-    check_answer(&rt, alloc, &mut keeper, "d1 role alice", "Full");
-    check_answer(&rt, alloc, &mut keeper, "d2 Thanks!", "[]");
-    check_answer(&rt, alloc, &mut keeper, "d2 base 0", "[]");
-    check_answer(&rt, alloc, &mut keeper, "d3 bors ping", "Full");
-    let mut keeper = keeper_at(alloc, 8_999_999_999_999_996);
-    check_answer(&rt, alloc, &mut keeper, "d1 role alice", DONE);
+    let table = "
+        d1 base 0 => Full
+        d1 role alice => Full
+        d2 Thanks! => []
+        d2 base 0 => []
+        d3 bors ping => Full
+    ";
+    check_answers(&rt, rt.alloc(), 8_999_999_999_999_997, table);
+    let table = "
+        d1 role alice => [{\"orders\":[],\"verdict\":\"done\"}]
+    ";
+    check_answers(&rt, rt.alloc(), 8_999_999_999_999_996, table);
 }
 
 // The deliveries of lines.
