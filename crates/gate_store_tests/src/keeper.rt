@@ -1,11 +1,10 @@
 ghost use Rattle.std.specs.Prelude.{◌≤◌};
 
 use crate::checks::{check_words, cut, row_of};
-use crate::readers::{commit, name};
 use gate_queue::Gate;
 use gate_rules::Role;
 use gate_store::{Book, Delivery, Event, Keeper, PlainBook, answer_text};
-use gate_text::{ChangeNo, DeliveryId, Text};
+use gate_text::{ChangeNo, Commit, DeliveryId, Name, Text};
 use std::alloc::Global;
 use std::process::Abort;
 
@@ -15,6 +14,16 @@ const DONE: &str = "[{\"orders\":[],\"verdict\":\"done\"}]";
 
 fn identifier(rt: &impl Abort, alloc: Global, text: &str) -> DeliveryId {
     DeliveryId::read(alloc, text).expect(rt, "an identifier")
+}
+
+fn name(rt: &impl Abort, alloc: Global, text: &str) -> Name {
+    Name::read(alloc, text).expect(rt, "a name")
+}
+
+// The commit whose forty digits are all this one.
+fn commit(rt: &impl Abort, alloc: Global, digit: &str) -> Commit {
+    let text = digit.repeat(alloc, 40).expect(rt, "memory");
+    Commit::read(text.as_str()).expect(rt, "a commit")
 }
 
 // `base 0` and `role alice` are facts; any other word is a comment of alice on change 1.
