@@ -2,7 +2,7 @@ use crate::fault::BooksFault;
 use gate_hook::serve_lines;
 use gate_queue::Gate;
 use gate_sql::SqlBook;
-use gate_store::{Keeper, PlainBook};
+use gate_store::{Book, Keeper, PlainBook};
 use sqlite::{Connection, MemStore};
 use std::alloc::Global;
 use std::io::{BufRead, Read, Write};
@@ -19,6 +19,18 @@ pub fn memory_book(alloc: Global) -> Result<MemoryBook, BooksFault> {
     }
 }
 
+/// Serves all lines by a keeper. Its callers pass the fault on by `match` or as it is: a `?` is dear to prove where a keeper is
+/// alive.
+pub fn serve<B: Book, R: Read, W: Write>(
+    alloc: Global,
+    keeper: &mut Keeper<B>,
+    reader: &mut R,
+    writer: &mut W,
+) -> Result<(), BooksFault> {
+    serve_lines(alloc, keeper, reader, writer)?;
+    Ok(())
+}
+
 /// Serves all lines over a book without a database.
 pub fn serve_plain<R: Read, W: Write>(
     alloc: Global,
@@ -26,8 +38,7 @@ pub fn serve_plain<R: Read, W: Write>(
     writer: &mut W,
 ) -> Result<(), BooksFault> {
     let mut keeper = Keeper::new(PlainBook::new(alloc, Gate::new(alloc)));
-    serve_lines(alloc, &mut keeper, reader, writer)?;
-    Ok(())
+    serve(alloc, &mut keeper, reader, writer)
 }
 
 /// Serves all lines over one book in a database, each by a keeper of its own. A keeper that is new has no gate at hand, and so
@@ -57,6 +68,8 @@ fn served<W: Write>(
 ) -> Result<MemoryBook, BooksFault> {
     let mut keeper = Keeper::new(book);
     let mut rest = line;
-    serve_lines(alloc, &mut keeper, &mut rest, writer)?;
-    Ok(keeper.into_book())
+    match serve(alloc, &mut keeper, &mut rest, writer) {
+        Ok(()) => Ok(keeper.into_book()),
+        Err(fault) => Err(fault),
+    }
 }

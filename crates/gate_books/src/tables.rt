@@ -1,6 +1,5 @@
 use crate::fault::BooksFault;
-use crate::serving::memory_book;
-use gate_hook::serve_lines;
+use crate::serving::{memory_book, serve};
 use gate_store::Keeper;
 use sqlite::types::ValueRef;
 use sqlite::{Connection, MemStore, Row};
@@ -42,8 +41,10 @@ fn connection_after<R: Read>(
     reader: &mut R,
 ) -> Result<Connection<MemStore>, BooksFault> {
     let mut keeper = Keeper::new(memory_book(alloc)?);
-    serve_lines(alloc, &mut keeper, reader, &mut io::sink())?;
-    Ok(keeper.into_book().into_connection())
+    match serve(alloc, &mut keeper, reader, &mut io::sink()) {
+        Ok(()) => Ok(keeper.into_book().into_connection()),
+        Err(fault) => Err(fault),
+    }
 }
 
 fn print_table<W: Write>(

@@ -27,12 +27,17 @@ const LINES: &str = concat!(
     r#"{"id":"8","event":"status","commit":"dddddddddddddddddddddddddddddddddddddddd","name":"ci","state":"success"}"#,
 );
 
+// Serves the lines by a keeper.
+fn serve(rt: &impl Abort, alloc: Global, keeper: &mut Keeper<PlainBook>) {
+    let mut input = LINES.as_bytes();
+    let served = serve_lines(alloc, keeper, &mut input, &mut io::sink());
+    check_that(rt, "the lines", served == Ok(8));
+}
+
 // The gate that the lines lead to.
 fn gate_after(rt: &impl Abort, alloc: Global) -> Gate {
     let mut keeper = Keeper::new(PlainBook::new(alloc, Gate::new(alloc)));
-    let mut input = LINES.as_bytes();
-    let served = serve_lines(alloc, &mut keeper, &mut input, &mut io::sink());
-    check_that(rt, "the lines", served == Ok(8));
+    serve(rt, alloc, &mut keeper);
     keeper.gate(alloc).expect(rt, "memory")
 }
 

@@ -1,5 +1,4 @@
-//! Tests of gate_rules, gate_queue and gate_store, by the calls that they offer, which they call as any other crate does. They
-//! need no database.
+//! Tests of gate_rules and gate_queue, by the calls that these offer.
 #![tactic(auto)]
 
 #[cfg(test)]
@@ -10,5 +9,3 @@ mod queue;
 mod readers;
 #[cfg(test)]
 mod rules;
-#[cfg(test)]
-mod store;

@@ -62,13 +62,18 @@ fn stepped(rt: &impl Abort, alloc: Global, gate: Gate, line: &str, words: &str) 
     gate
 }
 
-// A gate that stands where these lines have led from there, whatever they are answered.
-pub(crate) fn played(rt: &impl Abort, alloc: Global, lines: &str) -> Gate {
+// The gate after the act of a line, whatever it is answered.
+fn acted(rt: &impl Abort, alloc: Global, gate: Gate, line: &str) -> Gate {
+    let act = read_act(rt, alloc, line);
+    let (gate, _) = gate.act(alloc, &act).expect(rt, "memory");
+    gate
+}
+
+// A gate that stands where acts have led from there, whatever they are answered.
+fn played(rt: &impl Abort, alloc: Global, acts: &str) -> Gate {
     let mut gate = started(rt, alloc);
-    for line in lines.lines() {
-        let act = read_act(rt, alloc, line);
-        let (next, _) = gate.act(alloc, &act).expect(rt, "memory");
-        gate = next;
+    for line in acts.split("; ") {
+        gate = acted(rt, alloc, gate, line);
     }
     gate
 }
@@ -119,7 +124,7 @@ fn queue_words(rt: &impl Abort, alloc: Global, gate: &Gate) -> String {
 
 // The gate shows what a text tells: of `desk eve` the words of `desk_words`, of `queue` all batches, and of a number the
 // change.
-pub(crate) fn check_shown(rt: &impl Abort, alloc: Global, gate: &Gate, text: &str) {
+fn check_shown(rt: &impl Abort, alloc: Global, gate: &Gate, text: &str) {
     let (word, rest) = cut(text);
     if word == "queue" {
         let found = queue_words(rt, alloc, gate);
@@ -174,23 +179,24 @@ fn numbered(rt: &impl Abort, alloc: Global, next: u64, line: &str) -> String
     }
 }
 
+// An act is `Full` if the numbers are used up, and isn't if one more act fits.
+fn check_last_number(rt: &impl Abort, alloc: Global, line: &str) {
+    let full = numbered(rt, alloc, 8_999_999_999_999_997, line);
+    check_words(rt, line, full.as_str(), "Full");
+    let last = numbered(rt, alloc, 8_999_999_999_999_996, line);
+    check_that(rt, line, last.as_str() != "Full");
+}
+
 #[test]
 fn a_full_gate(rt: HostRuntime) {
     let lines =
         "role alice reviewer|base 0|opened 1 carol a|1 alice bors r+|settings|pushed 1 a|conflict 1|status d ci error|refused 1|tick 5";
     for line in lines.split('|') {
-        let full = numbered(&rt, rt.alloc(), 8_999_999_999_999_997, line);
-        check_words(&rt, line, full.as_str(), "Full");
-        let last = numbered(&rt, rt.alloc(), 8_999_999_999_999_996, line);
-        check_that(&rt, line, last.as_str() != "Full");
+        check_last_number(&rt, rt.alloc(), line);
     }
-    let done = numbered(
-        &rt,
-        rt.alloc(),
-        8_999_999_999_999_996,
-        "role alice reviewer",
-    );
-    check_words(&rt, "the last number", done.as_str(), "done");
+    let line = "role alice reviewer";
+    let done = numbered(&rt, rt.alloc(), 8_999_999_999_999_996, line);
+    check_words(&rt, line, done.as_str(), "done");
 }
 
 #[test]

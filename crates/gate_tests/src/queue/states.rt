@@ -1,5 +1,4 @@
-use super::reading::read_act;
-use super::started;
+use super::played;
 use crate::checks::{check_words, cut, row_of};
 use gate_queue::{Batch, Batches, Branch, Changes, Gate, Lane, Queue, Stage, State};
 use gate_rules::Desk;
@@ -83,23 +82,20 @@ fn altered(rt: &impl Abort, alloc: Global, state: State, alteration: &str) -> St
 
 // The state after acts.
 fn state_after(rt: &impl Abort, alloc: Global, acts: &str) -> State {
-    let mut gate = started(rt, alloc);
-    for line in acts.split("; ") {
-        let act = read_act(rt, alloc, line);
-        let (next, _reply) = gate.act(alloc, &act).expect(rt, "memory");
-        gate = next;
-    }
+    let gate = played(rt, alloc, acts);
     gate.state().copy(alloc).expect(rt, "memory")
+}
+
+fn is_state(state: State) -> bool {
+    Gate::from_state(state).is_some()
 }
 
 // Whether there is a gate of the state after acts, with one thing altered.
 fn answer(rt: &impl Abort, alloc: Global, row: &str) -> &'static str {
     let (acts, alteration) = row.split_once(" | ").expect(rt, "an alteration");
     let state = state_after(rt, alloc, acts);
-    match Gate::from_state(altered(rt, alloc, state, alteration)) {
-        Some(_) => "a gate",
-        None => "none",
-    }
+    let altered = altered(rt, alloc, state, alteration);
+    if is_state(altered) { "a gate" } else { "none" }
 }
 
 fn check_states(rt: &impl Abort, alloc: Global, table: &str) {

@@ -162,6 +162,13 @@ fn shows(rt: &impl Abort, alloc: Global, desk: &Desk, line: &str) -> bool {
     }
 }
 
+// The desk shows what each of the lines has set.
+fn check_shows(rt: &impl Abort, alloc: Global, desk: &Desk, lines: &str) {
+    for line in lines.lines() {
+        check_that(rt, line, shows(rt, alloc, desk, line));
+    }
+}
+
 // Sets what the lines tell, which the desk shows at once.
 fn check_set(rt: &impl Abort, alloc: Global, desk: &mut Desk, lines: &str) {
     for line in lines.lines() {
@@ -195,9 +202,7 @@ fn a_copied_desk(rt: HostRuntime) {
     let lines = "settings status = ['ci', 'lint']\nbase a\nclock 60";
     check_set(&rt, rt.alloc(), &mut desk, lines);
     let copy = desk.copy(rt.alloc()).expect(&rt, "memory");
-    for line in lines.lines() {
-        check_that(&rt, line, shows(&rt, rt.alloc(), &copy, line));
-    }
+    check_shows(&rt, rt.alloc(), &copy, lines);
     let table = "
         1 carol a trying-landing -5 bug,hold mia,zoe al alice,zoe r=alice,zoe => true true true true false true true
         2 dave b closed 0 - - - - try => false false false false false true true

@@ -1,11 +1,10 @@
 ghost use Rattle.std.specs.Prelude.{◌≤◌};
 
-use crate::checks::{check_words, cut};
-use crate::readers::{commit, name};
+use crate::checks::{check_words, cut, row_of};
 use gate_queue::Gate;
 use gate_rules::Role;
 use gate_store::{Book, Delivery, Event, Keeper, PlainBook, answer_text};
-use gate_text::{ChangeNo, DeliveryId, Text};
+use gate_text::{ChangeNo, Commit, DeliveryId, Name, Text};
 use std::alloc::Global;
 use std::process::Abort;
 
@@ -15,6 +14,16 @@ const DONE: &str = "[{\"orders\":[],\"verdict\":\"done\"}]";
 
 fn identifier(rt: &impl Abort, alloc: Global, text: &str) -> DeliveryId {
     DeliveryId::read(alloc, text).expect(rt, "an identifier")
+}
+
+fn name(rt: &impl Abort, alloc: Global, text: &str) -> Name {
+    Name::read(alloc, text).expect(rt, "a name")
+}
+
+// The commit whose forty digits are all this one.
+fn commit(rt: &impl Abort, alloc: Global, digit: &str) -> Commit {
+    let text = digit.repeat(alloc, 40).expect(rt, "memory");
+    Commit::read(text.as_str()).expect(rt, "a commit")
 }
 
 // `base 0` and `role alice` are facts; any other word is a comment of alice on change 1.
@@ -113,18 +122,34 @@ fn a_book_that_is_handed_on(rt: HostRuntime) {
     check_base(&rt, rt.alloc(), &mut keeper, "d9 base 1", "1");
 }
 
+// Each row of a table is a delivery, and what a keeper whose first batch will have this number answers to it.
+fn check_answers(rt: &impl Abort, alloc: Global, next: u64, table: &str)
+    requires low { 1 ≤ next }
+    requires high { next ≤ 9_000_000_000_000_000 }
+{
+    let mut keeper = keeper_at(alloc, next);
+    for line in table.lines() {
+        if let Some((delivery, due)) = row_of(rt, line) {
+            check_answer(rt, alloc, &mut keeper, delivery, due);
+        }
+    }
+}
+
 // The numbers are used up: each act is `Full`, and what has no act, or has its answer, is not.
 #[test]
 fn a_full_gate(rt: HostRuntime) {
-    let alloc = rt.alloc();
-    let mut keeper = keeper_at(alloc, 8_999_999_999_999_997);
-    check_answer(&rt, alloc, &mut keeper, "d1 base 0", "Full");
-    check_answer(&rt, alloc, &mut keeper, "d1 role alice", "Full");
-    check_answer(&rt, alloc, &mut keeper, "d2 Thanks!", "[]");
-    check_answer(&rt, alloc, &mut keeper, "d2 base 0", "[]");
-    check_answer(&rt, alloc, &mut keeper, "d3 bors ping", "Full");
-    let mut keeper = keeper_at(alloc, 8_999_999_999_999_996);
-    check_answer(&rt, alloc, &mut keeper, "d1 role alice", DONE);
+    let table = "
+        d1 base 0 => Full
+        d1 role alice => Full
+        d2 Thanks! => []
+        d2 base 0 => []
+        d3 bors ping => Full
+    ";
+    check_answers(&rt, rt.alloc(), 8_999_999_999_999_997, table);
+    let table = "
+        d1 role alice => [{\"orders\":[],\"verdict\":\"done\"}]
+    ";
+    check_answers(&rt, rt.alloc(), 8_999_999_999_999_996, table);
 }
 
 // The deliveries of lines.
