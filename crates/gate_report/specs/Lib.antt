@@ -1,0 +1,5 @@
+-- What the contracts of this crate cite. For a reader, in this order:
+--     Columns   a text in a place of some width, and a line of a name and a value
+--     Queue     the text of the queue: two lines, a heading, and a line for each batch
+pub mod Columns
+pub mod Queue
