@@ -2,6 +2,8 @@
 #![tactic(auto)]
 
 #[cfg(test)]
+mod change;
+#[cfg(test)]
 mod gates;
 #[cfg(test)]
 mod queue;
