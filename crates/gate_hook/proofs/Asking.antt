@@ -4,14 +4,15 @@ use Rattle.std.proofs.KnownBytes.{Consumes-trans}
 use Rattle.std.proofs.lemmas.Bool.{le-leb}
 use Rattle.std.proofs.lemmas.List.{append-nil, drop-append-le, take-append-le}
 use Rattle.std.specs.Io.KnownBytes.{IsAtEnd}
-use Rattle.std.specs.Result.{result_unwrap_or}
 use Rattle.httparse.specs.Grammar.{print_request}
-use Rattle.gate_store.specs.declared.delivery.Delivery.{Delivery}
 use Rattle.gate_hook.specs.Heads.{BeginsWith, max_head}
-use Rattle.gate_hook.specs.Receiving.{HasAsked, HasReadBody, HasReadHead, IsHeadOf}
+use Rattle.gate_hook.specs.Receiving.{HasAsked, HasReadBody, HasReadHead, IsHeadOf, needed_by}
 use Rattle.gate_hook.specs.Requests.{asked_by, body_in}
+use Rattle.gate_hook.specs.declared.head.Ask.{Ask}
+use Rattle.gate_hook.specs.declared.head.Ask.TheVariants.{Delivery, Report}
 use Rattle.gate_hook.specs.declared.head.Head.{Head}
 use Rattle.gate_hook.specs.declared.refusal.Refusal.{Refusal}
+use Rattle.gate_hook.specs.declared.requests.Request.{Request}
 use Rattle.gate_hook.proofs.NoHead.{is-left, left_of}
 
 body-same : (size : ℕ) (rest more : List ℕ) → size ≤ length rest → body_in size (rest ++ more) ≡ body_in size rest
@@ -20,8 +21,9 @@ body-same size rest more fits =
     (rw (le-leb size (length (rest ++ more)) (omega (arith, fits, length-append rest more)))
     (ap (λ (body : List ℕ). Ok body) (take-append-le size rest more fits)))
 
-asked-same : (size : Result ℕ Refusal) (rest more : List ℕ) → result_unwrap_or size 0 ≤ length rest → asked_by size (rest ++ more) ≡ asked_by size rest
-asked-same (Ok size) rest more fits = rw (body-same size rest more fits) refl
+asked-same : (ask : Result Ask Refusal) (rest more : List ℕ) → needed_by ask ≤ length rest → asked_by ask (rest ++ more) ≡ asked_by ask rest
+asked-same (Ok (Delivery size)) rest more fits = rw (body-same size rest more fits) refl
+asked-same (Ok (Report report)) rest more fits = refl
 asked-same (Err refusal) rest more fits = refl
 
 left-none : (after : Option (List ℕ)) → IsAtEnd after → left_of after ≡ []
@@ -29,9 +31,9 @@ left-none None end = refl
 left-none (Some known) end = end
 
 -- the bytes of the body are there, or no more bytes come
-asked-whole : (size : Result ℕ Refusal) (rest : List ℕ) (after : Option (List ℕ)) → (result_unwrap_or size 0 ≤ length rest) ⊎ IsAtEnd after → asked_by size (rest ++ left_of after) ≡ asked_by size rest
-asked-whole size rest after (inl fits) = asked-same size rest (left_of after) fits
-asked-whole size rest after (inr end) = ap (asked_by size) (ap (λ (more : List ℕ). rest ++ more) (left-none after end) ∙ append-nil rest)
+asked-whole : (ask : Result Ask Refusal) (rest : List ℕ) (after : Option (List ℕ)) → (needed_by ask ≤ length rest) ⊎ IsAtEnd after → asked_by ask (rest ++ left_of after) ≡ asked_by ask rest
+asked-whole ask rest after (inl fits) = asked-same ask rest (left_of after) fits
+asked-whole ask rest after (inr end) = ap (asked_by ask) (ap (λ (more : List ℕ). rest ++ more) (left-none after end) ∙ append-nil rest)
 
 -- a head stands at the front of all that was read and is left
 begins : (first more others : List ℕ) (told : Head) (is : IsHeadOf told first) → told.len ≤ max_head → BeginsWith ((first ++ more) ++ others) is.head (drop told.len first ++ (more ++ others))
@@ -50,22 +52,22 @@ begins first more others told is fits = record {
 behind : (first more : List ℕ) (told : Head) → IsHeadOf told first → drop told.len (first ++ more) ≡ drop told.len first ++ more
 behind first more told is = drop-append-le told.len first more (omega (arith, is.len, ap length is.reads.1, length-append (print_request is.head) (drop told.len first)))
 
-pub asks-whole : (old mid new : Option (List ℕ)) (told : Head) (first bytes : List ℕ) (wish : Result Delivery Refusal)
+pub asks-whole : (old mid new : Option (List ℕ)) (told : Head) (first bytes : List ℕ) (wish : Result Request Refusal)
     → HasReadHead (Ok (Some told)) old mid first
-    → HasReadBody (Ok tt) mid new first bytes told.len (result_unwrap_or told.size 0)
-    → wish ≡ asked_by told.size (drop told.len bytes)
+    → HasReadBody (Ok tt) mid new first bytes told.len (needed_by told.ask)
+    → wish ≡ asked_by told.ask (drop told.len bytes)
     → HasAsked (Ok wish) old new
 asks-whole old mid new told first bytes wish found read asks =
     let more = read.0 in
     let is = found.1 in
     let all : drop told.len bytes ≡ drop told.len first ++ more = ap (drop told.len) read.2 ∙ behind first more told is in
     let size : length bytes - told.len ≡ length (drop told.len first ++ more) = sym (length-drop told.len bytes) ∙ ap length all in
-    let enough = subst (λ (n : ℕ). (result_unwrap_or told.size 0 ≤ n) ⊎ IsAtEnd new) size read.3 in
+    let enough = subst (λ (n : ℕ). (needed_by told.ask ≤ n) ⊎ IsAtEnd new) size read.3 in
     let wish_is = asks
-    ∙ ap (asked_by told.size) all
-    ∙ sym (asked-whole told.size (drop told.len first ++ more) new enough)
-    ∙ ap (asked_by told.size) (append_assoc (drop told.len first) more (left_of new))
-    ∙ ap (λ (said : Result ℕ Refusal). asked_by said (drop told.len first ++ (more ++ left_of new))) is.size in (
+    ∙ ap (asked_by told.ask) all
+    ∙ sym (asked-whole told.ask (drop told.len first ++ more) new enough)
+    ∙ ap (asked_by told.ask) (append_assoc (drop told.len first) more (left_of new))
+    ∙ ap (λ (said : Result Ask Refusal). asked_by said (drop told.len first ++ (more ++ left_of new))) is.ask in (
       (first ++ more) ++ left_of new,
       (first ++ more, left_of new, Consumes-trans old mid new first more found.0 read.1, is-left new, refl),
       inl (is.head, drop told.len first ++ (more ++ left_of new), begins first more (left_of new) told is found.2, wish_is),

@@ -1,14 +1,15 @@
 -- The fields of one name, as a loop comes to them.
-use Rattle.std.proofs.Common.{◌≡◌, ℕ, ◌+◌, ◌<◌, suc, Bool, true, false, List, [], ◌∷◌, ◌++◌, length, get_or, take, drop, map, Some, refl, ap, ◌∙◌, add-one, length-append, IsTrue, ◌↔◌}
+use Rattle.std.proofs.Common.{◌≡◌, ℕ, ◌+◌, ◌<◌, ◌≤◌, suc, Bool, true, false, List, [], ◌∷◌, ◌++◌, length, get_or, take, drop, map, Some, refl, ap, ◌∙◌, add-one, length-append, IsTrue, ◌↔◌, arith}
 use Rattle.std.proofs.Math.Seq.{split_at, take-suc}
-use Rattle.std.proofs.lemmas.List.{append-nil, map-append}
+use Rattle.std.proofs.lemmas.List.{append-nil, length-map, length-take, map-append}
 use Rattle.std.proofs.lemmas.List.Elements.{filter-append}
 use Rattle.std.proofs.lemmas.Slice.Eq.{bytes_eq-Decides}
 use Rattle.std.specs.Bool.{one_answer}
 use Rattle.std.specs.List.{filter}
 use Rattle.std.specs.Char.{to_ascii_lowercase}
 use Rattle.std.specs.Str.{bytes_eq}
-use Rattle.httparse.specs.Spans.{header_bytes, span_bytes}
+use Rattle.httparse.specs.Grammar.{Field}
+use Rattle.httparse.specs.Spans.{AreFieldsAt, header_bytes, name_and_value, span_bytes}
 use Rattle.httparse.specs.declared.spans.HeaderSpan.{HeaderSpan}
 use Rattle.gate_hook.specs.Heads.{is_named, values_in}
 use Rattle.gate_hook.specs.Receiving.{first_value}
@@ -64,3 +65,8 @@ first-found bytes name headers i d within none named =
 -- the comparison decides whether a field has the name
 pub named-is : (name text : List ℕ) (r : Bool) → IsTrue r ↔ (map to_ascii_lowercase text ≡ map to_ascii_lowercase name) → bytes_eq (map to_ascii_lowercase text) (map to_ascii_lowercase name) ≡ r
 named-is name text r tells = one_answer _ r (bytes_eq-Decides _ _) tells
+
+-- Fields are as many as the headers that cover them, and so they fit the room for headers.
+pub few-fields : (bytes : List ℕ) (headers : List HeaderSpan) (count : ℕ) (fields : List Field) → AreFieldsAt bytes headers count fields → length fields ≤ length headers
+few-fields bytes headers count fields are =
+    omega (arith, length-map fields name_and_value, length-map (take count headers) (header_bytes bytes), ap length are, length-take count headers)

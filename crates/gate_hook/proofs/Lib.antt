@@ -1,12 +1,16 @@
 pub mod Asking
+pub mod ChangeNumbers
 pub mod Ending
 pub mod Fields
 pub mod Kept
 pub mod NoHead
 pub mod Numerals
 pub mod OneWish
+pub mod Parts
 pub mod Progress
 pub mod Responding
 pub mod Splitting
 pub mod Taking
+pub mod Targets
+pub mod Walks
 pub mod Whole

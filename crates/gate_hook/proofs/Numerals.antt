@@ -17,7 +17,7 @@ use Rattle.gate_hook.specs.declared.refusal.Refusal.TheVariants.{ContentTooLarge
 pub decimal : IsNumeralModel (λ ds. list_all is_ascii_digit ds ≡ true) (digits_value 10)
 decimal = numerals_by_value _ (search rules)
 
-both : (b c : Bool) → b && c ≡ true → (b ≡ true) × (c ≡ true)
+pub both : (b c : Bool) → b && c ≡ true → (b ≡ true) × (c ≡ true)
 both true c holds = (refl, holds)
 both false c holds = absurd (true≢false (sym holds))
 

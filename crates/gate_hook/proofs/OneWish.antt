@@ -2,11 +2,11 @@
 use Rattle.std.proofs.Common.{◌≡◌, ℕ, inl, inr, List, Result, sym, ap, ◌∙◌}
 use Rattle.httparse.proofs.GrammarLemmas.{request_unique}
 use Rattle.httparse.specs.Grammar.{RequestHead}
-use Rattle.gate_store.specs.declared.delivery.Delivery.{Delivery}
 use Rattle.gate_hook.specs.Requests.{Asks, asked}
 use Rattle.gate_hook.specs.declared.refusal.Refusal.{Refusal}
+use Rattle.gate_hook.specs.declared.requests.Request.{Request}
 
-pub one-wish : (input : List ℕ) (wish other : Result Delivery Refusal) → Asks input wish → Asks input other → wish ≡ other
+pub one-wish : (input : List ℕ) (wish other : Result Request Refusal) → Asks input wish → Asks input other → wish ≡ other
 one-wish input wish other (inl (head, rest, begins, is)) (inl (head', rest', begins', is')) =
     let same = request_unique input head head' rest rest' begins.reads begins'.reads in
     is ∙ ap (λ (one : RequestHead). asked one rest) same.0 ∙ ap (asked head') same.1 ∙ sym is'

@@ -5,15 +5,16 @@ use Rattle.std.specs.String.{string_bytes}
 use Rattle.gate_queue.specs.declared.fault.Fault.{Fault}
 use Rattle.gate_queue.specs.declared.fault.Fault.TheVariants.{Memory, Store, Full}
 use Rattle.gate_store.specs.Run.{Records}
-use Rattle.gate_store.specs.declared.delivery.Delivery.{Delivery}
 use Rattle.gate_hook.specs.Receiving.{IsInput, IsUnread}
 use Rattle.gate_hook.specs.Requests.{Asks}
 use Rattle.gate_hook.specs.Responding.{Answers, HasSent, MayFail, Responds}
 use Rattle.gate_hook.specs.Responses.{Response, fault_response, response_text}
-use Rattle.gate_hook.specs.Served.{AnswersOne, Breaks, IsDue, IsRefused, after_wish, response_to}
+use Rattle.gate_hook.specs.Served.{AnswersOne, AsksNoDelivery, Breaks, IsDue, after_wish, report_in, response_to, response_to_report}
 use Rattle.gate_hook.specs.declared.fault.HookFault.{HookFault}
 use Rattle.gate_hook.specs.declared.fault.HookFault.TheVariants.{Gate, Read, Write, TooMuch}
 use Rattle.gate_hook.specs.declared.refusal.Refusal.{Refusal}
+use Rattle.gate_hook.specs.declared.requests.Request.{Request}
+use Rattle.gate_hook.specs.declared.requests.Request.TheVariants.{Delivery, Report}
 use Rattle.gate_hook.specs.declared.requests.Served.{Served}
 use Rattle.gate_hook.specs.declared.refusal.Refusal.TheVariants.{BadRequest, NotFound, MethodNotAllowed, NotImplemented, LengthRequired, ContentTooLarge, NoDelivery}
 use Rattle.gate_hook.specs.declared.reading.DeliveryFault.TheVariants.{NotJson, BadField, UnknownEvent, Memory as NoMemory}
@@ -33,7 +34,7 @@ may_fail-unread may_answer fault (inl read) = rw read tt
 may_fail-unread may_answer fault (inr memory) = rw memory (inl (inl refl))
 
 -- ONE THAT WAS READ
-pub answers-read : (result : Result Made HookFault) (input : List ℕ) (wish : Result Delivery Refusal) (old new : Records)
+pub answers-read : (result : Result Made HookFault) (input : List ℕ) (wish : Result Request Refusal) (old new : Records)
     → Asks input wish → Responds result old wish new → Answers result input old new
 answers-read (Ok made) input wish old new asks responds = (wish, asks, responds.0, responds.1, responds.2)
 answers-read (Err (Gate Memory)) input wish old new asks (inl same) = inl same
@@ -88,31 +89,37 @@ known-input (Some known) whole input is = is.4 ∙ ap (λ (rest : List ℕ). is.
 same-input : (before after : Option (List ℕ)) (whole input : List ℕ) → before ≡ Some whole → IsInput before after input → input ≡ whole
 same-input before after whole input known is = known-input after whole input (subst (λ (old : Option (List ℕ)). IsInput old after input) known is)
 
-refused-wish : (wish : Result Delivery Refusal) (input : List ℕ) (old new : Records) → IsRefused input → Asks input wish → new ≡ after_wish old wish → new ≡ old
-refused-wish (Ok delivery) input old new refused asks is = absurd (refused delivery asks)
-refused-wish (Err refusal) input old new refused asks is = is
+quiet-wish : (wish : Result Request Refusal) (input : List ℕ) (old new : Records) → AsksNoDelivery input → Asks input wish → new ≡ after_wish old wish → new ≡ old
+quiet-wish (Ok (Delivery delivery)) input old new none asks is = absurd (none delivery asks)
+quiet-wish (Ok (Report report)) input old new none asks is = is
+quiet-wish (Err refusal) input old new none asks is = is
 
-pub refused-same : (result : Result Made HookFault) (input : List ℕ) (old new : Records) → IsRefused input → Answers result input old new → new ≡ old
-refused-same (Ok made) input old new refused is = refused-wish is.0 input old new refused is.1 is.3
-refused-same (Err (Gate Memory)) input old new refused (inl same) = same
-refused-same (Err (Gate Memory)) input old new refused (inr kept) = refused-wish kept.0 input old new refused kept.1 kept.2
-refused-same (Err (Gate Store)) input old new refused is = is.0
-refused-same (Err (Gate Full)) input old new refused is = is.0
-refused-same (Err Read) input old new refused is = is
-refused-same (Err Write) input old new refused is = absurd is
-refused-same (Err TooMuch) input old new refused is = absurd is
+pub quiet-same : (result : Result Made HookFault) (input : List ℕ) (old new : Records) → AsksNoDelivery input → Answers result input old new → new ≡ old
+quiet-same (Ok made) input old new none is = quiet-wish is.0 input old new none is.1 is.3
+quiet-same (Err (Gate Memory)) input old new none (inl same) = same
+quiet-same (Err (Gate Memory)) input old new none (inr kept) = quiet-wish kept.0 input old new none kept.1 kept.2
+quiet-same (Err (Gate Store)) input old new none is = is.0
+quiet-same (Err (Gate Full)) input old new none is = is.0
+quiet-same (Err Read) input old new none is = is
+quiet-same (Err Write) input old new none is = absurd is
+quiet-same (Err TooMuch) input old new none is = absurd is
 
 pub unchanged : (result : Result Made HookFault) (before after : Option (List ℕ)) (whole input : List ℕ) (old new : Records)
-    → before ≡ Some whole → IsInput before after input → Answers result input old new → IsRefused whole → new ≡ old
-unchanged result before after whole input old new known is answers refused =
-    refused-same result input old new (subst IsRefused (sym (same-input before after whole input known is)) refused) answers
+    → before ≡ Some whole → IsInput before after input → Answers result input old new → AsksNoDelivery whole → new ≡ old
+unchanged result before after whole input old new known is answers none =
+    quiet-same result input old new (subst AsksNoDelivery (sym (same-input before after whole input known is)) none) answers
 
 -- 503 IS THE STATUS AFTER A FAULT ALONE
-not_503 : (records : Records) (wish : Result Delivery Refusal) → (response_to records wish).status ≡ 503 → ⊥
-not_503 records (Ok delivery) is = grind (arith, is)
+report-not_503 : (text : Option (List ℕ)) → (response_to_report text).status ≡ 503 → ⊥
+report-not_503 (Some text) is = grind (arith, is)
+report-not_503 None is = grind (arith, is)
+
+not_503 : (records : Records) (wish : Result Request Refusal) → (response_to records wish).status ≡ 503 → ⊥
+not_503 records (Ok (Delivery delivery)) is = grind (arith, is)
+not_503 records (Ok (Report report)) is = report-not_503 (report_in records.state report) is
 not_503 records (Err BadRequest) is = grind (arith, is)
 not_503 records (Err NotFound) is = grind (arith, is)
-not_503 records (Err MethodNotAllowed) is = grind (arith, is)
+not_503 records (Err (MethodNotAllowed target)) is = grind (arith, is)
 not_503 records (Err NotImplemented) is = grind (arith, is)
 not_503 records (Err LengthRequired) is = grind (arith, is)
 not_503 records (Err ContentTooLarge) is = grind (arith, is)

@@ -1,6 +1,6 @@
--- HEADS of requests (HTTP/1.0 and HTTP/1.1, RFC 9112), by the grammar of `httparse`: how long the body is, or why the request is
+-- HEADS of requests (HTTP/1.0 and HTTP/1.1, RFC 9112), by the grammar of `httparse`: what a head asks for, or why the request is
 -- refused.
-use Rattle.std.specs.Prelude.{ℕ, ◌≤◌, ◌==◌, ◌&&◌, ◌||◌, nat_lt, nat_le, Bool, true, false, List, [], ◌∷◌, length, map, Result, Ok, Err, codes}
+use Rattle.std.specs.Prelude.{ℕ, ◌≤◌, ◌==◌, ◌&&◌, ◌||◌, nat_lt, nat_le, Bool, true, false, List, [], ◌∷◌, length, map, Option, Some, None, Result, Ok, Err, codes}
 use Rattle.std.specs.List.{before_first, filter, list_all}
 use Rattle.std.specs.Char.{is_ascii_digit, to_ascii_lowercase}
 use Rattle.std.specs.Str.{bytes_eq}
@@ -8,8 +8,13 @@ use Rattle.std.specs.Str.Parse.{digits_value}
 use Rattle.httparse.specs.Grammar.{RequestHead, ReadsRequest, print_request}
 use Rattle.httparse.specs.Spans.{name_and_value}
 use Rattle.gate_text.specs.Steps.{◌>>=◌}
+use Rattle.gate_hook.specs.Targets.{method_of, target_of}
+use Rattle.gate_hook.specs.declared.head.Ask.{Ask}
+use Rattle.gate_hook.specs.declared.head.Ask.TheVariants.{Delivery, Report}
 use Rattle.gate_hook.specs.declared.refusal.Refusal.{Refusal}
 use Rattle.gate_hook.specs.declared.refusal.Refusal.TheVariants.{BadRequest, NotFound, MethodNotAllowed, NotImplemented, LengthRequired, ContentTooLarge}
+use Rattle.gate_hook.specs.declared.target.Target.{Target}
+use Rattle.gate_hook.specs.declared.target.Target.TheVariants.{Deliveries, Report as ReportOf}
 
 -- LIMITS, in bytes and in fields
 abbrev pub max_head : ℕ
@@ -73,11 +78,28 @@ size_by (value ∷ others) = do
   alone ← checked (has_none others) BadRequest
   size_of value
 
--- those of a head, which then says how long the body is
-abbrev pub size_in : RequestHead → Result ℕ Refusal
-size_in head = do
-  host ← checked (head.minor == 0 || has_one (values_of (codes "host") head)) BadRequest
-  route ← checked (bytes_eq (path_of head.target) (codes "/deliveries")) NotFound
-  method ← checked (bytes_eq head.method (codes "POST")) MethodNotAllowed
+-- what the path names, if it names something
+abbrev pub known : Option Target → Result Target Refusal
+known (Some target) = Ok target
+known None = Err NotFound
+
+-- what a request to this target asks for: a delivery, which is a body of some length, or a report, whose body isn't looked at
+abbrev pub ask_of : Target → RequestHead → Result Ask Refusal
+ask_of Deliveries head = do
   encoding ← checked (has_none (values_of (codes "transfer-encoding") head)) NotImplemented
-  size_by (values_of (codes "content-length") head)
+  size ← size_by (values_of (codes "content-length") head)
+  Ok (Delivery size)
+ask_of (ReportOf report) head = Ok (Report report)
+
+-- with this method, which has to be that of the target
+abbrev pub ask_by : Target → List ℕ → RequestHead → Result Ask Refusal
+ask_by target method head = do
+  right ← checked (bytes_eq method (method_of target)) (MethodNotAllowed target)
+  ask_of target head
+
+-- what a head asks for
+abbrev pub ask_in : RequestHead → Result Ask Refusal
+ask_in head = do
+  host ← checked (head.minor == 0 || has_one (values_of (codes "host") head)) BadRequest
+  target ← known (target_of (path_of head.target))
+  ask_by target head.method head

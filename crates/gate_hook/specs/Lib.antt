@@ -2,6 +2,7 @@
 --     Deliveries   the delivery that a text is, or why it is none
 --     Errors       the text of an error
 --     Lines        the lines of a text, and what is written for them, by the run and the answers of gate_store
+--     Targets      what a path names, and the method that it takes
 --     Heads        the checks of the head of a request, in their order
 --     Requests     what a request asks for, or why it is refused
 --     Responses    a response as bytes, and which one a refusal has
@@ -15,6 +16,8 @@ pub mod Receiving
 pub mod Requests
 pub mod Responding
 pub mod Responses
+pub mod Routes
 pub mod Sending
 pub mod Served
 pub mod Serving
+pub mod Targets

@@ -4,20 +4,28 @@ use Rattle.std.specs.Io.KnownBytes.{Consumes, Keeps, IsAtEnd}
 use Rattle.httparse.specs.Grammar.{RequestHead, ReadsRequest, HasNoRequest, print_request}
 use Rattle.httparse.specs.Spans.{RequestOverflows}
 use Rattle.gate_queue.specs.declared.fault.Fault.TheVariants.{Memory}
-use Rattle.gate_store.specs.declared.delivery.Delivery.{Delivery}
 use Rattle.gate_hook.specs.Requests.{Asks}
 use Rattle.gate_hook.specs.declared.refusal.Refusal.{Refusal}
-use Rattle.gate_hook.specs.Heads.{max_fields, max_head, size_in, HasNoHead}
+use Rattle.gate_hook.specs.Heads.{max_fields, max_head, ask_in, HasNoHead}
 use Rattle.gate_hook.specs.declared.fault.HookFault.{HookFault}
 use Rattle.gate_hook.specs.declared.fault.HookFault.TheVariants.{Gate, Read, Write, TooMuch}
 use Rattle.gate_hook.specs.declared.head.Found.{Found}
 use Rattle.gate_hook.specs.declared.head.Found.TheVariants.{Whole, Unfinished, Never}
+use Rattle.gate_hook.specs.declared.head.Ask.{Ask}
+use Rattle.gate_hook.specs.declared.head.Ask.TheVariants.{Delivery, Report}
 use Rattle.gate_hook.specs.declared.head.Head.{Head}
+use Rattle.gate_hook.specs.declared.requests.Request.{Request}
 
 -- the first of some values, if there is one
 abbrev pub first_value : List (List ℕ) → Option (List ℕ)
 first_value [] = None
 first_value (value ∷ others) = Some value
+
+-- how many bytes of a body the answer needs
+abbrev pub needed_by : Result Ask Refusal → ℕ
+needed_by (Ok (Delivery size)) = size
+needed_by (Ok (Report report)) = 0
+needed_by (Err refusal) = 0
 
 -- these bytes begin with a head, of which this is told
 pub record IsHeadOf (told : Head) (bytes : List ℕ) : Type 0 where
@@ -25,7 +33,7 @@ pub record IsHeadOf (told : Head) (bytes : List ℕ) : Type 0 where
   pub reads : ReadsRequest bytes head (drop told.len bytes)
   pub len : told.len ≡ length (print_request head)
   pub fields : length head.fields ≤ max_fields
-  pub size : told.size ≡ size_in head
+  pub ask : told.ask ≡ ask_in head
 
 abbrev pub IsFound : Found → List ℕ → Type 0
 IsFound (Whole told) bytes = IsHeadOf told bytes
@@ -76,6 +84,6 @@ abbrev pub IsInput : Option (List ℕ) → Option (List ℕ) → List ℕ → Ty
 IsInput before after input = (taken : List ℕ) × (rest : List ℕ) × Consumes before after taken × IsLeft after rest × (input ≡ taken ++ rest)
 
 -- The request was read, as far as its answer needs.
-abbrev pub HasAsked : Result (Result Delivery Refusal) HookFault → Option (List ℕ) → Option (List ℕ) → Type 0
+abbrev pub HasAsked : Result (Result Request Refusal) HookFault → Option (List ℕ) → Option (List ℕ) → Type 0
 HasAsked (Ok wish) before after = (input : List ℕ) × IsInput before after input × Asks input wish
 HasAsked (Err fault) before after = Fails fault before after

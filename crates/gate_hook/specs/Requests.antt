@@ -4,32 +4,41 @@ use Rattle.httparse.specs.Grammar.{RequestHead}
 use Rattle.gate_text.specs.Steps.{◌>>=◌}
 use Rattle.gate_store.specs.declared.delivery.Delivery.{Delivery}
 use Rattle.gate_hook.specs.Deliveries.{delivery_of}
-use Rattle.gate_hook.specs.Heads.{BeginsWith, HasNoHead, size_in}
+use Rattle.gate_hook.specs.Heads.{BeginsWith, HasNoHead, ask_in}
+use Rattle.gate_hook.specs.declared.head.Ask.{Ask}
+use Rattle.gate_hook.specs.declared.head.Ask.TheVariants.{Delivery as TheDelivery, Report as TheReport}
 use Rattle.gate_hook.specs.declared.reading.DeliveryFault.{DeliveryFault}
 use Rattle.gate_hook.specs.declared.refusal.Refusal.{Refusal}
 use Rattle.gate_hook.specs.declared.refusal.Refusal.TheVariants.{BadRequest, NoDelivery}
+use Rattle.gate_hook.specs.declared.requests.Request.{Request}
+use Rattle.gate_hook.specs.declared.requests.Request.TheVariants.{Delivery as DeliveryOf, Report as ReportOf}
 
 -- so many bytes of the rest are the body
 abbrev pub body_in : ℕ → List ℕ → Result (List ℕ) Refusal
 body_in size rest = if nat_le size (length rest) then Ok (take size rest) else Err BadRequest
 
-abbrev pub delivery_or_refusal : Result Delivery DeliveryFault → Result Delivery Refusal
-delivery_or_refusal (Ok delivery) = Ok delivery
+abbrev pub delivery_or_refusal : Result Delivery DeliveryFault → Result Request Refusal
+delivery_or_refusal (Ok delivery) = Ok (DeliveryOf delivery)
 delivery_or_refusal (Err fault) = Err (NoDelivery fault)
 
--- what the bytes behind a head ask for, by what the head says of the body
-abbrev pub asked_by : Result ℕ Refusal → List ℕ → Result Delivery Refusal
-asked_by said rest = do
-  size ← said
+-- what the bytes behind a head ask for, by what the head asks for
+abbrev pub asked_for : Ask → List ℕ → Result Request Refusal
+asked_for (TheDelivery size) rest = do
   body ← body_in size rest
   delivery_or_refusal (delivery_of body)
+asked_for (TheReport report) rest = Ok (ReportOf report)
+
+abbrev pub asked_by : Result Ask Refusal → List ℕ → Result Request Refusal
+asked_by said rest = do
+  ask ← said
+  asked_for ask rest
 
 -- what the request asks for
-abbrev pub asked : RequestHead → List ℕ → Result Delivery Refusal
-asked head rest = asked_by (size_in head) rest
+abbrev pub asked : RequestHead → List ℕ → Result Request Refusal
+asked head rest = asked_by (ask_in head) rest
 
 -- what the input asks for: it has one head at the most, and input without a head is refused
-abbrev pub Asks : List ℕ → Result Delivery Refusal → Type 0
+abbrev pub Asks : List ℕ → Result Request Refusal → Type 0
 Asks input wish =
     ((head : RequestHead) × (rest : List ℕ) × BeginsWith input head rest × (wish ≡ asked head rest))
     ⊎ (HasNoHead input × (wish ≡ Err BadRequest))

@@ -4,21 +4,21 @@ use Rattle.std.specs.Io.KnownBytes.{Appends}
 use Rattle.gate_queue.specs.declared.fault.Fault.{Fault}
 use Rattle.gate_queue.specs.declared.fault.Fault.TheVariants.{Memory, Store, Full}
 use Rattle.gate_store.specs.Run.{Records, IsOfKeepers}
-use Rattle.gate_store.specs.declared.delivery.Delivery.{Delivery}
 use Rattle.gate_hook.specs.Requests.{Asks}
 use Rattle.gate_hook.specs.Responses.{IsResponse}
-use Rattle.gate_hook.specs.Served.{Breaks, HasRoom, IsDelivery, MeetsFull, after_wish, response_to}
+use Rattle.gate_hook.specs.Served.{Breaks, HasRoom, IsTaken, MeetsFull, after_wish, response_to}
 use Rattle.gate_hook.specs.declared.fault.HookFault.{HookFault}
 use Rattle.gate_hook.specs.declared.fault.HookFault.TheVariants.{Gate, Read, Write, TooMuch}
 use Rattle.gate_hook.specs.declared.refusal.Refusal.{Refusal}
+use Rattle.gate_hook.specs.declared.requests.Request.{Request}
 use Rattle.gate_hook.specs.declared.requests.Served.{Served}
 use Rattle.gate_hook.specs.declared.response.Response.{Response}
 
 -- what making the response to this wish leaves
-abbrev pub Responds : Result Response HookFault → Records → Result Delivery Refusal → Records → Type 0
+abbrev pub Responds : Result Response HookFault → Records → Result Request Refusal → Records → Type 0
 Responds (Ok made) old wish new = IsResponse made (response_to old wish) × (new ≡ after_wish old wish) × HasRoom old wish
 Responds (Err (Gate Memory)) old wish new = (new ≡ old) ⊎ ((new ≡ after_wish old wish) × HasRoom old wish)
-Responds (Err (Gate Store)) old wish new = (new ≡ old) × IsDelivery wish
+Responds (Err (Gate Store)) old wish new = (new ≡ old) × IsTaken wish
 Responds (Err (Gate Full)) old wish new = (new ≡ old) × MeetsFull old wish
 Responds (Err Read) old wish new = ⊥
 Responds (Err Write) old wish new = ⊥
@@ -34,7 +34,7 @@ MayFail may_answer TooMuch = ⊥
 -- what reading a request and making its response leave
 abbrev pub Answers : Result Response HookFault → List ℕ → Records → Records → Type 0
 Answers (Ok made) input old new =
-    (wish : Result Delivery Refusal) × Asks input wish × IsResponse made (response_to old wish) × (new ≡ after_wish old wish) × HasRoom old wish
+    (wish : Result Request Refusal) × Asks input wish × IsResponse made (response_to old wish) × (new ≡ after_wish old wish) × HasRoom old wish
 Answers (Err (Gate fault)) input old new = Breaks input fault old new
 Answers (Err Read) input old new = new ≡ old
 Answers (Err Write) input old new = ⊥

@@ -4,13 +4,14 @@ use Rattle.std.specs.Borrow.{Bor}
 use Rattle.std.specs.String.{string_bytes}
 use Rattle.http.specs.StatusCode.{status_text}
 use Rattle.gate_hook.specs.Errors.{error_text_of}
+use Rattle.gate_hook.specs.Targets.{method_of}
 use Rattle.gate_hook.specs.declared.reading.DeliveryFault.{DeliveryFault}
 use Rattle.gate_hook.specs.declared.reading.DeliveryFault.TheVariants.{NotJson, BadField, UnknownEvent, Memory}
 use Rattle.gate_hook.specs.declared.response.Response.{Response as ResponseOf}
 use Rattle.gate_hook.specs.declared.refusal.Refusal.{Refusal}
 use Rattle.gate_hook.specs.declared.refusal.Refusal.TheVariants.{BadRequest, NotFound, MethodNotAllowed, NotImplemented, LengthRequired, ContentTooLarge, NoDelivery}
 
--- what is sent: the kind of the body if there is one, and the method of the route if another was used
+-- what is sent: the kind of the body if there is one, and the method of the target if another was used
 pub record Response : Type 0 where
   pub status : ℕ
   pub kind : Option (List ℕ)
@@ -43,9 +44,12 @@ unfoldable pub response_text : Response → List ℕ
 response_text response =
     message response.status (field_if (codes "Content-Type") response.kind) (field_if (codes "Allow") response.allow) response.body
 
--- the kind of a body that is JSON
+-- the kind of a body that is JSON, and of one that is a report
 abbrev pub json : List ℕ
 json = codes "application/json"
+
+abbrev pub plain : List ℕ
+plain = codes "text/plain; charset=utf-8"
 
 -- WHICH RESPONSE. One without a body:
 abbrev pub bare : ℕ → Response
@@ -65,7 +69,7 @@ fault_status Memory = 400
 abbrev pub refusal_response : Refusal → Response
 refusal_response BadRequest = bare 400
 refusal_response NotFound = bare 404
-refusal_response MethodNotAllowed = record { status = 405; kind = None; allow = Some (codes "POST"); body = [] }
+refusal_response (MethodNotAllowed target) = record { status = 405; kind = None; allow = Some (method_of target); body = [] }
 refusal_response NotImplemented = bare 501
 refusal_response LengthRequired = bare 411
 refusal_response ContentTooLarge = bare 413
@@ -74,6 +78,10 @@ refusal_response (NoDelivery fault) = of_json (fault_status fault) (error_text_o
 -- the answer to a delivery
 abbrev pub answer_response : List ℕ → Response
 answer_response text = of_json 200 text
+
+-- a report
+abbrev pub report_response : List ℕ → Response
+report_response text = record { status = 200; kind = Some plain; allow = None; body = text }
 
 -- after a fault
 abbrev pub fault_response : Response

@@ -3,51 +3,74 @@ use Rattle.std.specs.Prelude.{◌≡◌, ◌⊎◌, ℕ, ◌<◌, true, false, �
 use Rattle.std.specs.Io.KnownBytes.{Appends}
 use Rattle.gate_queue.specs.declared.fault.Fault.{Fault}
 use Rattle.gate_queue.specs.declared.fault.Fault.TheVariants.{Memory, Store, Full}
+use Rattle.gate_queue.specs.declared.state.State.{State}
+use Rattle.gate_report.specs.Change.{change_text_of}
+use Rattle.gate_report.specs.Queue.{queue_text_of}
 use Rattle.gate_store.specs.Answers.{answer_text_of}
 use Rattle.gate_store.specs.Run.{Records, answer_to, after_delivery, meets_full}
 use Rattle.gate_store.specs.declared.delivery.Delivery.{Delivery}
 use Rattle.gate_hook.specs.Requests.{Asks}
-use Rattle.gate_hook.specs.Responses.{Response, response_text, answer_response, refusal_response, fault_response}
+use Rattle.gate_hook.specs.Responses.{Response, response_text, answer_response, refusal_response, report_response, fault_response}
 use Rattle.gate_hook.specs.declared.fault.HookFault.{HookFault}
 use Rattle.gate_hook.specs.declared.fault.HookFault.TheVariants.{Gate, Read, Write, TooMuch}
 use Rattle.gate_hook.specs.declared.refusal.Refusal.{Refusal}
+use Rattle.gate_hook.specs.declared.refusal.Refusal.TheVariants.{NotFound}
+use Rattle.gate_hook.specs.declared.requests.Request.{Request}
+use Rattle.gate_hook.specs.declared.requests.Request.TheVariants.{Delivery as DeliveryOf, Report as ReportOf}
 use Rattle.gate_hook.specs.declared.requests.Served.{Served}
+use Rattle.gate_hook.specs.declared.target.Report.{Report}
+use Rattle.gate_hook.specs.declared.target.Report.TheVariants.{Queue, Change}
 
--- A delivery is answered by the run. A refusal changes nothing.
-abbrev pub response_to : Records → Result Delivery Refusal → Response
-response_to records (Ok delivery) = answer_response (answer_text_of (answer_to records delivery))
+-- THE TEXT OF A REPORT, if there is one: there is none of a change that was never opened.
+abbrev pub report_in : State → Report → Option (List ℕ)
+report_in state Queue = Some (queue_text_of state)
+report_in state (Change number) = change_text_of number state
+
+abbrev pub response_to_report : Option (List ℕ) → Response
+response_to_report (Some text) = report_response text
+response_to_report None = refusal_response NotFound
+
+-- A delivery is answered by the run, and a report by the state. A report changes nothing, and neither does a refusal.
+abbrev pub response_to : Records → Result Request Refusal → Response
+response_to records (Ok (DeliveryOf delivery)) = answer_response (answer_text_of (answer_to records delivery))
+response_to records (Ok (ReportOf report)) = response_to_report (report_in records.state report)
 response_to records (Err refusal) = refusal_response refusal
 
-abbrev pub after_wish : Records → Result Delivery Refusal → Records
-after_wish records (Ok delivery) = after_delivery records delivery
+abbrev pub after_wish : Records → Result Request Refusal → Records
+after_wish records (Ok (DeliveryOf delivery)) = after_delivery records delivery
+after_wish records (Ok (ReportOf report)) = records
 after_wish records (Err refusal) = records
 
 -- no act of a delivery that was let act met a full gate
-abbrev pub HasRoom : Records → Result Delivery Refusal → Type 0
-HasRoom records (Ok delivery) = meets_full records delivery ≡ false
+abbrev pub HasRoom : Records → Result Request Refusal → Type 0
+HasRoom records (Ok (DeliveryOf delivery)) = meets_full records delivery ≡ false
+HasRoom records (Ok (ReportOf report)) = ⊤
 HasRoom records (Err refusal) = ⊤
 
 -- one of whose acts did
-abbrev pub MeetsFull : Records → Result Delivery Refusal → Type 0
-MeetsFull records (Ok delivery) = meets_full records delivery ≡ true
+abbrev pub MeetsFull : Records → Result Request Refusal → Type 0
+MeetsFull records (Ok (DeliveryOf delivery)) = meets_full records delivery ≡ true
+MeetsFull records (Ok (ReportOf report)) = ⊥
 MeetsFull records (Err refusal) = ⊥
 
-abbrev pub IsDelivery : Result Delivery Refusal → Type 0
-IsDelivery (Ok delivery) = ⊤
-IsDelivery (Err refusal) = ⊥
+-- the request isn't refused before the records are asked
+abbrev pub IsTaken : Result Request Refusal → Type 0
+IsTaken (Ok request) = ⊤
+IsTaken (Err refusal) = ⊥
 
 -- The faults, and what each leaves: nothing has changed; or after `Memory`, the delivery has acted and its answer is kept, but there
--- was no memory for its text or its response. The records fail only at a delivery, and `Full` comes only at one of which an act meets a full gate.
+-- was no memory for its text or its response. The records fail only at a delivery or a report, and `Full` comes only at a delivery
+-- of which an act meets a full gate.
 abbrev pub Breaks : List ℕ → Fault → Records → Records → Type 0
 Breaks input Memory old new =
-    (new ≡ old) ⊎ ((wish : Result Delivery Refusal) × Asks input wish × (new ≡ after_wish old wish) × HasRoom old wish)
-Breaks input Store old new = (new ≡ old) × ((wish : Result Delivery Refusal) × Asks input wish × IsDelivery wish)
-Breaks input Full old new = (new ≡ old) × ((wish : Result Delivery Refusal) × Asks input wish × MeetsFull old wish)
+    (new ≡ old) ⊎ ((wish : Result Request Refusal) × Asks input wish × (new ≡ after_wish old wish) × HasRoom old wish)
+Breaks input Store old new = (new ≡ old) × ((wish : Result Request Refusal) × Asks input wish × IsTaken wish)
+Breaks input Full old new = (new ≡ old) × ((wish : Result Request Refusal) × Asks input wish × MeetsFull old wish)
 
 -- this response is due, with this fault if there was one, and leaves these records
 abbrev pub IsDue : List ℕ → Records → Response → Option Fault → Records → Type 0
 IsDue input old response None new =
-    (wish : Result Delivery Refusal) × Asks input wish × (response ≡ response_to old wish) × (new ≡ after_wish old wish) × HasRoom old wish
+    (wish : Result Request Refusal) × Asks input wish × (response ≡ response_to old wish) × (new ≡ after_wish old wish) × HasRoom old wish
 IsDue input old response (Some fault) new = (response ≡ fault_response) × Breaks input fault old new
 
 -- What serving one request leaves, of the input that there is: the response that is due is written, or a part from its front if the
@@ -63,6 +86,6 @@ AnswersOne (Err Read) input old new before after = (new ≡ old) × Appends befo
 AnswersOne (Err (Gate fault)) input old new before after = ⊥
 AnswersOne (Err TooMuch) input old new before after = ⊥
 
--- the input asks for no delivery
-abbrev pub IsRefused : List ℕ → Type 0
-IsRefused input = (delivery : Delivery) → Asks input (Ok delivery) → ⊥
+-- the input asks for no delivery: it is refused, or asks for a report
+abbrev pub AsksNoDelivery : List ℕ → Type 0
+AsksNoDelivery input = (delivery : Delivery) → Asks input (Ok (DeliveryOf delivery)) → ⊥

@@ -1,15 +1,16 @@
-ghost use Rattle.std.specs.Prelude.{◌≡◌, ℕ, All, length, map, codes, IsTrue, option_copied, ◌==◌};
+ghost use Rattle.std.specs.Prelude.{◌≡◌, ℕ, All, length, map, codes, IfOk, IsTrue, option_copied, ◌==◌};
 ghost use Rattle.std.specs.List.{list_all, position};
 ghost use Rattle.std.specs.Char.{is_ascii_digit};
 ghost use Rattle.httparse.specs.Grammar.{RequestHead};
-ghost use Rattle.httparse.specs.Spans.{IsHeaderWithin, IsRequestAt, IsRequestWithin, header_bytes};
+ghost use Rattle.httparse.specs.Spans.{IsHeaderWithin, IsRequestAt, IsRequestWithin, header_bytes, name_and_value};
 ghost use Rattle.gate_hook.specs.Heads as heads;
-ghost use Rattle.gate_hook.specs.Receiving.{IsFound, first_value};
+ghost use Rattle.gate_hook.specs.Receiving.{IsFound, first_value, needed_by};
 
 use crate::refusal::Refusal;
-use http::Method;
+use crate::target::{Report, Target, target_of};
 use httparse::Status;
 use httparse::spans::{EMPTY_HEADER_SPAN, HeaderSpan, RequestSpans, parse_request};
+use std::alloc::{AllocError, Global};
 use std::str;
 
 /// The most bytes that a head may have.
@@ -21,11 +22,32 @@ const MAX_FIELDS: usize = 64;
 // The most bytes that a body may have.
 const MAX_BODY: u64 = 65_536;
 
-/// A head that was read: how many bytes it has, and how long the body is, or why the request is refused.
+/// What the head of a request asks for.
+#[derive(Clone, Copy)]
+pub enum Ask {
+    /// The delivery that a body of so many bytes is.
+    Delivery(usize),
+    /// A report.
+    Report(Report),
+}
+
+/// A head that was read: how many bytes it has, and what it asks for, or why the request is refused.
 #[derive(Clone, Copy)]
 pub struct Head {
     pub len: usize,
-    pub size: Result<usize, Refusal>,
+    pub ask: Result<Ask, Refusal>,
+}
+
+impl Head {
+    /// How many bytes of a body the answer needs.
+    pub fn needed(&self) -> usize
+        ensures { result ≡ needed_by self.now.ask }
+    {
+        match self.ask {
+            Ok(Ask::Delivery(size)) => size,
+            Ok(Ask::Report(_)) | Err(_) => 0,
+        }
+    }
 }
 
 /// What stands at the front of some bytes.
@@ -152,42 +174,68 @@ fn size_by(bytes: &[u8], fields: &[HeaderSpan]) -> Result<usize, Refusal>
     size_of(value)
 }
 
-// How long the body is, or why the request is refused.
-fn size_in(bytes: &[u8], fields: &[HeaderSpan], request: &RequestSpans) -> Result<usize, Refusal>
+// What a request to this target asks for, or why it is refused.
+fn ask_of(bytes: &[u8], fields: &[HeaderSpan], target: Target) -> Result<Ask, Refusal>
+    requires { All (IsHeaderWithin (length bytes.now)) fields.now }
+    ensures { (head : RequestHead) → map name_and_value head.fields ≡ map (header_bytes bytes.now) fields.now → result ≡ heads.ask_of target head }
+{
+    match target {
+        Target::Deliveries => {
+            checked(
+                count_of(bytes, fields, "transfer-encoding") == 0,
+                Refusal::NotImplemented,
+            )?;
+            Ok(Ask::Delivery(size_by(bytes, fields)?))
+        }
+        Target::Report(report) => Ok(Ask::Report(report)),
+    }
+}
+
+// What a request with this target and this method asks for, or why it is refused.
+fn ask_by(
+    bytes: &[u8],
+    fields: &[HeaderSpan],
+    target: &Target,
+    method: &[u8],
+) -> Result<Ask, Refusal>
+    requires { All (IsHeaderWithin (length bytes.now)) fields.now }
+    ensures { (head : RequestHead) → map name_and_value head.fields ≡ map (header_bytes bytes.now) fields.now → result ≡ heads.ask_by target.now method.now head }
+{
+    checked(target.takes(method), Refusal::MethodNotAllowed(*target))?;
+    ask_of(bytes, fields, *target)
+}
+
+// What a request asks for, or why it is refused.
+fn ask_in(
+    alloc: Global,
+    bytes: &[u8],
+    fields: &[HeaderSpan],
+    request: &RequestSpans,
+) -> Result<Result<Ask, Refusal>, AllocError>
     requires within { IsRequestWithin bytes.now fields.now request.now }
-    ensures { (head : RequestHead) → IsRequestAt bytes.now fields.now request.now head → result ≡ heads.size_in head }
+    ensures { IfOk result (λ ask. (head : RequestHead) → IsRequestAt bytes.now fields.now request.now head → ask ≡ heads.ask_in head) }
 {
     let fields = &fields[..request.headers];
-    checked(
-        request.version == 0 || count_of(bytes, fields, "host") == 1,
-        Refusal::BadRequest,
-    )?;
-    checked(
-        path_of(request.path.of(bytes)) == b"/deliveries".as_slice(),
-        Refusal::NotFound,
-    )?;
-    checked(
-        request.method.of(bytes) == Method::POST.as_str().as_bytes(),
-        Refusal::MethodNotAllowed,
-    )?;
-    checked(
-        count_of(bytes, fields, "transfer-encoding") == 0,
-        Refusal::NotImplemented,
-    )?;
-    size_by(bytes, fields)
+    if request.version != 0 && count_of(bytes, fields, "host") != 1 {
+        return Ok(Err(Refusal::BadRequest));
+    }
+    match target_of(alloc, path_of(request.path.of(bytes)))? {
+        Some(target) => Ok(ask_by(bytes, fields, &target, request.method.of(bytes))),
+        None => Ok(Err(Refusal::NotFound)),
+    }
 }
 
 /// What stands at the front of these bytes.
-pub fn head_in(bytes: &[u8]) -> Found
-    ensures { IsFound result bytes.now }
+pub fn head_in(alloc: Global, bytes: &[u8]) -> Result<Found, AllocError>
+    ensures { IfOk result (λ found. IsFound found bytes.now) }
 {
     let mut fields = [EMPTY_HEADER_SPAN; MAX_FIELDS];
     match parse_request(bytes, &mut fields) {
-        Ok(Status::Complete(request)) => Found::Whole(Head {
+        Ok(Status::Complete(request)) => Ok(Found::Whole(Head {
             len: request.len,
-            size: size_in(bytes, &fields, &request),
-        }),
-        Ok(Status::Partial) => Found::Unfinished,
-        Err(_) => Found::Never,
+            ask: ask_in(alloc, bytes, &fields, &request)?,
+        })),
+        Ok(Status::Partial) => Ok(Found::Unfinished),
+        Err(_) => Ok(Found::Never),
     }
 }

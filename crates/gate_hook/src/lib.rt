@@ -15,6 +15,7 @@ mod refusal;
 mod requests;
 mod response;
 mod sending;
+mod target;
 
 pub use errors::error_text;
 pub use fault::HookFault;
@@ -23,3 +24,4 @@ pub use laws::law_of_requests;
 pub use lines::serve_lines;
 pub use reading::{DeliveryFault, read_delivery};
 pub use requests::{Served, serve_one};
+pub use sending::{NotWritten, send};

@@ -3,6 +3,8 @@ ghost use Rattle.gate_hook.specs.Receiving.{IsRead, IsMore, HasReadHead, HasRead
 
 use crate::fault::HookFault;
 use crate::head::{Found, Head, MAX_HEAD, head_in};
+use gate_queue::Fault;
+use std::alloc::Global;
 use std::io::Read;
 
 // How many bytes are read at once.
@@ -37,15 +39,20 @@ fn read_more<R: Read>(reader: &mut R, bytes: &mut Vec<u8>, room: usize) -> Resul
 
 /// Reads until the head of a request is whole, or shows that there is none within the limits. It asks for no byte more once it
 /// knows.
-pub fn read_head<R: Read>(reader: &mut R, bytes: &mut Vec<u8>) -> Result<Option<Head>, HookFault>
+pub fn read_head<R: Read>(
+    alloc: Global,
+    reader: &mut R,
+    bytes: &mut Vec<u8>,
+) -> Result<Option<Head>, HookFault>
     requires { bytes.old.items ≡ [] }
     ensures { HasReadHead result (R.remaining reader.old) (R.remaining reader.new) bytes.new.items }
 {
     loop {
-        match head_in(bytes) {
-            Found::Whole(head) => return Ok(Some(head)),
-            Found::Never => return Ok(None),
-            Found::Unfinished => {}
+        match head_in(alloc, bytes) {
+            Ok(Found::Whole(head)) => return Ok(Some(head)),
+            Ok(Found::Never) => return Ok(None),
+            Ok(Found::Unfinished) => {}
+            Err(_) => return Err(HookFault::Gate(Fault::Memory)),
         }
         let room = MAX_HEAD - bytes.len();
         if room == 0 {

@@ -2,6 +2,7 @@ ghost use Rattle.std.specs.Prelude.{◌≡◌};
 ghost use Rattle.gate_hook.specs.Responses as responses;
 
 use crate::reading::DeliveryFault;
+use crate::target::Target;
 use http::StatusCode;
 
 /// Why a request is refused: the first check that it fails.
@@ -9,10 +10,10 @@ use http::StatusCode;
 pub enum Refusal {
     /// There is no whole head within the limits, or not one `Host`, or no good length, or the body is cut short: 400.
     BadRequest,
-    /// No route has this target: 404.
+    /// The target names nothing, or a change that was never opened: 404.
     NotFound,
-    /// The route has another method: 405.
-    MethodNotAllowed,
+    /// The target has another method than this: 405.
+    MethodNotAllowed(Target),
     /// The body has a transfer encoding: 501.
     NotImplemented,
     /// The length of the body isn't given: 411.
@@ -42,7 +43,7 @@ impl Refusal {
         match self {
             Refusal::BadRequest => StatusCode::BAD_REQUEST,
             Refusal::NotFound => StatusCode::NOT_FOUND,
-            Refusal::MethodNotAllowed => StatusCode::METHOD_NOT_ALLOWED,
+            Refusal::MethodNotAllowed(_) => StatusCode::METHOD_NOT_ALLOWED,
             Refusal::NotImplemented => StatusCode::NOT_IMPLEMENTED,
             Refusal::LengthRequired => StatusCode::LENGTH_REQUIRED,
             Refusal::ContentTooLarge => StatusCode::PAYLOAD_TOO_LARGE,

@@ -1,21 +1,26 @@
 ghost use Rattle.std.specs.Prelude.{◌≡◌, ◌≤◌, ◌↔◌, ℕ, List, Ok, Some, IfSome, IsSome, length, drop, IfOk, IfErr, OnOk, ◌⊎◌, false};
-ghost use Rattle.gate_store.specs.Run.{AgreesOnFull, IsOfKeepers, after_delivery, meets_full};
+ghost use Rattle.std.specs.Option.{option_map};
+ghost use Rattle.std.specs.String.{string_bytes};
+ghost use Rattle.gate_store.specs.Run.{AgreesOnFull, IsOfBooks, IsOfKeepers, after_delivery, meets_full};
 ghost use Rattle.gate_hook.specs.Deliveries.{delivery_of};
 ghost use Rattle.gate_hook.specs.Receiving.{HasAsked, IsInput};
 ghost use Rattle.gate_hook.specs.Requests.{asked_by, delivery_or_refusal};
 ghost use Rattle.gate_hook.specs.Responding.{Answers, HasSent, MayFail, Responds};
 ghost use Rattle.gate_hook.specs.Responses.{IsResponse};
-ghost use Rattle.gate_hook.specs.Served.{AnswersOne, IsRefused, response_to};
+ghost use Rattle.gate_hook.specs.declared.requests.Request.TheVariants.{Delivery as DeliveryOf, Report as ReportOf};
+ghost use Rattle.gate_hook.specs.Served.{AnswersOne, AsksNoDelivery, report_in, response_to, response_to_report};
 
 use crate::answering::delivery_answer;
 use crate::fault::HookFault;
-use crate::head::Head;
+use crate::head::{Ask, Head};
 use crate::reading::{DeliveryFault, read_delivery};
 use crate::receiving::{read_body, read_head};
 use crate::refusal::Refusal;
-use crate::response::{Response, json_response, refusal_response};
+use crate::response::{Response, json_response, refusal_response, report_response};
 use crate::sending::send;
-use gate_queue::Fault;
+use crate::target::Report;
+use gate_queue::{Fault, Gate};
+use gate_report::{change_text, queue_text};
 use gate_store::{Book, Delivery, Keeper};
 use http::StatusCode;
 use std::alloc::{AllocError, Global};
@@ -34,15 +39,24 @@ pub struct Served {
     pub fault: Option<Fault>,
 }
 
-// What a request asks for: the delivery that its body is, or why it is refused.
-type Wish = Result<Delivery, Refusal>;
+/// What a request asks for.
+#[derive(Drop)]
+pub enum Request {
+    /// That this delivery is answered.
+    Delivery(Delivery),
+    /// A report.
+    Report(Report),
+}
+
+// What is asked for, or why the request is refused.
+type Wish = Result<Request, Refusal>;
 
 // What a body asks for.
 fn wish_of(alloc: Global, body: &[u8]) -> Result<Wish, AllocError>
     ensures { IfOk result (λ wish. wish ≡ delivery_or_refusal (delivery_of body.now)) }
 {
     match read_delivery(alloc, body) {
-        Ok(delivery) => Ok(Ok(delivery)),
+        Ok(delivery) => Ok(Ok(Request::Delivery(delivery))),
         Err(DeliveryFault::Memory) => Err(AllocError),
         Err(fault) => Ok(Err(Refusal::NoDelivery(fault))),
     }
@@ -51,14 +65,15 @@ fn wish_of(alloc: Global, body: &[u8]) -> Result<Wish, AllocError>
 // What bytes ask for that begin with this head, and that have all of the body that there is.
 fn wish_in(alloc: Global, bytes: &[u8], head: &Head) -> Result<Wish, AllocError>
     requires { head.now.len ≤ length bytes.now }
-    ensures { IfOk result (λ wish. wish ≡ asked_by head.now.size (drop head.now.len bytes.now)) }
+    ensures { IfOk result (λ wish. wish ≡ asked_by head.now.ask (drop head.now.len bytes.now)) }
 {
     let rest = &bytes[head.len..];
-    match head.size {
-        Ok(size) => match rest.get(..size) {
+    match head.ask {
+        Ok(Ask::Delivery(size)) => match rest.get(..size) {
             Some(body) => wish_of(alloc, body),
             None => Ok(Err(Refusal::BadRequest)),
         },
+        Ok(Ask::Report(report)) => Ok(Ok(Request::Report(report))),
         Err(refusal) => Ok(Err(refusal)),
     }
 }
@@ -68,12 +83,12 @@ fn read_wish<R: Read>(alloc: Global, reader: &mut R) -> Result<Wish, HookFault>
     ensures { HasAsked result (R.remaining reader.old) (R.remaining reader.new) }
 {
     let mut bytes = Vec::new(alloc);
-    let head = match read_head(reader, &mut bytes) {
+    let head = match read_head(alloc, reader, &mut bytes) {
         Ok(Some(head)) => head,
         Ok(None) => return Ok(Err(Refusal::BadRequest)),
         Err(fault) => return Err(fault),
     };
-    match read_body(reader, &mut bytes, head.len, head.size.unwrap_or(0)) {
+    match read_body(reader, &mut bytes, head.len, head.needed()) {
         Ok(()) => {}
         Err(fault) => return Err(fault),
     }
@@ -89,7 +104,7 @@ fn answered<B: Book>(
     keeper: &mut Keeper<B>,
     delivery: &Delivery,
 ) -> Result<Response, Fault>
-    ensures response { B.is_sound keeper.new → IfOk result (λ response. IsResponse response (response_to (B.shows keeper.old) (Ok delivery.now))) }
+    ensures response { B.is_sound keeper.new → IfOk result (λ response. IsResponse response (response_to (B.shows keeper.old) (Ok (DeliveryOf delivery.now)))) }
     ensures records { B.is_sound keeper.new → OnOk result (B.shows keeper.new ≡ after_delivery (B.shows keeper.old) delivery.now) }
     ensures stops { B.is_sound keeper.new → IfErr result (λ fault. (B.shows keeper.new ≡ B.shows keeper.old) ⊎ ((fault ≡ Fault.Memory) × (B.shows keeper.new ≡ after_delivery (B.shows keeper.old) delivery.now) × (meets_full (B.shows keeper.old) delivery.now ≡ false))) }
     ensures full { B.is_sound keeper.new → AgreesOnFull result (meets_full (B.shows keeper.old) delivery.now) }
@@ -98,6 +113,42 @@ fn answered<B: Book>(
 {
     let text = delivery_answer(alloc, keeper, delivery)?;
     Ok(json_response(alloc, StatusCode::OK, text.as_str())?)
+}
+
+// The text of a report, if there is one.
+fn report_text(alloc: Global, gate: &Gate, report: Report) -> Result<Option<String>, AllocError>
+    ensures { IfOk result (λ text. option_map string_bytes text ≡ report_in gate.now report) }
+{
+    match report {
+        Report::Queue => Ok(Some(queue_text(alloc, gate)?)),
+        Report::Change(number) => change_text(alloc, gate, number),
+    }
+}
+
+// The response to a report, by the gate.
+fn reported_by(alloc: Global, gate: &Gate, report: Report) -> Result<Response, AllocError>
+    ensures { IfOk result (λ response. IsResponse response (response_to_report (report_in gate.now report))) }
+{
+    match report_text(alloc, gate, report)? {
+        Some(text) => report_response(alloc, text.as_str()),
+        None => refusal_response(alloc, Refusal::NotFound),
+    }
+}
+
+// The response to a report.
+fn reported<B: Book>(
+    alloc: Global,
+    keeper: &mut Keeper<B>,
+    report: Report,
+) -> Result<Response, Fault>
+    ensures response { B.is_sound keeper.new → IfOk result (λ response. IsResponse response (response_to (B.shows keeper.old) (Ok (ReportOf report)))) }
+    ensures same { B.is_sound keeper.new → B.shows keeper.new ≡ B.shows keeper.old }
+    ensures was { B.is_sound keeper.new → B.is_sound keeper.old }
+    ensures cause { IfErr result (IsOfKeepers B.may_answer) }
+    ensures fault { IfErr result IsOfBooks }
+{
+    let gate = keeper.gate(alloc)?;
+    Ok(reported_by(alloc, &gate, report)?)
 }
 
 // The response to what is asked.
@@ -111,7 +162,11 @@ fn respond<B: Book>(
     ensures cause { IfErr result (MayFail B.may_answer) }
 {
     match wish {
-        Ok(delivery) => match answered(alloc, keeper, delivery) {
+        Ok(Request::Delivery(delivery)) => match answered(alloc, keeper, delivery) {
+            Ok(response) => Ok(response),
+            Err(fault) => Err(HookFault::Gate(fault)),
+        },
+        Ok(Request::Report(report)) => match reported(alloc, keeper, *report) {
             Ok(response) => Ok(response),
             Err(fault) => Err(HookFault::Gate(fault)),
         },
@@ -147,10 +202,12 @@ fn send_as<W: Write>(writer: &mut W, text: &str, served: Served) -> Result<Serve
     }
 }
 
-/// Serves one request of HTTP/1.0 or HTTP/1.1 (RFC 9112): reads it, lets a keeper answer the delivery that it has, and writes one
-/// response. It asks for no more bytes once the answer is known. Up to 1,023 bytes behind the head may have been taken with it.
+/// Serves one request of HTTP/1.0 or HTTP/1.1 (RFC 9112): reads it, lets a keeper answer the delivery that it has or makes the
+/// report that it asks for, and writes one response. It asks for no more bytes once the answer is known. Up to 1,023 bytes behind the
+/// head may have been taken with it.
 ///
-/// A request that is refused changes nothing; the checks stand in `specs/Heads.antt` and `specs/Requests.antt`, in their order. After
+/// Deliveries go to `POST /deliveries`; reports are `GET /queue` and `GET /changes/{n}`. A report changes nothing, and neither does a
+/// request that is refused; the checks stand in `specs/Heads.antt` and `specs/Requests.antt`, in their order. After
 /// a fault of the keeper, or if there is no memory for a request or a response, the status is 503, and the response takes no memory.
 /// Nothing has changed then; but after `Memory` the delivery may have acted, with its answer kept. Whatever the fault, an answer that
 /// is kept is sent if the delivery is handed in again.
@@ -172,7 +229,7 @@ pub fn serve_one<B: Book, R: Read, W: Write>(
         → AnswersOne result input (B.shows keeper.old) (B.shows keeper.new) (W.contents writer.old) (W.contents writer.new)) }
 
     // Input that asks for no delivery leaves the records as they were.
-    ensures refused { B.is_sound keeper.new → (input : List ℕ) → R.remaining reader.old ≡ Some input → IsRefused input → B.shows keeper.new ≡ B.shows keeper.old }
+    ensures same { B.is_sound keeper.new → (input : List ℕ) → R.remaining reader.old ≡ Some input → AsksNoDelivery input → B.shows keeper.new ≡ B.shows keeper.old }
 
     // It ends by a failed read or a failed write alone.
     ensures ends { IfErr result (λ fault. (fault ≡ HookFault.Read) ⊎ (fault ≡ HookFault.Write)) }

@@ -6,11 +6,13 @@ ghost use Rattle.gate_hook.specs.Responses.{IsResponse, now_of};
 use crate::answering::with_line_feed;
 use crate::errors::error_text;
 use crate::refusal::Refusal;
-use http::{Method, StatusCode};
+use http::StatusCode;
 use std::alloc::{AllocError, Global};
 
-// The kind of a body that is JSON.
+// The kind of a body that is JSON, and of one that is a report.
 const JSON: &str = "application/json";
+
+const PLAIN: &str = "text/plain; charset=utf-8";
 
 /// A response as it is sent: its status, and all its bytes.
 #[derive(Drop)]
@@ -76,6 +78,13 @@ pub fn json_response(alloc: Global, status: StatusCode, body: &str) -> Result<Re
     response_of(alloc, status, Some(JSON), None, body)
 }
 
+/// The response whose body is a report.
+pub fn report_response(alloc: Global, report: &str) -> Result<Response, AllocError>
+    ensures { IfOk result (λ response. IsResponse response (responses.report_response report.now)) }
+{
+    response_of(alloc, StatusCode::OK, Some(PLAIN), None, report)
+}
+
 /// The response to a request that is refused.
 pub fn refusal_response(alloc: Global, refusal: Refusal) -> Result<Response, AllocError>
     ensures { IfOk result (λ response. IsResponse response (responses.refusal_response refusal)) }
@@ -86,8 +95,9 @@ pub fn refusal_response(alloc: Global, refusal: Refusal) -> Result<Response, All
             let text = with_line_feed(error_text(alloc, &fault)?)?;
             json_response(alloc, status, text.as_str())
         }
-        Refusal::MethodNotAllowed => {
-            response_of(alloc, status, None, Some(Method::POST.as_str()), "")
+        Refusal::MethodNotAllowed(target) => {
+            let method = target.method();
+            response_of(alloc, status, None, Some(method.as_str()), "")
         }
         Refusal::BadRequest
         | Refusal::NotFound

@@ -6,7 +6,7 @@ use std::io::{Error, ErrorKind, Read, Result, Write};
 /// Gives at most `step` bytes at a call, and fails at one call. A call after that goes on as if nothing had been, so
 /// that a second try shows.
 #[derive(Drop)]
-pub struct Source<'a> {
+pub(crate) struct Source<'a> {
     pub rest: &'a [u8],
     pub step: usize,
     pub bad_call: usize,
@@ -30,7 +30,7 @@ impl Read for Source<'_> {
 
 /// How a write goes wrong.
 #[derive(Clone, Copy)]
-pub enum Refusal {
+pub(crate) enum Refusal {
     /// The call fails.
     Fails(ErrorKind),
     /// The call succeeds and takes no byte.
@@ -39,7 +39,7 @@ pub enum Refusal {
 
 /// Takes at most `step` bytes at a call, and goes wrong at one call. A call after that goes on as if nothing had been.
 #[derive(Drop)]
-pub struct Sink {
+pub(crate) struct Sink {
     pub held: Vec<u8>,
     pub step: usize,
     pub bad_call: usize,
@@ -68,10 +68,10 @@ impl Write for Sink {
 }
 
 /// A call that is never reached.
-pub const NEVER: usize = usize::MAX;
+pub(crate) const NEVER: usize = usize::MAX;
 
 /// Gives this input, and never fails.
-pub fn source_of(input: &str, step: usize) -> Source<'_> {
+pub(crate) fn source_of(input: &str, step: usize) -> Source<'_> {
     Source {
         rest: input.as_bytes(),
         step,
@@ -82,7 +82,7 @@ pub fn source_of(input: &str, step: usize) -> Source<'_> {
 }
 
 /// Takes all, and never fails.
-pub fn sink_of(alloc: Global, step: usize) -> Sink {
+pub(crate) fn sink_of(alloc: Global, step: usize) -> Sink {
     Sink {
         held: Vec::new(alloc),
         step,
@@ -93,6 +93,6 @@ pub fn sink_of(alloc: Global, step: usize) -> Sink {
 }
 
 /// A keeper of this gate, without records in a database.
-pub fn keeper_on(alloc: Global, gate: Gate) -> Keeper<PlainBook> {
+pub(crate) fn keeper_on(alloc: Global, gate: Gate) -> Keeper<PlainBook> {
     Keeper::new(PlainBook::new(alloc, gate))
 }

@@ -1,6 +1,6 @@
 use crate::checks::{check_that, check_words};
 use crate::fakes::{NEVER, Refusal, Sink, Source, keeper_on, sink_of, source_of};
-use gate_hook::{HookFault, Served, serve_one};
+use gate_hook::{HookFault, Served, serve_lines, serve_one};
 use gate_queue::{Fault, Gate};
 use gate_store::{Keeper, PlainBook};
 use std::alloc::Global;
@@ -58,12 +58,23 @@ fn served_by(
 
 // The response to a request, which a keeper of a new gate answers.
 fn check_response(rt: &impl Abort, alloc: Global, request: &str, due: &str) {
+    let mut keeper = keeper_on(alloc, Gate::new(alloc));
+    check_answered(rt, alloc, &mut keeper, request, due);
+}
+
+// The response to a request.
+fn check_answered(
+    rt: &impl Abort,
+    alloc: Global,
+    keeper: &mut Keeper<PlainBook>,
+    request: &str,
+    due: &str,
+) {
     let request = in_full(rt, alloc, request);
     let due = in_full(rt, alloc, due);
-    let mut keeper = keeper_on(alloc, Gate::new(alloc));
     let mut source = source_of(request.as_str(), NEVER);
     let mut sink = sink_of(alloc, NEVER);
-    let words = served_by(rt, alloc, &mut keeper, &mut source, &mut sink);
+    let words = served_by(rt, alloc, keeper, &mut source, &mut sink);
     check_words(
         rt,
         request.as_str(),
@@ -113,6 +124,11 @@ fn responses(rt: HostRuntime) {
         POST /deliveries HTTP/1.1|Host: here|Content-Length: 0|| => HTTP/1.1 400 Bad Request|Content-Type: application/json|Content-Length: 31|Connection: close||{"error":"NotJson","number":1}~
         POST /deliveries HTTP/1.1|Host: here|Content-Length: 0002||{} => HTTP/1.1 422 Unprocessable Entity|Content-Type: application/json|Content-Length: 45|Connection: close||{"error":"BadField","field":"id","number":2}~
         POST /deliveries HTTP/1.1|Host: here|Content-Length: 24||{"id":"d","event":"zzz"} => HTTP/1.1 422 Unprocessable Entity|Content-Type: application/json|Content-Length: 36|Connection: close||{"error":"UnknownEvent","number":3}~
+        GET /queue HTTP/1.1|Host: here|| => HTTP/1.1 200 OK|Content-Type: text/plain; charset=utf-8|Content-Length: 66|Connection: close||base none~clock 0~           batch branch  state     prio changes~
+        GET /queue?now HTTP/1.0|Transfer-Encoding: chunked|Content-Length: x||more => HTTP/1.1 200 OK|Content-Type: text/plain; charset=utf-8|Content-Length: 66|Connection: close||base none~clock 0~           batch branch  state     prio changes~
+        POST /changes/7 HTTP/1.1|Host: here|Content-Length: 2||{} => HTTP/1.1 405 Method Not Allowed|Content-Length: 0|Allow: GET|Connection: close||
+        POST /changes/4294967295 HTTP/1.1|Host: here|Transfer-Encoding: chunked|| => HTTP/1.1 405 Method Not Allowed|Content-Length: 0|Allow: GET|Connection: close||
+        HEAD /queue HTTP/1.1|Host: here|| => HTTP/1.1 405 Method Not Allowed|Content-Length: 0|Allow: GET|Connection: close||
     "#;
     check_responses(&rt, rt.alloc(), table);
 }
@@ -142,9 +158,23 @@ fn checks_in_order(rt: HostRuntime) {
         GET /nowhere HTTP/1.0|| => 404 Not Found
         GET /nowhere HTTP/1.0|Host: here|Host: there|| => 404 Not Found
         GET /nowhere HTTP/1.1|Host:|| => 404 Not Found
-        GET /queue HTTP/1.1|Host: here|| => 404 Not Found
+        GET /queue HTTP/1.1|| => 400 Bad Request
+        GET /queue HTTP/1.1|Host: here|Host: here|| => 400 Bad Request
+        GET /queue/ HTTP/1.1|Host: here|| => 404 Not Found
+        GET /queues HTTP/1.1|Host: here|| => 404 Not Found
+        GET queue HTTP/1.1|Host: here|| => 404 Not Found
+        GET /changes HTTP/1.1|Host: here|| => 404 Not Found
+        GET /changes/ HTTP/1.1|Host: here|| => 404 Not Found
         GET /changes/0 HTTP/1.1|Host: here|| => 404 Not Found
+        POST /changes/0 HTTP/1.1|Host: here|| => 404 Not Found
+        POST /changes/01 HTTP/1.1|Host: here|| => 404 Not Found
+        POST /changes/+1 HTTP/1.1|Host: here|| => 404 Not Found
+        POST /changes/%31 HTTP/1.1|Host: here|| => 404 Not Found
+        POST /changes/1/ HTTP/1.1|Host: here|| => 404 Not Found
+        POST /changes/1/2 HTTP/1.1|Host: here|| => 404 Not Found
+        POST /changes/4294967296 HTTP/1.1|Host: here|| => 404 Not Found
         GET /changes/7 HTTP/1.1|Host: here|| => 404 Not Found
+        GET /changes/4294967295 HTTP/1.1|Host: here|| => 404 Not Found
         PUT /deliveries/ HTTP/1.1|Host: here|| => 404 Not Found
         PUT /Deliveries HTTP/1.1|Host: here|| => 404 Not Found
         PUT /%64eliveries HTTP/1.1|Host: here|| => 404 Not Found
@@ -171,6 +201,46 @@ fn checks_in_order(rt: HostRuntime) {
         POST /deliveries HTTP/1.1|Host: here|Content-Length: 2||{ => 400 Bad Request
     ";
     check_refusals(&rt, rt.alloc(), table);
+}
+
+// What leads to an approved change, and from there to an order to land it.
+const APPROVED: &str = concat!(
+    "{\"id\":\"r1\",\"event\":\"role\",\"person\":\"alice\",\"role\":\"reviewer\"}\n",
+    "{\"id\":\"r2\",\"event\":\"settings\",\"text\":\"status = [\\\"ci\\\"]\"}\n",
+    "{\"id\":\"r3\",\"event\":\"base\",\"commit\":\"0000000000000000000000000000000000000000\"}\n",
+    "{\"id\":\"r4\",\"event\":\"opened\",\"change\":1,\"author\":\"carol\",\"head\":\"aaaaaaaaaaaaaaaaaaaaaaaaaaaaaaaaaaaaaaaa\"}\n",
+    "{\"id\":\"r5\",\"event\":\"comment\",\"change\":1,\"person\":\"alice\",\"text\":\"bors r+\"}\n",
+);
+
+const ORDERED: &str = concat!(
+    "{\"id\":\"r6\",\"event\":\"tick\",\"now\":100}\n",
+    "{\"id\":\"r7\",\"event\":\"staged\",\"batch\":1,\"commit\":\"dddddddddddddddddddddddddddddddddddddddd\"}\n",
+    "{\"id\":\"r8\",\"event\":\"status\",\"commit\":\"dddddddddddddddddddddddddddddddddddddddd\",\"name\":\"ci\",\"state\":\"success\"}\n",
+);
+
+fn check_lines(rt: &impl Abort, alloc: Global, keeper: &mut Keeper<PlainBook>, lines: &str) {
+    let mut source = source_of(lines, NEVER);
+    let mut sink = sink_of(alloc, NEVER);
+    let served = serve_lines(alloc, keeper, &mut source, &mut sink);
+    check_that(rt, 0, served.is_ok());
+}
+
+// Reports are those of the records as they are, and leave them so.
+#[test]
+fn reports(rt: HostRuntime) {
+    let mut keeper = keeper_on(rt.alloc(), Gate::new(rt.alloc()));
+    let of_change =
+        "HTTP/1.1 200 OK|Content-Type: text/plain; charset=utf-8|Content-Length: 171|Connection: close||change    1~author    carol~head      aaaaaaaaaaaaaaaaaaaaaaaaaaaaaaaaaaaaaaaa~state     open~priority  0~labels    -~reviews   -~delegates -~approved  alice~trying    no~";
+    let of_queue =
+        "HTTP/1.1 200 OK|Content-Type: text/plain; charset=utf-8|Content-Length: 146|Connection: close||base 0000000000000000000000000000000000000000~clock 100~           batch branch  state     prio changes~               1 staging landing      0 1~";
+    let change = "GET /changes/1 HTTP/1.1|Host: here||";
+    let queue = "GET /queue HTTP/1.1|Host: here||";
+    check_lines(&rt, rt.alloc(), &mut keeper, APPROVED);
+    check_answered(&rt, rt.alloc(), &mut keeper, change, of_change);
+    check_answered(&rt, rt.alloc(), &mut keeper, change, of_change);
+    check_lines(&rt, rt.alloc(), &mut keeper, ORDERED);
+    check_answered(&rt, rt.alloc(), &mut keeper, queue, of_queue);
+    check_answered(&rt, rt.alloc(), &mut keeper, queue, of_queue);
 }
 
 // Methods of other routes, and of none, in the case that they are sent in.

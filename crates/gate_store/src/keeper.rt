@@ -49,7 +49,7 @@ impl<B: Book> Keeper<B> {
         book
     }
 
-    /// A copy of the gate. It changes nothing. The one fault besides those of the book is `Memory`.
+    /// A copy of the gate. It changes nothing. The fault is `Memory`, or one that the book may answer; it is never `Full`.
     pub fn gate(&mut self, alloc: Global) -> Result<Gate, Fault>
         ensures gate { B.is_sound self.new → IfOk result (λ gate. gate ≡ (B.shows self.old).state) }
 
@@ -60,6 +60,7 @@ impl<B: Book> Keeper<B> {
         ensures same { B.is_sound self.new → B.shows self.new ≡ B.shows self.old }
         ensures was { B.is_sound self.new → B.is_sound self.old }
         ensures cause { IfErr result (λ fault. (fault ≡ Fault.Memory) ⊎ B.may_answer fault) }
+        ensures fault { IfErr result IsOfBooks }
     {
         law_of_histories();
         self.copy_gate(alloc)
@@ -71,6 +72,7 @@ impl<B: Book> Keeper<B> {
         ensures same { B.is_sound self.new → B.shows self.new ≡ B.shows self.old }
         ensures was { B.is_sound self.new → B.is_sound self.old }
         ensures cause { IfErr result (λ fault. (fault ≡ Fault.Memory) ⊎ B.may_answer fault) }
+        ensures fault { IfErr result IsOfBooks }
     {
         match &self.gate {
             Some(gate) => Ok(gate.copy(alloc)?),

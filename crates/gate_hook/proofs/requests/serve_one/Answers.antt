@@ -9,10 +9,10 @@ returns-in-Ok-clause-served g c =
     let answered = c.in-Ok.ensures.answered in
     (answered.0, answered.1, λ sound. sends-response _ c.in-Ok.response _ _ _ _ _ (answered.2 sound) (rw (sym c.as_str.ensures.value) c.send_as.ensures))
 
-pub returns-in-Ok-clause-refused : goal.returns-in-Ok-clause-refused
-returns-in-Ok-clause-refused g c sound input known refused =
+pub returns-in-Ok-clause-same : goal.returns-in-Ok-clause-same
+returns-in-Ok-clause-same g c sound input known none =
     let answered = c.in-Ok.ensures.answered in
-    unchanged (Ok c.in-Ok.response) _ _ input answered.0 _ _ known answered.1 (answered.2 sound) refused
+    unchanged (Ok c.in-Ok.response) _ _ input answered.0 _ _ known answered.1 (answered.2 sound) none
 
 pub returns-in-Err-Gate-clause-served : goal.returns-in-Err-Gate-clause-served
 unfolding response_text digits
@@ -24,10 +24,10 @@ returns-in-Err-Gate-clause-served g c =
           (rw c.in-Err-Gate.field-0-is at answered.2 sound) c.send_as-in-Err-Gate.ensures,
     )
 
-pub returns-in-Err-Gate-clause-refused : goal.returns-in-Err-Gate-clause-refused
-returns-in-Err-Gate-clause-refused g c sound input known refused =
+pub returns-in-Err-Gate-clause-same : goal.returns-in-Err-Gate-clause-same
+returns-in-Err-Gate-clause-same g c sound input known none =
     let answered = c.in-Err-Gate.ensures.answered in
-    unchanged (Err c.in-Err-Gate.field-0) _ _ input answered.0 _ _ known answered.1 (answered.2 sound) refused
+    unchanged (Err c.in-Err-Gate.field-0) _ _ input answered.0 _ _ known answered.1 (answered.2 sound) none
 
 pub returns-in-Ok-clause-exact : goal.returns-in-Ok-clause-exact
 returns-in-Ok-clause-exact g c sound = exact-one _ _ _ _ _ _ ((returns-in-Ok-clause-served g c).2 sound)
