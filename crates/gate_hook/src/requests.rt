@@ -42,7 +42,7 @@ pub struct Served {
 /// What a request asks for.
 #[derive(Drop)]
 pub enum Request {
-    /// That this delivery is answered.
+    /// A delivery, which is to be answered.
     Delivery(Delivery),
     /// A report.
     Report(Report),
@@ -125,7 +125,7 @@ fn report_text(alloc: Global, gate: &Gate, report: Report) -> Result<Option<Stri
     }
 }
 
-// The response to a report, by the gate.
+// The response that has a report of this gate, or says that there is none.
 fn reported_by(alloc: Global, gate: &Gate, report: Report) -> Result<Response, AllocError>
     ensures { IfOk result (λ response. IsResponse response (response_to_report (report_in gate.now report))) }
 {
@@ -135,7 +135,7 @@ fn reported_by(alloc: Global, gate: &Gate, report: Report) -> Result<Response, A
     }
 }
 
-// The response to a report.
+// The response that has a report, or says that there is none.
 fn reported<B: Book>(
     alloc: Global,
     keeper: &mut Keeper<B>,
@@ -207,7 +207,8 @@ fn send_as<W: Write>(writer: &mut W, text: &str, served: Served) -> Result<Serve
 /// head may have been taken with it.
 ///
 /// Deliveries go to `POST /deliveries`; reports are `GET /queue` and `GET /changes/{n}`. A report changes nothing, and neither does a
-/// request that is refused; the checks stand in `specs/Heads.antt` and `specs/Requests.antt`, in their order. After
+/// request that is refused; the checks stand in `specs/Heads.antt` and `specs/Requests.antt`, in their order, and in `specs/Served.antt`
+/// the last one of a report, that its change was opened. After
 /// a fault of the keeper, or if there is no memory for a request or a response, the status is 503, and the response takes no memory.
 /// Nothing has changed then; but after `Memory` the delivery may have acted, with its answer kept. Whatever the fault, an answer that
 /// is kept is sent if the delivery is handed in again.

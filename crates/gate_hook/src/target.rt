@@ -9,7 +9,7 @@ use matchit::{InsertError, Match, Router};
 use std::alloc::{AllocError, Global};
 use std::str;
 
-/// What a request to read asks for.
+/// Which report is asked for.
 #[derive(Clone, Copy, Debug, PartialEq, Eq)]
 pub enum Report {
     /// The queue.
@@ -103,6 +103,7 @@ pub fn target_of(alloc: Global, path: &[u8]) -> Result<Option<Target>, AllocErro
     };
     match the_routes(alloc) {
         Ok(router) => Ok(target_by(&router, path)),
+        // The routes don't conflict, so memory alone can be wanting.
         Err(_) => Err(AllocError),
     }
 }

@@ -128,6 +128,7 @@ fn responses(rt: HostRuntime) {
         GET /queue?now HTTP/1.0|Transfer-Encoding: chunked|Content-Length: x||more => HTTP/1.1 200 OK|Content-Type: text/plain; charset=utf-8|Content-Length: 66|Connection: close||base none~clock 0~           batch branch  state     prio changes~
         POST /changes/7 HTTP/1.1|Host: here|Content-Length: 2||{} => HTTP/1.1 405 Method Not Allowed|Content-Length: 0|Allow: GET|Connection: close||
         POST /changes/4294967295 HTTP/1.1|Host: here|Transfer-Encoding: chunked|| => HTTP/1.1 405 Method Not Allowed|Content-Length: 0|Allow: GET|Connection: close||
+        POST /queue HTTP/1.1|Host: here|| => HTTP/1.1 405 Method Not Allowed|Content-Length: 0|Allow: GET|Connection: close||
         HEAD /queue HTTP/1.1|Host: here|| => HTTP/1.1 405 Method Not Allowed|Content-Length: 0|Allow: GET|Connection: close||
     "#;
     check_responses(&rt, rt.alloc(), table);
@@ -170,6 +171,7 @@ fn checks_in_order(rt: HostRuntime) {
         POST /changes/01 HTTP/1.1|Host: here|| => 404 Not Found
         POST /changes/+1 HTTP/1.1|Host: here|| => 404 Not Found
         POST /changes/%31 HTTP/1.1|Host: here|| => 404 Not Found
+        POST /changes/é HTTP/1.1|Host: here|| => 404 Not Found
         POST /changes/1/ HTTP/1.1|Host: here|| => 404 Not Found
         POST /changes/1/2 HTTP/1.1|Host: here|| => 404 Not Found
         POST /changes/4294967296 HTTP/1.1|Host: here|| => 404 Not Found
@@ -182,6 +184,7 @@ fn checks_in_order(rt: HostRuntime) {
         OPTIONS * HTTP/1.1|Host: here|| => 404 Not Found
         POST ?/deliveries HTTP/1.1|Host: here|| => 404 Not Found
         POST /deliveries HTTP/1.1|Host: here|Transfer-Encoding: chunked|| => 501 Not Implemented
+        POST /deliveries HTTP/1.1|Host: here|Transfer-Encoding: chunked|Content-Length: 2||{} => 501 Not Implemented
         POST /deliveries HTTP/1.1|Host: here|transfer-encoding:|Content-Length: 2|| => 501 Not Implemented
         POST /deliveries HTTP/1.1|Host: here|Content-Length: x|Transfer-Encoding: chunked|| => 501 Not Implemented
         POST /deliveries HTTP/1.1|Host: here|| => 411 Length Required
@@ -324,27 +327,27 @@ fn requests_that_are_cut_short(rt: HostRuntime) {
     }
 }
 
-// A head that is refused is read to its end, and no byte of the body is.
-#[test]
-fn a_refused_head(rt: HostRuntime) {
-    let head = "POST /nowhere HTTP/1.1\r\nHost: here\r\nContent-Length: 61\r\n\r\n";
-    let request = format!(in rt.alloc();
-        "{head}{}",
-        "{".repeat(rt.alloc(), 61).expect(&rt, "memory")
-    )
-    .expect(&rt, "memory");
-    let mut source = source_of(request.as_str(), 1);
-    let mut sink = sink_of(rt.alloc(), NEVER);
-    let due = "HTTP/1.1 404 Not Found\r\nContent-Length: 0\r\nConnection: close\r\n\r\n";
-    check_served(
-        &rt,
-        rt.alloc(),
-        &mut source,
-        &mut sink,
-        "404",
-        due.as_bytes(),
+// A head is read to its end, and no byte of the body is.
+fn check_head_alone(rt: &impl Abort, alloc: Global, line: &str, words: &str, due: &str) {
+    let head = format!(in alloc; "{line}\r\nHost: here\r\nContent-Length: 61\r\n\r\n").expect(
+        rt, "memory",
     );
-    check_that(&rt, 0, source.calls == head.len());
+    let body = "{".repeat(alloc, 61).expect(rt, "memory");
+    let request = format!(in alloc; "{head}{body}").expect(rt, "memory");
+    let mut source = source_of(request.as_str(), 1);
+    let mut sink = sink_of(alloc, NEVER);
+    check_served(rt, alloc, &mut source, &mut sink, words, due.as_bytes());
+    check_that(rt, 0, source.calls == head.len());
+}
+
+// A body isn't waited for if the head shows the answer: that the request is refused, or asks for a report.
+#[test]
+fn bodies_that_do_not_matter(rt: HostRuntime) {
+    let missing = "HTTP/1.1 404 Not Found\r\nContent-Length: 0\r\nConnection: close\r\n\r\n";
+    let queue =
+        "HTTP/1.1 200 OK\r\nContent-Type: text/plain; charset=utf-8\r\nContent-Length: 66\r\nConnection: close\r\n\r\nbase none\nclock 0\n           batch branch  state     prio changes\n";
+    check_head_alone(&rt, rt.alloc(), "POST /nowhere HTTP/1.1", "404", missing);
+    check_head_alone(&rt, rt.alloc(), "GET /queue HTTP/1.1", "200", queue);
 }
 
 // One read goes wrong: nothing is written, and nothing more is read.
@@ -453,8 +456,26 @@ fn filled(rt: &impl Abort, alloc: Global, fields: usize, len: usize) -> String {
 
 fn check_filled(rt: &impl Abort, alloc: Global, fields: usize, len: usize, words: &str) {
     let request = filled(rt, alloc, fields, len);
+    check_status(rt, alloc, request.as_str(), words);
+}
+
+// The same of a request for the queue, one of whose fields is `Host`.
+fn check_filled_get(rt: &impl Abort, alloc: Global, fields: usize, len: usize, words: &str) {
+    let mut text = String::from_str(alloc, "GET /queue HTTP/1.1\r\nHost: here\r\n").expect(
+        rt, "memory",
+    );
+    for _ in 2..fields {
+        text.push_str("A: b\r\n").expect(rt, "memory");
+    }
+    let filling = len.saturating_sub(text.len()).saturating_sub(7);
+    let filling = "c".repeat(alloc, filling).expect(rt, "memory");
+    write!(text, "A: {filling}\r\n\r\n").expect(rt, "memory");
+    check_status(rt, alloc, text.as_str(), words);
+}
+
+fn check_status(rt: &impl Abort, alloc: Global, request: &str, words: &str) {
     let mut keeper = keeper_on(alloc, Gate::new(alloc));
-    let mut source = source_of(request.as_str(), NEVER);
+    let mut source = source_of(request, NEVER);
     let mut sink = sink_of(alloc, NEVER);
     let found = served_by(rt, alloc, &mut keeper, &mut source, &mut sink);
     check_words(rt, "filled", found.as_str(), words);
@@ -466,6 +487,10 @@ fn limits_of_a_head(rt: HostRuntime) {
     check_filled(&rt, rt.alloc(), 1, 16_385, "400");
     check_filled(&rt, rt.alloc(), 63, 1_000, "200");
     check_filled(&rt, rt.alloc(), 64, 1_000, "400");
+    check_filled_get(&rt, rt.alloc(), 3, 16_384, "200");
+    check_filled_get(&rt, rt.alloc(), 3, 16_385, "400");
+    check_filled_get(&rt, rt.alloc(), 64, 1_000, "200");
+    check_filled_get(&rt, rt.alloc(), 65, 1_000, "400");
 }
 
 #[test]
