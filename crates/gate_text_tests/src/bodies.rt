@@ -1,8 +1,8 @@
 use super::comments::{check_said, check_unknown};
 
-#[test]
-fn bodies_without_arguments(rt: HostRuntime) {
-    let table = "
+// What is read of a body.
+const BODIES: &str = "
+        // Bodies without an argument.
         bors ping => ping
         bors r+ => approve
         bors merge => approve
@@ -23,18 +23,7 @@ fn bodies_without_arguments(rt: HostRuntime) {
         bors ping ping => unknown
         bors retry now => unknown
         bors try- now => unknown
-    ";
-    check_said(&rt, rt.alloc(), table);
-    let bodies =
-        "R+|R-|Merge|MERGE-|Ping|Try-|D+|Retry|r|+|r +|r++|+r|r+r+|r+ r+|r--|merge+|merge it|\
-        merged|merge -|r- now|pin|pings|ping.|retry-|try--|d|delegate|d +|d++|d--|d+ x|d- x|d+=a|\
-        dance|r+ é|ré|r＋|r−|рing";
-    check_unknown(&rt, rt.alloc(), "bors ", bodies);
-}
-
-#[test]
-fn tries(rt: HostRuntime) {
-    let table = "
+        // Tries.
         bors try => try
         bors: try   => try
         bors:try now => try
@@ -45,15 +34,7 @@ fn tries(rt: HostRuntime) {
         bors try try- => try
         bors try \t. => try
         bors try\u{a0}now => unknown
-    ";
-    check_said(&rt, rt.alloc(), table);
-    let bodies = "try\tnow|tryon|try-me|try, now|try+|try=a|tré|tryé|tr|Try|TRY now";
-    check_unknown(&rt, rt.alloc(), "bors ", bodies);
-}
-
-#[test]
-fn numbers(rt: HostRuntime) {
-    let table = "
+        // Numbers of a priority.
         bors p=0 => priority 0
         bors:p=5 => priority 5
         bors p=42 => priority 42
@@ -67,27 +48,7 @@ fn numbers(rt: HostRuntime) {
         bors p=007 => priority 7
         bors p=0010 => priority 10
         bors p=-0908 => priority -908
-    ";
-    check_said(&rt, rt.alloc(), table);
-    let numbers =
-        "|-|+1|--1|-+1|+|1-|10000|-10000|00000|00007|-00001|65541| 5|- 5|5 5|5\t|\t5|5p|a|/|:|0x5|\
-        1.0|1e1|1_0|1,000|=5|5 p=6|5 r+|5 now|−5|５|٣|5é";
-    for front in [
-        "bors p=",
-        "bors r+ p=",
-        "bors merge p=",
-        "bors r=zoe p=",
-        "bors merge=zoe p=",
-    ] {
-        check_unknown(&rt, rt.alloc(), front, numbers);
-    }
-    let bodies = "p|p5|p =5|p:5|P=5|-p=5";
-    check_unknown(&rt, rt.alloc(), "bors ", bodies);
-}
-
-#[test]
-fn lists(rt: HostRuntime) {
-    let table = "
+        // Lists of names.
         bors r=alice => approve for alice
         bors merge=alice => approve for alice
         bors delegate=alice => delegate to alice
@@ -107,33 +68,7 @@ fn lists(rt: HostRuntime) {
         bors r=a,aa,a => approve for a, aa
         bors Delegate=a => unknown
         bors delegate =a => unknown
-    ";
-    check_said(&rt, rt.alloc(), table);
-    let lists =
-        "| |,|,,|a,|,a|a,,b|a, ,b| ,a|@|a,@|@,a|@@a|@ a|a@|a b|a, b c|a b, c|a/b|a;b|a:b|a+b|a=b|\
-        =a|p=5| p=5|a\tb|\ta|a,\tb|a\0|a\r,b|\"a\"|`a`|{a}|é|aé|a,é,b|a，b|a\u{a0}|\u{212a}|ſ";
-    for front in ["bors r=", "bors merge=", "bors d=", "bors delegate="] {
-        check_unknown(&rt, rt.alloc(), front, lists);
-    }
-    let bodies = "R=a|Merge=a|D=a|r =a|d =a|r+=a|ra|da";
-    check_unknown(&rt, rt.alloc(), "bors ", bodies);
-}
-
-#[test]
-fn names_of_64_and_65_bytes(rt: HostRuntime) {
-    let name = "a".repeat(rt.alloc(), 64).expect(&rt, "memory");
-    let table = format!(in rt.alloc();
-        "
-        bors r=b, @{name} => approve for b, {name}
-        bors r=b, @{name}a => unknown
-    "
-    );
-    check_said(&rt, rt.alloc(), table.expect(&rt, "memory").as_str());
-}
-
-#[test]
-fn priorities_of_approvals(rt: HostRuntime) {
-    let table = "
+        // A priority behind an approval.
         bors r+ p=5 => priority 5; approve
         bors r+   p=12 => priority 12; approve
         bors r+ p=-3 => priority -3; approve
@@ -148,17 +83,7 @@ fn priorities_of_approvals(rt: HostRuntime) {
         bors retry p=5 => unknown
         bors r+\u{a0}p=5 => unknown
         bors r+ é p=5 => unknown
-    ";
-    check_said(&rt, rt.alloc(), table);
-    let bodies =
-        "r+p=5|mergep=5|r+\tp=5|r+ \tp=5|r+ P=5|r+ p5|r+, p=5|r p=5|R+ p=5|r- p=5|ping p=5|\
-        try- p=5|d+ p=5|d- p=5";
-    check_unknown(&rt, rt.alloc(), "bors ", bodies);
-}
-
-#[test]
-fn priorities_of_lists(rt: HostRuntime) {
-    let table = "
+        // A priority behind a list.
         bors r=a p=5 => priority 5; approve for a
         Bors: r=@Alice, bob p=5 => priority 5; approve for alice, bob
         bors merge=a p=-1 => priority -1; approve for a
@@ -182,8 +107,31 @@ fn priorities_of_lists(rt: HostRuntime) {
         bors r=a p=5 b => unknown
         bors r=a p=5,b => unknown
         bors r= p=5, a => unknown
+        // Names of 64 and of 65 bytes.
+        bors r=b, @aaaaaaaaaaaaaaaaaaaaaaaaaaaaaaaaaaaaaaaaaaaaaaaaaaaaaaaaaaaaaaaa => approve for b, aaaaaaaaaaaaaaaaaaaaaaaaaaaaaaaaaaaaaaaaaaaaaaaaaaaaaaaaaaaaaaaa
+        bors r=b, @aaaaaaaaaaaaaaaaaaaaaaaaaaaaaaaaaaaaaaaaaaaaaaaaaaaaaaaaaaaaaaaaa => unknown
     ";
-    check_said(&rt, rt.alloc(), table);
-    let bodies = "r=ap=5|r=a,p=5|r=a\tp=5|r=a P=5|r=a p5";
-    check_unknown(&rt, rt.alloc(), "bors ", bodies);
+
+// Bodies that are no command, behind each of their fronts.
+const UNKNOWN: &str = "
+        bors  => R+|R-|Merge|MERGE-|Ping|Try-|D+|Retry|r|+|r +|r++|+r|r+r+|r+ r+|r--|merge+|merge it|\
+        merged|merge -|r- now|pin|pings|ping.|retry-|try--|d|delegate|d +|d++|d--|d+ x|d- x|d+=a|\
+        dance|r+ é|ré|r＋|r−|рing
+        bors  => try\tnow|tryon|try-me|try, now|try+|try=a|tré|tryé|tr|Try|TRY now
+        bors p=/bors r+ p=/bors merge p=/bors r=zoe p=/bors merge=zoe p= => |-|+1|--1|-+1|+|1-|10000|-10000|\
+        00000|00007|-00001|65541| 5|- 5|5 5|5\t|\t5|5p|a|/|:|0x5|1.0|1e1|1_0|1,000|=5|5 p=6|5 r+|5 now|−5|５|٣|5é
+        bors  => p|p5|p =5|p:5|P=5|-p=5
+        bors r=/bors merge=/bors d=/bors delegate= => | |,|,,|a,|,a|a,,b|a, ,b| ,a|@|a,@|@,a|@@a|@ a|a@|a b|\
+        a, b c|a b, c|a/b|a;b|a:b|a+b|a=b|=a|p=5| p=5|a\tb|\ta|a,\tb|a\0|a\r,b|\"a\"|`a`|{a}|é|aé|a,é,b|a，b|\
+        a\u{a0}|\u{212a}|ſ
+        bors  => R=a|Merge=a|D=a|r =a|d =a|r+=a|ra|da
+        bors  => r+p=5|mergep=5|r+\tp=5|r+ \tp=5|r+ P=5|r+ p5|r+, p=5|r p=5|R+ p=5|r- p=5|ping p=5|\
+        try- p=5|d+ p=5|d- p=5
+        bors  => r=ap=5|r=a,p=5|r=a\tp=5|r=a P=5|r=a p5
+    ";
+
+#[test]
+fn bodies(rt: HostRuntime) {
+    check_said(&rt, rt.alloc(), BODIES);
+    check_unknown(&rt, rt.alloc(), UNKNOWN);
 }

@@ -1,5 +1,3 @@
-use std::alloc::Global;
-use std::ops::Range;
 use std::process::Abort;
 
 // The answer to a row is these words. An assertion is dear to prove where many values are alive, so nearly all stand here.
@@ -10,11 +8,6 @@ pub(crate) fn check_words(rt: &impl Abort, row: &str, found: &str, words: &str) 
 // What was asked about a row is so.
 pub(crate) fn check_that(rt: &impl Abort, row: &str, is_so: bool) {
     assert!(rt; is_so, "{row:?}");
-}
-
-// Two texts of a table say the same just if they are the same text.
-pub(crate) fn check_pair(rt: &impl Abort, one: &str, other: &str, are_equal: bool) {
-    assert!(rt; are_equal == (one == other), "{one:?} and {other:?}");
 }
 
 // The first word of a text, and the rest.
@@ -34,20 +27,4 @@ pub(crate) fn row_of<'a>(rt: &impl Abort, line: &'a str) -> Option<(&'a str, &'a
     }
     let (row, answer) = row.split_once(" =>").expect(rt, "a row");
     Some((row, answer.trim_start()))
-}
-
-// Numbers upwards in one text, with something between each two.
-pub(crate) fn counted(
-    rt: &impl Abort,
-    alloc: Global,
-    numbers: Range<u32>,
-    parting: &str,
-) -> String {
-    let first = numbers.start;
-    let mut words = String::new(alloc);
-    for number in numbers {
-        let before = if number == first { "" } else { parting };
-        write!(words, "{before}{number}").expect(rt, "memory");
-    }
-    words
 }

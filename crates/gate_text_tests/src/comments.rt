@@ -1,4 +1,4 @@
-use crate::checks::{check_that, check_words, counted, cut, row_of};
+use crate::checks::{check_words, row_of};
 use gate_text::{Command, Names, Spoken, read_comment};
 use std::alloc::Global;
 use std::process::Abort;
@@ -78,14 +78,19 @@ fn check_each(rt: &impl Abort, alloc: Global, front: &str, texts: &str, words: &
     }
 }
 
-// Each body, with the same front, is one `Unknown`.
-pub(crate) fn check_unknown(rt: &impl Abort, alloc: Global, front: &str, bodies: &str) {
-    check_each(rt, alloc, front, bodies, "unknown");
+// Each body of a row, behind each of its fronts, is one `Unknown`. The fronts are parted by `/`.
+pub(crate) fn check_unknown(rt: &impl Abort, alloc: Global, table: &str) {
+    for line in table.lines() {
+        if let Some((fronts, bodies)) = row_of(rt, line) {
+            for front in fronts.split('/') {
+                check_each(rt, alloc, front, bodies, "unknown");
+            }
+        }
+    }
 }
 
-#[test]
-fn triggers(rt: HostRuntime) {
-    let table = "
+// What comments say.
+const COMMENTS: &str = "
         bors r+ => approve
         bors:r+ => approve
         BORS r+ => approve
@@ -112,17 +117,7 @@ fn triggers(rt: HostRuntime) {
         bors：r+ =>
         ｂｏｒｓ r+ =>
         \u{feff}bors r+ =>
-    ";
-    check_said(&rt, rt.alloc(), table);
-    let remarks =
-        "| |:|b|r+|bors|Thanks!| bors r+|bors\tr+|bors,r+|bors;r+|bors-r+|borsr+|borss r+|bor r+|\
-        bor s r+|bros r+|@bors r+|borsé|boré r+|borſ r+|bоrs r+";
-    check_each(&rt, rt.alloc(), "", remarks, "");
-}
-
-#[test]
-fn spaces_round_bodies(rt: HostRuntime) {
-    let table = "
+        // Spaces round a body; a tab is none.
         bors    r+ => approve
         bors:  r+ => approve
         bors r+    => approve
@@ -133,16 +128,14 @@ fn spaces_round_bodies(rt: HostRuntime) {
         bors r+\u{a0} => unknown
         bors \u{3000}r+ => unknown
         bors r+ \0 => unknown
-    ";
-    check_said(&rt, rt.alloc(), table);
-    // A tab is no space.
-    let bodies = "\t|\tr+| \tr+|r+\t|r+\t |r+ \t|r\t+";
-    check_unknown(&rt, rt.alloc(), "bors ", bodies);
-}
-
-#[test]
-fn ends_of_lines(rt: HostRuntime) {
-    let table = "
+        bors r+\t => unknown
+        bors \t => unknown
+        bors \tr+ => unknown
+        bors  \tr+ => unknown
+        bors r+\t  => unknown
+        bors r+ \t => unknown
+        bors r\t+ => unknown
+        // Ends of lines.
         | =>
         \r =>
         \r|\r| =>
@@ -175,13 +168,7 @@ fn ends_of_lines(rt: HostRuntime) {
         bors r+\u{c}bors r+ => unknown
         bors r+\u{85}bors r+ => unknown
         bors r+\u{2028}bors r+ => unknown
-    ";
-    check_said(&rt, rt.alloc(), table);
-}
-
-#[test]
-fn comments_of_many_lines(rt: HostRuntime) {
-    let table = "
+        // Many lines.
         Looks good.|bors r+ p=2|bors d+|bors: dance => priority 2; approve; delegate the author; unknown
         bors r+|some words|bors dance|bors ping => approve; unknown; ping
         bors ping\r|bors r=b,a\r|bors r-\r|bors try\r|bors try-\r|bors retry\r| => ping; approve for b, a; withdraw; try; cancel the try; retry
@@ -194,95 +181,14 @@ fn comments_of_many_lines(rt: HostRuntime) {
         bors|r+ =>
         bors |bors:|bors => unknown; unknown
     ";
-    check_said(&rt, rt.alloc(), table);
-}
 
-// A comment of 65,536 bytes: `front<text>end` with the text between repeated as often as there is room.
-fn long_comment(rt: &impl Abort, alloc: Global, row: &str) -> String {
-    let (front, rest) = row.split_once('<').expect(rt, "a text");
-    let (text, end) = rest.split_once('>').expect(rt, "an end");
-    let room = 65_536_usize
-        .saturating_sub(front.len())
-        .saturating_sub(end.len());
-    let times = room.checked_div(text.len()).expect(rt, "a text");
-    let between = text.repeat(alloc, times).expect(rt, "memory");
-    format!(in alloc; "{front}{between}{end}").expect(rt, "memory")
-}
-
-// The long comment of a row, in which a `|` stands for a line feed, says these words.
-fn check_long(rt: &impl Abort, alloc: Global, row: &str, words: &str) {
-    let text = row.replace(alloc, "|", "\n").expect(rt, "memory");
-    let comment = long_comment(rt, alloc, text.as_str());
-    check_that(rt, row, comment.len() == 65_536);
-    check_words(rt, row, said(rt, alloc, comment.as_str()).as_str(), words);
-}
+// Comments that say nothing.
+const REMARKS: &str =
+    "| |:|b|r+|bors|Thanks!| bors r+|bors\tr+|bors,r+|bors;r+|bors-r+|borsr+|borss r+|bor r+|\
+    bor s r+|bros r+|@bors r+|borsé|boré r+|borſ r+|bоrs r+";
 
 #[test]
-fn long_lines(rt: HostRuntime) {
-    let table = "
-        bors try <x> => try
-        bors < >ping => ping
-        bors:r+< > => approve
-        bors r+< >p=5 => priority 5; approve
-        bors r=zoe< >p=5 => priority 5; approve for zoe
-        bors r=<a,>a => approve for a
-        bors d=<a,>b => delegate to a, b
-        bors r=<x> => unknown
-        bors r=<,> => unknown
-        bors p=<0> => unknown
-        bors <é>x => unknown
-        bors < > => unknown
-        bors<s> =>
-        < >bors r+ =>
-        <|>bors r+ => approve
-    ";
-    for line in table.lines() {
-        if let Some((row, words)) = row_of(&rt, line) {
-            check_long(&rt, rt.alloc(), row, words);
-        }
-    }
-}
-
-// A comment of the same line so many times says so many commands, each by the same words.
-fn check_lines(rt: &impl Abort, alloc: Global, row: &str, words: &str) {
-    let (times, line) = cut(row);
-    let times = times.parse::<usize>().expect(rt, "a number");
-    let line = format!(in alloc; "{line}\n").expect(rt, "memory");
-    let comment = line.repeat(alloc, times).expect(rt, "memory");
-    let found = said(rt, alloc, comment.as_str());
-    let one = format!(in alloc; "; {words}").expect(rt, "memory");
-    let all = one.repeat(alloc, times).expect(rt, "memory");
-    check_that(rt, row, all.strip_prefix("; ") == Some(found.as_str()));
-}
-
-#[test]
-fn many_command_lines(rt: HostRuntime) {
-    let table = "
-        500 bors r+ => approve
-        500 bors d=zoe,al,vera => delegate to zoe, al, vera
-        8192 bors:d+ => delegate the author
-        10922 bors: => unknown
-    ";
-    for line in table.lines() {
-        if let Some((row, words)) = row_of(&rt, line) {
-            check_lines(&rt, rt.alloc(), row, words);
-        }
-    }
-}
-
-// So many names, all different, are read: none is dropped.
-fn check_names(rt: &impl Abort, alloc: Global, count: u32) {
-    let names = counted(rt, alloc, 0..count, ",");
-    let comment = format!(in alloc; "bors r={names}").expect(rt, "memory");
-    let names = counted(rt, alloc, 0..count, ", ");
-    let words = format!(in alloc; "approve for {names}").expect(rt, "memory");
-    check_that(rt, "its length", comment.len() <= 65_536);
-    check_comment(rt, alloc, comment.as_str(), words.as_str());
-}
-
-#[test]
-fn many_names(rt: HostRuntime) {
-    for count in [64, 1_000, 12_000] {
-        check_names(&rt, rt.alloc(), count);
-    }
+fn comments(rt: HostRuntime) {
+    check_said(&rt, rt.alloc(), COMMENTS);
+    check_each(&rt, rt.alloc(), "", REMARKS, "");
 }

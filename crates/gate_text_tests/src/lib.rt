@@ -10,8 +10,6 @@ mod comments;
 #[cfg(test)]
 mod same;
 #[cfg(test)]
-mod sets;
-#[cfg(test)]
 mod settings;
 #[cfg(test)]
 mod small_texts;

@@ -1,9 +1,6 @@
-use crate::checks::{check_that, check_words, row_of};
-use gate_text::{
-    ChangeNo, Commit, Context, DeliveryId, Label, List, Name, Text, TextFault, TryCopy, copy_map,
-};
-use std::alloc::{AllocError, Global};
-use std::collections::BTreeMap;
+use crate::checks::{check_that, check_words, cut, row_of};
+use gate_text::{ChangeNo, Commit, Context, DeliveryId, Label, Name, Text, TextFault};
+use std::alloc::Global;
 use std::process::Abort;
 
 // A text that was kept.
@@ -16,52 +13,31 @@ fn refused(rt: &impl Abort, alloc: Global, fault: TextFault) -> String {
     format!(in alloc; "{fault:?}").expect(rt, "memory")
 }
 
-// Each of these tells the copy of a text that was read.
-fn name_copy(rt: &impl Abort, alloc: Global, name: &Name) -> String {
-    let copy = name.copy(alloc).expect(rt, "memory");
-    kept(rt, alloc, copy.text())
-}
-
-fn label_copy(rt: &impl Abort, alloc: Global, label: &Label) -> String {
-    let copy = label.copy(alloc).expect(rt, "memory");
-    kept(rt, alloc, copy.text())
-}
-
-fn context_copy(rt: &impl Abort, alloc: Global, context: &Context) -> String {
-    let copy = context.copy(alloc).expect(rt, "memory");
-    kept(rt, alloc, copy.text())
-}
-
-fn identifier_copy(rt: &impl Abort, alloc: Global, id: &DeliveryId) -> String {
-    let copy = id.copy(alloc).expect(rt, "memory");
-    kept(rt, alloc, copy.text())
-}
-
 // Each of these reads a text, copies what it has read, and tells the copy.
 fn name(rt: &impl Abort, alloc: Global, text: &str) -> String {
     match &Name::read(alloc, text) {
-        Ok(name) => name_copy(rt, alloc, name),
+        Ok(name) => kept(rt, alloc, name.copy(alloc).expect(rt, "memory").text()),
         Err(fault) => refused(rt, alloc, *fault),
     }
 }
 
 fn label(rt: &impl Abort, alloc: Global, text: &str) -> String {
     match &Label::read(alloc, text) {
-        Ok(label) => label_copy(rt, alloc, label),
+        Ok(label) => kept(rt, alloc, label.copy(alloc).expect(rt, "memory").text()),
         Err(fault) => refused(rt, alloc, *fault),
     }
 }
 
 fn context(rt: &impl Abort, alloc: Global, text: &str) -> String {
     match &Context::read(alloc, text) {
-        Ok(context) => context_copy(rt, alloc, context),
+        Ok(context) => kept(rt, alloc, context.copy(alloc).expect(rt, "memory").text()),
         Err(fault) => refused(rt, alloc, *fault),
     }
 }
 
 fn identifier(rt: &impl Abort, alloc: Global, text: &str) -> String {
     match &DeliveryId::read(alloc, text) {
-        Ok(id) => identifier_copy(rt, alloc, id),
+        Ok(id) => kept(rt, alloc, id.copy(alloc).expect(rt, "memory").text()),
         Err(fault) => refused(rt, alloc, *fault),
     }
 }
@@ -117,168 +93,110 @@ fn letters(rt: &impl Abort, alloc: Global, count: &str, rest: &str) -> String {
     letters
 }
 
-// Each row has a text in brackets, as one reader answers it.
-fn check_reader(rt: &impl Abort, alloc: Global, reader: &str, table: &str) {
-    for line in table.lines() {
-        if let Some((text, words)) = row_of(rt, line) {
-            let text = text.strip_prefix('<').expect(rt, "a bracket");
-            let text = text.strip_suffix('>').expect(rt, "a bracket");
-            let text = written_out(rt, alloc, text);
-            let words = written_out(rt, alloc, words);
-            let found = answer(rt, alloc, reader, text.as_str());
-            check_words(rt, text.as_str(), found.as_str(), words.as_str());
+// Each row has a reader and a text in brackets, and what is answered to it.
+const READERS: &str = "
+        name <@Bob[bot]> => bob[bot]
+        name <dave-1_x.y> => dave-1_x.y
+        name <64 x A;> => 64 x a;
+        name <65 x a;> => TooLong
+        name <64 x a;@> => TooLong
+        name <> => Empty
+        name <@> => Empty
+        name <a b> => BadByte(1)
+        name <@a b> => BadByte(2)
+        name <@@a> => BadByte(1)
+        name <a/b> => BadByte(1)
+        name <é> => BadByte(0)
+        commit <0123456789abcdef0123456789abcdef01234567> => 0123456789abcdef0123456789abcdef01234567
+        commit <> => Empty
+        commit <abc> => BadByte(3)
+        commit <abg> => BadByte(2)
+        commit <40 x A;> => BadByte(0)
+        commit <39 x a;> => BadByte(39)
+        commit <41 x a;> => TooLong
+        change <1> => 1
+        change <42> => 42
+        change <4294967295> => 4294967295
+        change <> => Empty
+        change <4294967296> => BadNumber
+        change <0> => BadNumber
+        change <01> => BadNumber
+        change <1x> => BadByte(1)
+        change <+1> => BadByte(0)
+        change <10000000000> => TooLong
+        identifier <d-1> => d-1
+        identifier <!~> => !~
+        identifier <128 x a;> => 128 x a;
+        identifier <129 x a;> => TooLong
+        identifier <> => Empty
+        identifier <a b> => BadByte(1)
+        identifier <d\u{7f}> => BadByte(1)
+        label <hold it> => hold it
+        label <ci> => ci
+        label <CI / build (é)> => CI / build (é)
+        label <255 x a;> => 255 x a;
+        label <256 x a;> => TooLong
+        label <> => Empty
+        label <a\tb> => BadByte(1)
+        label <\0> => BadByte(0)
+        label <é\u{1f}> => BadByte(2)
+        label <ab\u{7f}> => BadByte(2)
+        // It has 256 bytes that are 128 characters.
+        label <128 x é;> => TooLong
+        label <127 x é;> => 127 x é;
+        context <hold it> => hold it
+        context <ci> => ci
+        context <CI / build (é)> => CI / build (é)
+        context <255 x a;> => 255 x a;
+        context <256 x a;> => TooLong
+        context <> => Empty
+        context <a\tb> => BadByte(1)
+        context <\0> => BadByte(0)
+        context <é\u{1f}> => BadByte(2)
+        context <ab\u{7f}> => BadByte(2)
+        context <128 x é;> => TooLong
+        context <127 x é;> => 127 x é;
+        any <> =>
+        any <é\0> => é\0
+    ";
+
+// A row is answered so.
+fn check_reader(rt: &impl Abort, alloc: Global, row: &str, words: &str) {
+    let (reader, text) = cut(row);
+    let text = text.strip_prefix('<').expect(rt, "a bracket");
+    let text = text.strip_suffix('>').expect(rt, "a bracket");
+    let text = written_out(rt, alloc, text);
+    let words = written_out(rt, alloc, words);
+    let found = answer(rt, alloc, reader, text.as_str());
+    check_words(rt, row, found.as_str(), words.as_str());
+}
+
+#[test]
+fn readers(rt: HostRuntime) {
+    for line in READERS.lines() {
+        if let Some((row, words)) = row_of(&rt, line) {
+            check_reader(&rt, rt.alloc(), row, words);
         }
     }
-}
-
-#[test]
-fn names(rt: HostRuntime) {
-    let table = "
-        <@Bob[bot]> => bob[bot]
-        <dave-1_x.y> => dave-1_x.y
-        <64 x A;> => 64 x a;
-        <65 x a;> => TooLong
-        <64 x a;@> => TooLong
-        <> => Empty
-        <@> => Empty
-        <a b> => BadByte(1)
-        <@a b> => BadByte(2)
-        <@@a> => BadByte(1)
-        <a/b> => BadByte(1)
-        <é> => BadByte(0)
-    ";
-    check_reader(&rt, rt.alloc(), "name", table);
-}
-
-#[test]
-fn commits(rt: HostRuntime) {
-    let table = "
-        <0123456789abcdef0123456789abcdef01234567> => 0123456789abcdef0123456789abcdef01234567
-        <> => Empty
-        <abc> => BadByte(3)
-        <abg> => BadByte(2)
-        <40 x A;> => BadByte(0)
-        <39 x a;> => BadByte(39)
-        <41 x a;> => TooLong
-    ";
-    check_reader(&rt, rt.alloc(), "commit", table);
-}
-
-#[test]
-fn change_numbers(rt: HostRuntime) {
-    let table = "
-        <1> => 1
-        <42> => 42
-        <4294967295> => 4294967295
-        <> => Empty
-        <4294967296> => BadNumber
-        <0> => BadNumber
-        <01> => BadNumber
-        <1x> => BadByte(1)
-        <+1> => BadByte(0)
-        <10000000000> => TooLong
-    ";
-    check_reader(&rt, rt.alloc(), "change", table);
-    for number in [0, 4_294_967_296, 4_294_967_297, u64::MAX] {
-        check_that(
-            &rt,
-            "too great, or 0",
-            ChangeNo::from_number(number).is_none(),
-        );
-    }
-    for number in [1, 4_294_967_295] {
-        let change = ChangeNo::from_number(number).expect(&rt, "a change");
-        check_that(&rt, "a number", u64::from(change.number()) == number);
-    }
-}
-
-#[test]
-fn identifiers(rt: HostRuntime) {
-    let table = "
-        <d-1> => d-1
-        <!~> => !~
-        <128 x a;> => 128 x a;
-        <129 x a;> => TooLong
-        <> => Empty
-        <a b> => BadByte(1)
-        <d\u{7f}> => BadByte(1)
-    ";
-    check_reader(&rt, rt.alloc(), "identifier", table);
-}
-
-// The last but one has 256 bytes that are 128 characters.
-#[test]
-fn labels_and_names_of_statuses(rt: HostRuntime) {
-    let table = "
-        <hold it> => hold it
-        <ci> => ci
-        <CI / build (é)> => CI / build (é)
-        <255 x a;> => 255 x a;
-        <256 x a;> => TooLong
-        <> => Empty
-        <a\tb> => BadByte(1)
-        <\0> => BadByte(0)
-        <é\u{1f}> => BadByte(2)
-        <ab\u{7f}> => BadByte(2)
-        <128 x é;> => TooLong
-        <127 x é;> => 127 x é;
-    ";
-    check_reader(&rt, rt.alloc(), "label", table);
-    check_reader(&rt, rt.alloc(), "context", table);
     check_words(&rt, "a space", label(&rt, rt.alloc(), " ").as_str(), " ");
+    let text = "bors r+\r\n";
+    check_words(&rt, text, any(&rt, rt.alloc(), text).as_str(), text);
+}
+
+// A change of this number, or 0 if there is none.
+fn numbered(number: u64) -> u64 {
+    match ChangeNo::from_number(number) {
+        Some(change) => u64::from(change.number()),
+        None => 0,
+    }
 }
 
 #[test]
-fn any_text_is_kept(rt: HostRuntime) {
-    for text in ["", "bors r+\r\n", "é\0"] {
-        check_words(&rt, text, any(&rt, rt.alloc(), text).as_str(), text);
-    }
-}
-
-// Copies a list through the bound, and counts the items of the copy.
-fn count_of<T: TryCopy + Drop>(rt: &impl Abort, alloc: Global, items: Vec<T>) -> usize {
-    let list = List::from(items);
-    let copy = list.copy(alloc).expect(rt, "memory");
-    copy.into_vec().len()
-}
-
-#[test]
-fn lists(rt: HostRuntime) {
-    let mut names = Vec::new(rt.alloc());
-    for text in ["zoe", "al", "vera"] {
-        let name = Name::read(rt.alloc(), text).expect(&rt, "a name");
-        names.push(name).expect(&rt, "memory");
-    }
-    check_that(&rt, "names", count_of(&rt, rt.alloc(), names) == 3);
-    let mut labels = Vec::new(rt.alloc());
-    for text in ["zoe", "al", "vera"] {
-        let label = Label::read(rt.alloc(), text).expect(&rt, "a label");
-        labels.push(label).expect(&rt, "memory");
-    }
-    check_that(&rt, "labels", count_of(&rt, rt.alloc(), labels) == 3);
-}
-
-// The change numbers of identifiers, by a text of both.
-fn map_of(
-    rt: &impl Abort,
-    alloc: Global,
-    text: &str,
-) -> Result<BTreeMap<DeliveryId, ChangeNo>, AllocError> {
-    let mut map = BTreeMap::new(alloc);
-    for word in text.split_whitespace() {
-        let (id, change) = word.split_once(':').expect(rt, "a colon");
-        let id = DeliveryId::read(alloc, id).expect(rt, "an identifier");
-        let change = ChangeNo::read(change).expect(rt, "a change number");
-        map.insert(id, change)?;
-    }
-    Ok(map)
-}
-
-#[test]
-fn maps(rt: HostRuntime) {
-    for text in ["", "d-1:1", "d-1:1 d-3:3 d-2:2", "c:3 b:4 a:1 f:9 e:9 d:7"] {
-        let map = map_of(&rt, rt.alloc(), text).expect(&rt, "memory");
-        let copy = copy_map(rt.alloc(), &map).expect(&rt, "memory");
-        check_that(&rt, text, copy == map);
-    }
+fn numbers_of_changes(rt: HostRuntime) {
+    check_that(&rt, "0", numbered(0) == 0);
+    check_that(&rt, "1", numbered(1) == 1);
+    check_that(&rt, "the last", numbered(4_294_967_295) == 4_294_967_295);
+    check_that(&rt, "one more", numbered(4_294_967_296) == 0);
+    check_that(&rt, "two more", numbered(4_294_967_297) == 0);
+    check_that(&rt, "too great", numbered(u64::MAX) == 0);
 }
