@@ -1,5 +1,3 @@
-use std::alloc::Global;
-use std::ops::Range;
 use std::process::Abort;
 
 // The answer to a row is these words. An assertion is dear to prove where many values are alive, so nearly all stand here.
@@ -34,20 +32,4 @@ pub(crate) fn row_of<'a>(rt: &impl Abort, line: &'a str) -> Option<(&'a str, &'a
     }
     let (row, answer) = row.split_once(" =>").expect(rt, "a row");
     Some((row, answer.trim_start()))
-}
-
-// Numbers upwards in one text, with something between each two.
-pub(crate) fn counted(
-    rt: &impl Abort,
-    alloc: Global,
-    numbers: Range<u32>,
-    parting: &str,
-) -> String {
-    let first = numbers.start;
-    let mut words = String::new(alloc);
-    for number in numbers {
-        let before = if number == first { "" } else { parting };
-        write!(words, "{before}{number}").expect(rt, "memory");
-    }
-    words
 }

@@ -1,4 +1,4 @@
-//! Tests of gate_rules and gate_queue, by the calls that these offer.
+//! Tests of gate_rules, gate_queue and gate_report, by the calls that these offer.
 #![tactic(auto)]
 
 #[cfg(test)]
@@ -7,5 +7,7 @@ mod checks;
 mod queue;
 #[cfg(test)]
 mod readers;
+#[cfg(test)]
+mod reports;
 #[cfg(test)]
 mod rules;

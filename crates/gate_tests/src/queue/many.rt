@@ -1,5 +1,5 @@
-use super::{check_shown, started, stepped};
-use crate::checks::counted;
+use super::{acted, check_shown, played, started, stepped};
+use crate::checks::check_words;
 use gate_queue::Gate;
 use std::alloc::Global;
 use std::ops::Range;
@@ -18,42 +18,53 @@ fn each(rt: &impl Abort, alloc: Global, gate: Gate, numbers: Range<u32>, line: &
     gate
 }
 
-#[test]
-fn settings_that_end_100_approvals(rt: HostRuntime) {
-    let gate = started(&rt, rt.alloc());
-    let gate = each(&rt, rt.alloc(), gate, 100..200, "opened # carol a");
-    let gate = each(&rt, rt.alloc(), gate, 100..200, "# alice bors r+");
-    let line = "settings status = ['ci']|required_approvals = 1";
-    let notices = counted(&rt, rt.alloc(), 100..200, " Settings ");
-    let words = format!(in rt.alloc(); "done {notices} Settings").expect(&rt, "memory");
-    let gate = stepped(&rt, rt.alloc(), gate, line, words.as_str());
-    check_shown(&rt, rt.alloc(), &gate, "199 carol a opened 0 - - - - r+");
+// A gate with these settings, and 2,996 changes more that are approved.
+fn approved(rt: &impl Abort, alloc: Global, settings: &str) -> Gate {
+    let gate = played(rt, alloc, started(rt, alloc), settings);
+    let gate = each(rt, alloc, gate, 4..3_000, "opened # dave d");
+    each(rt, alloc, gate, 4..3_000, "# alice bors r+")
+}
+
+// How many changes a batch has.
+fn size_of(gate: &Gate, number: u64) -> usize {
+    gate.batch(number)
+        .map_or(0, |batch| batch.changes.as_slice().len())
+}
+
+// Adds how many batches there are, and how many changes the first has.
+fn push_sizes(rt: &impl Abort, alloc: Global, words: &mut String, gate: &Gate) {
+    let numbers = gate.queue(alloc).expect(rt, "memory");
+    let first = numbers.first().copied().unwrap_or(0);
+    let (batches, changes) = (numbers.len(), size_of(gate, first));
+    write!(words, "{batches} {changes}, ").expect(rt, "memory");
+}
+
+// The sizes of what is queued under these settings, and after each of these acts.
+fn told(rt: &impl Abort, alloc: Global, settings: &str, acts: &str) -> String {
+    let mut gate = approved(rt, alloc, settings);
+    let mut words = String::new(alloc);
+    for act in acts.split("; ") {
+        gate = acted(rt, alloc, gate, act);
+        push_sizes(rt, alloc, &mut words, &gate);
+    }
+    check_shown(rt, alloc, &gate, "2999 dave d opened 0 - - - alice r+");
+    words
 }
 
 #[test]
-fn changes_by_the_thousand(rt: HostRuntime) {
-    let gate = started(&rt, rt.alloc());
-    let gate = each(&rt, rt.alloc(), gate, 4..3_000, "opened # dave d");
-    check_shown(&rt, rt.alloc(), &gate, "1 carol a opened 0 - - - - -");
-    check_shown(&rt, rt.alloc(), &gate, "2999 dave d opened 0 - - - - -");
-    check_shown(&rt, rt.alloc(), &gate, "3000 none");
-}
-
-// A command of 100 people that is done.
-fn for_people(rt: &impl Abort, alloc: Global, gate: Gate, command: &str) -> Gate {
-    let people = counted(rt, alloc, 100..200, ",p");
-    let line = format!(in alloc; "1 alice bors {command}p{people}").expect(rt, "memory");
-    stepped(rt, alloc, gate, line.as_str(), "done")
-}
-
-#[test]
-fn a_change_with_much_to_copy(rt: HostRuntime) {
-    let gate = started(&rt, rt.alloc());
-    let gate = each(&rt, rt.alloc(), gate, 100..200, "role p# reviewer");
-    let gate = each(&rt, rt.alloc(), gate, 100..200, "review 1 p# a yes");
-    let gate = each(&rt, rt.alloc(), gate, 100..164, "labeled 1 l#");
-    let gate = for_people(&rt, rt.alloc(), gate, "d=");
-    let gate = for_people(&rt, rt.alloc(), gate, "r=");
-    let gate = stepped(&rt, rt.alloc(), gate, "1 alice bors r-", "done");
-    stepped(&rt, rt.alloc(), gate, "1 alice bors retry", "done");
+fn queues_of_3_000_changes(rt: HostRuntime) {
+    let alloc = rt.alloc();
+    let settings = "settings status = ['ci']|max_batch_size = 8";
+    let acts = "3000 alice bors r+; 4 alice bors r-; tick 0; 5 alice bors r-";
+    let found = told(&rt, alloc, settings, acts);
+    check_words(&rt, acts, found.as_str(), "375 8, 375 7, 375 7, 375 6, ");
+    let settings = "settings status = ['ci']";
+    let acts = "tick 0; conflict 1; tick 0; conflict 2";
+    let found = told(&rt, alloc, settings, acts);
+    check_words(
+        &rt,
+        acts,
+        found.as_str(),
+        "1 2996, 2 1498, 2 1498, 3 1498, ",
+    );
 }

@@ -1,10 +1,9 @@
 ghost use Rattle.std.specs.Prelude.{◌≡◌, ◌↔◌, IsTrue, IfOk};
 
 use super::reading::read_act;
-use crate::checks::{check_pair, check_that, cut};
-use crate::readers::{commit, context, number};
-use gate_queue::{Act, Branch, Head, Heads, Order, Orders, Reply, StatusState, Why};
-use gate_rules::Rule;
+use super::{answered, played, started};
+use crate::checks::check_pair;
+use gate_queue::{Act, Head, Reply, StatusState, Why};
 use gate_text::List;
 use std::alloc::{AllocError, Global};
 use std::process::Abort;
@@ -32,41 +31,6 @@ fn clone_of_state(state: &StatusState) -> Result<StatusState, AllocError>
     ensures value { IfOk result (λ clone. clone ≡ state.now) }
 {
     state.clone()
-}
-
-// Whether failures of two statuses are the same reason.
-fn are_same_failures(rt: &impl Abort, alloc: Global, one: &str, other: &str) -> bool {
-    let one = Why::Failed(context(rt, alloc, one));
-    let other = Why::Failed(context(rt, alloc, other));
-    is_same_why(&one, &other)
-}
-
-fn head(rt: &impl Abort, alloc: Global, digit: &str) -> Head {
-    Head {
-        change: number(rt, "1"),
-        head: commit(rt, alloc, digit),
-    }
-}
-
-fn are_same_heads(rt: &impl Abort, alloc: Global, one: &str, other: &str) -> bool {
-    is_same_head(&head(rt, alloc, one), &head(rt, alloc, other))
-}
-
-#[test]
-fn reasons_states_and_heads(rt: HostRuntime) {
-    let alloc = rt.alloc();
-    check_pair(&rt, "ci", "ci", are_same_failures(&rt, alloc, "ci", "ci"));
-    check_pair(
-        &rt,
-        "ci",
-        "lint",
-        are_same_failures(&rt, alloc, "ci", "lint"),
-    );
-    check_pair(&rt, "a", "a", are_same_heads(&rt, alloc, "a", "a"));
-    check_pair(&rt, "a", "b", are_same_heads(&rt, alloc, "a", "b"));
-    let error = StatusState::Error;
-    let clone = clone_of_state(&error).expect(&rt, "memory");
-    check_that(&rt, "a clone", is_same_state(&error, &clone));
 }
 
 // Acts, no two of which are the same.
@@ -138,111 +102,68 @@ fn is_act(rt: &impl Abort, alloc: Global, act: &Act, line: &str) -> bool {
 }
 
 // The act of a line is equal to no act of another line.
-fn check_act(rt: &impl Abort, alloc: Global, act: &Act, line: &str) {
+fn check_act(rt: &impl Abort, alloc: Global, line: &str) {
+    let act = read_act(rt, alloc, line);
     for other in ACTS.lines() {
-        check_pair(rt, line, other, is_act(rt, alloc, act, other));
+        check_pair(rt, line, other, is_act(rt, alloc, &act, other));
     }
 }
 
 #[test]
 fn acts_that_are_equal(rt: HostRuntime) {
     for line in ACTS.lines() {
-        check_act(&rt, rt.alloc(), &read_act(&rt, rt.alloc(), line), line);
+        check_act(&rt, rt.alloc(), line);
     }
 }
 
-fn why(rt: &impl Abort, alloc: Global, text: &str) -> Why {
-    let (word, name) = cut(text);
-    match word {
-        "Closed" => Why::Closed,
-        "Failed" => Why::Failed(context(rt, alloc, name)),
-        "TimedOut" => Why::TimedOut,
-        "TryPassed" => Why::TryPassed,
-        "TryFailed" => Why::TryFailed,
-        _ => Why::Pushed,
-    }
+// Acts from the usual start, no two of which are answered the same by the last.
+const ANSWERED: &str = "\
+    tick 0; 1 alice bors ping\n\
+    tick 0; 9 alice bors ping\n\
+    closed 1; closed 1\n\
+    tick 0; 1 mia bors d+\n\
+    tick 0; 1 mia bors r+\n\
+    labeled 1 hold; 1 alice bors r+\n\
+    settings status = ['ci']|block_labels = ['wip']; labeled 1 wip; 1 alice bors r+\n\
+    settings status = ['ci']|required_approvals = 1; 1 alice bors r+\n\
+    settings status = ['ci']|required_approvals = 2; 1 alice bors r+\n\
+    settings status = ['ci']|required_approvals = 2; review 1 mia a yes; 1 alice bors r+\n\
+    tick 0; settings status =\n\
+    tick 0; settings timeout_sec = 5\n\
+    1 alice bors r+; closed 1\n\
+    2 alice bors r+; closed 2\n\
+    1 alice bors r+; pushed 1 b\n\
+    1 alice bors r+; settings status = ['ci']|required_approvals = 1\n\
+    1 alice bors r+; 2 alice bors r+; settings status = ['ci']|required_approvals = 1\n\
+    1 alice bors r+; 3 alice bors r+; settings status = ['ci']|required_approvals = 1\n\
+    1 alice bors r+; tick 0; tick 3600\n\
+    1 alice bors r+; tick 0; 2 alice bors r+; tick 3600\n\
+    1 mia bors try; tick 0; conflict 1\n\
+    1 mia bors try; tick 0; staged 1 d; status d ci success; status d lint success\n\
+    1 alice bors r+; tick 0; staged 1 d; status d ci failure\n\
+    1 alice bors r+; tick 0; staged 1 d; status d lint failure\n\
+    2 alice bors r+; tick 0; staged 1 d; status d ci failure\n\
+    1 alice bors r+; tick 0\n\
+    1 alice bors r+; 1 alice bors r-; 1 alice bors r+; tick 0\n\
+    1 mia bors try; tick 0\n\
+    base 1; 1 alice bors r+; tick 0\n\
+    pushed 1 b; 1 alice bors r+; tick 0\n\
+    1 alice bors r+; 2 alice bors r+; tick 0\n\
+    2 alice bors r+; 1 alice bors r+; tick 0\n\
+    1 alice bors r+; tick 0; staged 1 d; status d ci success; status d lint success\n\
+    1 alice bors r+; tick 0; staged 1 e; status e ci success; status e lint success\n\
+    base 1; 1 alice bors r+; tick 0; staged 1 d; status d ci success; status d lint success\n\
+    1 mia bors try; 1 alice bors r+; tick 0; staged 2 d; status d ci success; status d lint success";
+
+// What the last of these acts is answered.
+fn reply_to(rt: &impl Abort, alloc: Global, acts: &str) -> Reply {
+    let (front, last) = acts.rsplit_once("; ").expect(rt, "a last act");
+    let gate = played(rt, alloc, started(rt, alloc), front);
+    answered(rt, alloc, gate, last).1
 }
 
-fn branch(word: &str) -> Branch {
-    match word {
-        "trying" => Branch::Trying,
-        _ => Branch::Staging,
-    }
-}
-
-// Heads by their changes, at the commit of a digit.
-fn heads(rt: &impl Abort, alloc: Global, digit: &str, numbers: &str) -> Heads {
-    let mut heads = Vec::new(alloc);
-    for word in numbers.split(',') {
-        let change = number(rt, word);
-        let head = commit(rt, alloc, digit);
-        heads.push(Head { change, head }).expect(rt, "memory");
-    }
-    Heads::from(heads)
-}
-
-// The order to stage of a text: the number of the batch, the branch, the digits of the base and of the heads, and their
-// changes.
-fn stage(rt: &impl Abort, alloc: Global, text: &str) -> Order {
-    let (batch, rest) = cut(text);
-    let (branch_word, rest) = cut(rest);
-    let (base, rest) = cut(rest);
-    let (digit, numbers) = cut(rest);
-    Order::Stage {
-        batch: batch.parse::<u64>().expect(rt, "a number"),
-        branch: branch(branch_word),
-        base: commit(rt, alloc, base),
-        heads: heads(rt, alloc, digit, numbers),
-    }
-}
-
-// The order to land of a text: the number of the batch, and the digits of the base and of the commit.
-fn land(rt: &impl Abort, alloc: Global, text: &str) -> Order {
-    let (batch, rest) = cut(text);
-    let (base, digit) = cut(rest);
-    Order::Land {
-        batch: batch.parse::<u64>().expect(rt, "a number"),
-        base: commit(rt, alloc, base),
-        commit: commit(rt, alloc, digit),
-    }
-}
-
-// The order of a text: one to stage, one to land, or a notice as the change and the reason.
-fn order(rt: &impl Abort, alloc: Global, text: &str) -> Order {
-    let (word, rest) = cut(text);
-    match word {
-        "stage" => stage(rt, alloc, rest),
-        "land" => land(rt, alloc, rest),
-        word => Order::Notice {
-            change: number(rt, word),
-            why: why(rt, alloc, rest),
-        },
-    }
-}
-
-// The orders of a text, with a comma between each two.
-fn orders(rt: &impl Abort, alloc: Global, text: &str) -> Orders {
-    let mut orders = Vec::new(alloc);
-    for words in text.split(", ") {
-        orders.push(order(rt, alloc, words)).expect(rt, "memory");
-    }
-    Orders::from(orders)
-}
-
-// The reply of a text: a denial, or orders.
-fn reply(rt: &impl Abort, alloc: Global, text: &str) -> Reply {
-    match text {
-        "" => Reply::Done(Orders::from(Vec::new(alloc))),
-        "unknown" => Reply::Denied(Rule::UnknownChange),
-        "closed" => Reply::Denied(Rule::NotOpen),
-        "few" => Reply::Denied(Rule::TooFewReviews(0, 1)),
-        "fewer" => Reply::Denied(Rule::TooFewReviews(0, 2)),
-        text => Reply::Done(orders(rt, alloc, text)),
-    }
-}
-
-fn is_reply(rt: &impl Abort, alloc: Global, found: &Reply, text: &str) -> bool {
-    *found == reply(rt, alloc, text)
+fn is_answered(rt: &impl Abort, alloc: Global, found: &Reply, acts: &str) -> bool {
+    *found == reply_to(rt, alloc, acts)
 }
 
 // The copy of a reply, in a copy of a list of it alone.
@@ -253,18 +174,17 @@ fn copied(rt: &impl Abort, alloc: Global, reply: Reply) -> Reply {
     copies.into_vec().pop().expect(rt, "a reply")
 }
 
-// The copy of a reply is equal to what it was copied from, and to no other.
+// The copy of what acts are answered is equal to that, and to nothing that other acts are answered.
+fn check_answer(rt: &impl Abort, alloc: Global, acts: &str) {
+    let found = copied(rt, alloc, reply_to(rt, alloc, acts));
+    for others in ANSWERED.lines() {
+        check_pair(rt, acts, others, is_answered(rt, alloc, &found, others));
+    }
+}
+
 #[test]
 fn replies_that_are_equal(rt: HostRuntime) {
-    let replies = "\
-        |1 Closed|2 Closed|1 Pushed|1 Closed, 2 Pushed|2 Pushed, 1 Closed|1 Closed, 1 Closed|1 TimedOut|1 TryPassed|1 TryFailed|1 Failed ci|2 Failed ci\
-        |1 Failed lint|unknown|closed|few|fewer|stage 1 staging 0 a 1|stage 2 staging 0 a 1|stage 1 trying 0 a 1\
-        |stage 1 staging 1 a 1|stage 1 staging 0 b 1|stage 1 staging 0 a 1,2|stage 1 staging 0 a 2,1|land 1 0 a|land 2 0 a\
-        |land 1 1 a|land 1 0 b|1 Closed, land 1 0 a";
-    for one in replies.split('|') {
-        let found = copied(&rt, rt.alloc(), reply(&rt, rt.alloc(), one));
-        for other in replies.split('|') {
-            check_pair(&rt, one, other, is_reply(&rt, rt.alloc(), &found, other));
-        }
+    for acts in ANSWERED.lines() {
+        check_answer(&rt, rt.alloc(), acts);
     }
 }
