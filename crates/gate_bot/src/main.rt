@@ -1,23 +1,87 @@
-//! The program `gate`: the merge bot, from the bytes that come in to the bytes that go out.
+//! The program `gate`: the merge bot, from the words that it is started with to its exit status.
 #![tactic(auto)]
 
+mod closing;
+mod command;
+mod explaining;
+mod fault;
 mod outcome;
+mod printing;
+mod records;
+mod reporting;
+mod running;
 mod serving;
+mod words;
 
-use crate::outcome::{complaint, status};
-use crate::serving::serve_anew;
-use std::io;
+use crate::explaining::explain;
+use crate::fault::JobFault;
+use crate::outcome::{Ending, complaint, ended, status};
+use crate::records::{MemoryBook, book_in_memory};
+use crate::words::{Job, WordsFault, no_text, read_words};
+use std::fs::File;
+use std::net::TcpListener;
 use std::process::ExitCode;
+use std::{env, io};
 
-/// Serves the lines of standard input on standard output. The records are in a database in memory, which is gone at the end. The
-/// status is 0 at the end of the input, and 1 after a fault, with one line `gate: WORD` on standard error.
+/// Does the job that the words ask for. The status is 0 at its end, 1 after a fault, with one line `gate: WORD` on standard
+/// error, and 2 if the words ask for no job.
 fn main(rt: HostRuntime) -> ExitCode {
-    let mut reader = rt.reader();
-    let mut writer = io::writer(&rt);
-    let served = serve_anew(rt.alloc(), &mut reader, &mut writer);
-    if let Err(fault) = served {
+    let end = end_of(&rt);
+    if let Ending::Fault(fault) = end {
         // If standard error fails too, there is nothing left to tell it by.
         let _ = eprintln!(rt; "{}", complaint(fault));
     }
-    ExitCode::from(status(&served))
+    ExitCode::from(status(end))
+}
+
+fn end_of(rt: &HostRuntime) -> Ending {
+    match asked(rt) {
+        Ok(job) => ended(done(rt, &job)),
+        Err(fault) => explain(&fault, &mut io::writer(rt), &mut rt.stderr()),
+    }
+}
+
+// The job that the words behind the program's name ask for.
+fn asked(rt: &HostRuntime) -> Result<Job, WordsFault> {
+    let alloc = rt.alloc();
+    let words: Vec<String> = match env::args(rt) {
+        Ok(words) => words.skip(1).collect(alloc)?,
+        Err(error) => return Err(no_text(alloc, &error)),
+    };
+    let texts: Vec<&str> = words.iter().map(|word| word.as_str()).collect(alloc)?;
+    read_words(alloc, &texts)
+}
+
+fn done(rt: &HostRuntime, job: &Job) -> Result<(), JobFault> {
+    let book = book_in_memory(rt.alloc())?;
+    match job {
+        Job::Run => run(rt, book),
+        Job::Serve { port, count } => serve(rt, book, *port, *count),
+        Job::Report { file } => report(rt, book, file.as_str()),
+    }
+}
+
+fn run(rt: &HostRuntime, book: MemoryBook) -> Result<(), JobFault> {
+    running::run(rt.alloc(), book, &mut rt.reader(), &mut io::writer(rt))?;
+    Ok(())
+}
+
+fn serve(rt: &HostRuntime, book: MemoryBook, port: u16, count: u32) -> Result<(), JobFault> {
+    match TcpListener::bind(rt, ("127.0.0.1", port)) {
+        Ok(listener) => {
+            serving::announce(rt.alloc(), port, &mut io::writer(rt))?;
+            serving::serve(rt.alloc(), book, &listener, count)
+        }
+        Err(_) => Err(JobFault::Bind),
+    }
+}
+
+fn report(rt: &HostRuntime, book: MemoryBook, file: &str) -> Result<(), JobFault> {
+    match File::open(rt, file) {
+        Ok(mut file) => {
+            reporting::report(rt.alloc(), book, &mut file, &mut io::writer(rt))?;
+            Ok(())
+        }
+        Err(_) => Err(JobFault::File),
+    }
 }

@@ -1,55 +1,66 @@
-ghost use Rattle.std.specs.Prelude.{◌≡◌, ℕ, List, ◌⊎◌, IfOk, IfErr, OnOk};
-ghost use Rattle.std.specs.Io.KnownBytes.{Consumes, IsAtEnd};
-ghost use Rattle.gate_bot.specs.Program.{HasNotBegun, no_records};
-ghost use Rattle.gate_hook.specs.Lines.{IsServed, IsWithinLimit, MayEnd};
-ghost use Rattle.gate_sql.specs.Shown.{shown};
-ghost use Rattle.gate_store.specs.Run.{IsOfBooks, Records};
-ghost use Rattle.sqlite.specs.Steps.{over_memory};
+ghost use Rattle.std.specs.Prelude.{◌≡◌, ◌⊎◌, IfErr, OnOk};
+ghost use Rattle.std.specs.Io.KnownBytes.{Appends};
+ghost use Rattle.gate_bot.specs.Program.{IsCutOff};
+ghost use Rattle.gate_bot.specs.Serving.{IsServedOnce, greeting};
 
-use gate_hook::{HookFault, serve_lines};
+use crate::closing::close;
+use crate::fault::JobFault;
+use crate::printing::print;
+use crate::records::MemoryBook;
+use gate_hook::{HookFault, serve_one};
 use gate_queue::Fault;
-use gate_sql::SqlBook;
-use gate_store::Keeper;
-use sqlite::{Connection, MemStore};
+use gate_store::{Book, Keeper};
 use std::alloc::Global;
 use std::io::{Read, Write};
+use std::net::{TcpListener, TcpStream};
 
-// A book without answers, of the empty state, in a new database in memory.
-fn book_in_memory(alloc: Global) -> Result<SqlBook<MemStore>, Fault>
-    ensures value { IfOk result (λ book. shown over_memory book ≡ no_records) }
-    ensures fault { IfErr result IsOfBooks }
+/// Prints on which port the program listens.
+pub fn announce<W: Write>(alloc: Global, port: u16, writer: &mut W) -> Result<(), HookFault>
+    ensures ok { OnOk result (Appends (W.contents writer.old) (W.contents writer.new) (greeting port)) }
+    ensures err { IfErr result (λ fault. ((fault ≡ HookFault.Write) × IsCutOff (greeting port) (W.contents writer.old) (W.contents writer.new))
+        ⊎ ((fault ≡ HookFault.Gate Fault.Memory) × (W.contents writer.new ≡ W.contents writer.old))) }
 {
-    let connection = Connection::open_in_memory(alloc)?;
-    match SqlBook::new(alloc, connection) {
-        Ok(book) => Ok(book),
-        Err(refused) => Err(refused.fault),
-    }
+    let line = match format!(in alloc; "listening on 127.0.0.1:{port}\n") {
+        Ok(line) => line,
+        Err(_) => return Err(HookFault::Gate(Fault::Memory)),
+    };
+    print(writer, line.as_str())
 }
 
-/// Serves the lines of a reader on a writer, as `serve_lines` does, over a keeper whose book is in a new database in memory. A
-/// database in memory needs no premise, so what is said holds without one. If the book can't be made, nothing is read or
-/// written, and the fault is `Gate(Memory)` or `Gate(Store)`.
-pub fn serve_anew<R: Read, W: Write>(
+/// Serves the request of one connection. If the connection fails, nobody is left to be told.
+pub fn serve_request<B: Book, R: Read, W: Write>(
     alloc: Global,
+    keeper: &mut Keeper<B>,
     reader: &mut R,
     writer: &mut W,
-) -> Result<u64, HookFault>
-    // The lines are served from the empty state on, without answers that are kept.
-    ensures served { HasNotBegun result (R.remaining reader.old) (R.remaining reader.new) (W.contents writer.old) (W.contents writer.new)
-        ⊎ ((input : List ℕ) × Consumes (R.remaining reader.old) (R.remaining reader.new) input
-        × IsWithinLimit result input
-        × ((new : Records) × IsServed result no_records input (R.remaining reader.new) new (W.contents writer.old) (W.contents writer.new))) }
-
-    // It succeeds at the end of the input alone.
-    ensures end { OnOk result (IsAtEnd (R.remaining reader.new)) }
-
-    // A fault of the gate is one that a keeper over the database may answer.
-    ensures cause { IfErr result (MayEnd IsOfBooks) }
+)
+    ensures served { IsServedOnce (B.is_sound keeper.new) (B.shows keeper.old) (B.shows keeper.new) (R.remaining reader.old) (R.remaining reader.new) (W.contents writer.old) (W.contents writer.new) }
 {
-    let book = match book_in_memory(alloc) {
-        Ok(book) => book,
-        Err(fault) => return Err(HookFault::Gate(fault)),
-    };
+    let _ = serve_one(alloc, keeper, reader, writer);
+}
+
+// Serves a connection, and closes it so that its client can read the response.
+fn serve_stream<B: Book>(alloc: Global, keeper: &mut Keeper<B>, stream: &TcpStream) {
+    serve_request(alloc, keeper, &mut &*stream, &mut &*stream);
+    close(stream);
+}
+
+/// Serves so many connections, one after the other, with one request each. The records are in the book, and go from one
+/// connection to the next. The fault is `Accept`, at the first connection that can't be accepted.
+pub fn serve(
+    alloc: Global,
+    book: MemoryBook,
+    listener: &TcpListener,
+    count: u32,
+) -> Result<(), JobFault>
+    ensures cause { IfErr result (λ fault. fault ≡ JobFault.Accept) }
+{
     let mut keeper = Keeper::new(book);
-    serve_lines(alloc, &mut keeper, reader, writer)
+    for _ in 0..count {
+        match listener.accept() {
+            Ok((stream, _)) => serve_stream(alloc, &mut keeper, &stream),
+            Err(_) => return Err(JobFault::Accept),
+        }
+    }
+    Ok(())
 }

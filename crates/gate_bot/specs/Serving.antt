@@ -1,0 +1,27 @@
+-- CONNECTIONS: what is printed before the first, what is done with one, and how much is read of it behind its response.
+use Rattle.std.specs.Prelude.{◌≡◌, ◌⊎◌, ◌≤◌, ℕ, List, [], ◌∷◌, ◌++◌, length, codes, decimal, Option, Result, Ok, Err}
+use Rattle.std.specs.Io.KnownBytes.{Consumes, IsAtEnd}
+use Rattle.gate_hook.specs.Receiving.{IsInput}
+use Rattle.gate_hook.specs.Served.{AnswersOne}
+use Rattle.gate_hook.specs.declared.fault.HookFault.{HookFault}
+use Rattle.gate_hook.specs.declared.fault.HookFault.TheVariants.{Gate, Read, Write, TooMuch}
+use Rattle.gate_hook.specs.declared.requests.Served.{Served}
+use Rattle.gate_store.specs.Run.{Records}
+
+abbrev pub greeting : ℕ → List ℕ
+greeting port = codes "listening on 127.0.0.1:" ++ (decimal port ++ 10 ∷ [])
+
+-- One request is answered as `serve_one` does it, and nobody is told how that ended.
+abbrev pub IsServedOnce : (sound : Type 0) → Records → Records → Option (List ℕ) → Option (List ℕ) → Option (List ℕ) → Option (List ℕ) → Type 0
+IsServedOnce sound old new unread left before after =
+    (served : Result Served HookFault) × (input : List ℕ) × IsInput unread left input
+    × (sound → AnswersOne served input old new before after)
+
+-- Bytes were dropped up to the end of the input, or as many as may be; or the reader failed before.
+abbrev pub IsDrained : Result (Unit {0}) HookFault → ℕ → Option (List ℕ) → Option (List ℕ) → Type 0
+IsDrained (Ok _) most before after =
+    (dropped : List ℕ) × Consumes before after dropped × (length dropped ≤ most) × (IsAtEnd after ⊎ (length dropped ≡ most))
+IsDrained (Err Read) most before after = (dropped : List ℕ) × Consumes before after dropped × (length dropped ≤ most)
+IsDrained (Err (Gate fault)) most before after = ⊥
+IsDrained (Err Write) most before after = ⊥
+IsDrained (Err TooMuch) most before after = ⊥

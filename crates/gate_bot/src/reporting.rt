@@ -1,0 +1,87 @@
+ghost use Rattle.std.specs.Prelude.{◌≡◌, ℕ, List, IfErr, IfOk, OnOk};
+ghost use Rattle.std.specs.Io.KnownBytes.{Consumes, IsAtEnd};
+ghost use Rattle.std.specs.String.{string_bytes};
+ghost use Rattle.gate_bot.specs.Report.{IsMade, IsReported};
+ghost use Rattle.gate_hook.specs.Lines.{MayEnd};
+ghost use Rattle.gate_report.specs.Queue.{queue_text_of};
+ghost use Rattle.gate_sql.specs.Shown.{shown};
+ghost use Rattle.gate_store.specs.Run.{IsOfBooks};
+ghost use Rattle.sqlite.specs.Steps.{over_memory};
+
+use crate::printing::print;
+use crate::records::MemoryBook;
+use gate_hook::{HookFault, serve_lines};
+use gate_queue::Fault;
+use gate_report::queue_text;
+use gate_store::Keeper;
+use std::alloc::Global;
+use std::io::{self, Read, Write};
+
+// The text of the queue of a keeper.
+fn queue_of(alloc: Global, keeper: &mut Keeper<MemoryBook>) -> Result<String, Fault>
+    ensures text { IfOk result (λ text. string_bytes text ≡ queue_text_of (shown over_memory keeper.old).state) }
+    ensures cause { IfErr result IsOfBooks }
+{
+    let gate = keeper.gate(alloc)?;
+    Ok(queue_text(alloc, &gate)?)
+}
+
+// The text of the queue after the lines of a reader.
+fn text_after<R: Read>(
+    alloc: Global,
+    keeper: &mut Keeper<MemoryBook>,
+    reader: &mut R,
+) -> Result<String, HookFault>
+    ensures made { (input : List ℕ) × Consumes (R.remaining reader.old) (R.remaining reader.new) input
+        × IsMade (shown over_memory keeper.old) result input (R.remaining reader.new) }
+    ensures end { OnOk result (IsAtEnd (R.remaining reader.new)) }
+    ensures cause { IfErr result (MayEnd IsOfBooks) }
+{
+    if let Err(fault) = serve_lines(alloc, keeper, reader, &mut io::sink()) {
+        return Err(fault);
+    }
+    match queue_of(alloc, keeper) {
+        Ok(text) => Ok(text),
+        Err(fault) => Err(HookFault::Gate(fault)),
+    }
+}
+
+// As `report`, by a keeper that somebody else lets go.
+fn report_by<R: Read, W: Write>(
+    alloc: Global,
+    keeper: &mut Keeper<MemoryBook>,
+    reader: &mut R,
+    writer: &mut W,
+) -> Result<(), HookFault>
+    ensures reported { (input : List ℕ) × Consumes (R.remaining reader.old) (R.remaining reader.new) input
+        × IsReported (shown over_memory keeper.old) result input (R.remaining reader.new) (W.contents writer.old) (W.contents writer.new) }
+    ensures end { OnOk result (IsAtEnd (R.remaining reader.new)) }
+    ensures cause { IfErr result (MayEnd IsOfBooks) }
+{
+    match text_after(alloc, keeper, reader) {
+        Ok(text) => print(writer, text.as_str()),
+        Err(fault) => Err(fault),
+    }
+}
+
+/// Serves the lines of a reader over the records of a book, drops the answers, and then writes the queue as text. After a fault
+/// nothing is written, or after `Write` a part of the text.
+pub fn report<R: Read, W: Write>(
+    alloc: Global,
+    book: MemoryBook,
+    reader: &mut R,
+    writer: &mut W,
+) -> Result<(), HookFault>
+    // The report is that of the input which was read.
+    ensures reported { (input : List ℕ) × Consumes (R.remaining reader.old) (R.remaining reader.new) input
+        × IsReported (shown over_memory book) result input (R.remaining reader.new) (W.contents writer.old) (W.contents writer.new) }
+
+    // It succeeds at the end of the input alone.
+    ensures end { OnOk result (IsAtEnd (R.remaining reader.new)) }
+
+    // A fault of the gate is one that a keeper over the database may answer.
+    ensures cause { IfErr result (MayEnd IsOfBooks) }
+{
+    let mut keeper = Keeper::new(book);
+    report_by(alloc, &mut keeper, reader, writer)
+}
