@@ -65,9 +65,17 @@ fn stepped(rt: &impl Abort, alloc: Global, gate: Gate, line: &str, words: &str) 
     gate
 }
 
+fn gate_of(done: (Gate, Reply)) -> Gate {
+    done.0
+}
+
+fn reply_of(done: (Gate, Reply)) -> Reply {
+    done.1
+}
+
 // The gate after the act of a line, whatever it is answered.
 fn acted(rt: &impl Abort, alloc: Global, gate: Gate, line: &str) -> Gate {
-    answered(rt, alloc, gate, line).0
+    gate_of(answered(rt, alloc, gate, line))
 }
 
 // The gate after acts, whatever they are answered.
@@ -115,19 +123,24 @@ fn check_shown(rt: &impl Abort, alloc: Global, gate: &Gate, text: &str) {
     }
 }
 
-// Lets a copy of the gate act in its place. The act is answered so, and the gate then shows so.
-fn tell(rt: &impl Abort, alloc: Global, gate: &mut Gate, act: &str, answer: &str) {
-    let (reply, text) = answer.split_once(" => ").expect(rt, "what is shown");
-    let copy = gate.copy(alloc).expect(rt, "memory");
-    *gate = stepped(rt, alloc, copy, act, reply);
+// A copy of the gate, which shows so.
+fn copy_shown(rt: &impl Abort, alloc: Global, gate: &Gate, text: &str) -> Gate {
     check_shown(rt, alloc, gate, text);
+    gate.copy(alloc).expect(rt, "memory")
+}
+
+// A copy of the gate after an act, which is answered so, and after which the gate shows so.
+fn told(rt: &impl Abort, alloc: Global, gate: Gate, act: &str, answer: &str) -> Gate {
+    let (reply, text) = answer.split_once(" => ").expect(rt, "what is shown");
+    copy_shown(rt, alloc, &stepped(rt, alloc, gate, act, reply), text)
 }
 
 // Each row has an act, what it is answered, and what the gate shows after it.
-fn check_story(rt: &impl Abort, alloc: Global, gate: &mut Gate, story: &str) {
+fn check_story(rt: &impl Abort, alloc: Global, gate: Gate, story: &str) {
+    let mut gate = gate;
     for line in story.lines() {
         if let Some((act, answer)) = row_of(rt, line) {
-            tell(rt, alloc, gate, act, answer);
+            gate = told(rt, alloc, gate, act, answer);
         }
     }
 }
@@ -135,18 +148,25 @@ fn check_story(rt: &impl Abort, alloc: Global, gate: &mut Gate, story: &str) {
 // Stories from the usual start. A line `start` stands between two.
 fn check_stories(rt: &impl Abort, alloc: Global, stories: &str) {
     for story in stories.split("        start\n") {
-        check_story(rt, alloc, &mut started(rt, alloc), story);
+        check_story(rt, alloc, started(rt, alloc), story);
     }
 }
 
-// Whether a gate whose first batch would have the number is full, so that it does no act.
-fn is_full(rt: &impl Abort, alloc: Global, next: u64, line: &str) -> bool
+// What is answered to an act on a gate whose first batch would have the number.
+fn numbered(rt: &impl Abort, alloc: Global, next: u64, line: &str) -> Result<(Gate, Reply), Fault>
     requires low { 1 ≤ next }
     requires high { next ≤ 9_000_000_000_000_000 }
 {
     let act = read_act(rt, alloc, line);
-    let done = Gate::starting_at(alloc, next).act(alloc, &act);
-    matches!(done, Err(Fault::Full))
+    Gate::starting_at(alloc, next).act(alloc, &act)
+}
+
+// Whether such a gate is full, so that it does no act.
+fn is_full(rt: &impl Abort, alloc: Global, next: u64, line: &str) -> bool
+    requires low { 1 ≤ next }
+    requires high { next ≤ 9_000_000_000_000_000 }
+{
+    numbered(rt, alloc, next, line).err() == Some(Fault::Full)
 }
 
 // A full gate has a refusal for an act all the same.
@@ -171,8 +191,9 @@ fn full_gates(rt: HostRuntime) {
     for line in lines.split('|') {
         check_last_number(&rt, alloc, line);
     }
-    let last = Gate::starting_at(alloc, 8_999_999_999_999_996);
-    stepped(&rt, alloc, last, "role alice reviewer", "done");
+    let last = "        role alice reviewer => done => queue next 8999999999999996";
+    let gate = Gate::starting_at(alloc, 8_999_999_999_999_996);
+    check_story(&rt, alloc, gate, last);
     check_refusal(&rt, alloc, "closed 1", &Rule::UnknownChange);
     gate_queue::empty_history_is_legal();
 }

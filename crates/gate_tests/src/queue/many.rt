@@ -1,4 +1,4 @@
-use super::{acted, check_shown, played, started, stepped};
+use super::{check_shown, played, started, stepped};
 use crate::checks::check_words;
 use gate_queue::Gate;
 use std::alloc::Global;
@@ -31,40 +31,39 @@ fn size_of(gate: &Gate, number: u64) -> usize {
         .map_or(0, |batch| batch.changes.as_slice().len())
 }
 
-// Adds how many batches there are, and how many changes the first has.
-fn push_sizes(rt: &impl Abort, alloc: Global, words: &mut String, gate: &Gate) {
+// How many batches there are, and how many changes the first has. The last of all changes is approved.
+fn sizes(rt: &impl Abort, alloc: Global, gate: &Gate) -> String {
+    check_shown(rt, alloc, gate, "2999 dave d opened 0 - - - alice r+");
+    check_shown(rt, alloc, gate, "3000 none");
     let numbers = gate.queue(alloc).expect(rt, "memory");
     let first = numbers.first().copied().unwrap_or(0);
     let (batches, changes) = (numbers.len(), size_of(gate, first));
-    write!(words, "{batches} {changes}, ").expect(rt, "memory");
+    format!(in alloc; "{batches} {changes}").expect(rt, "memory")
 }
 
-// The sizes of what is queued under these settings, and after each of these acts.
-fn told(rt: &impl Abort, alloc: Global, settings: &str, acts: &str) -> String {
-    let mut gate = approved(rt, alloc, settings);
-    let mut words = String::new(alloc);
-    for act in acts.split("; ") {
-        gate = acted(rt, alloc, gate, act);
-        push_sizes(rt, alloc, &mut words, &gate);
-    }
-    check_shown(rt, alloc, &gate, "2999 dave d opened 0 - - - alice r+");
-    words
+// The sizes of what is queued under these settings, after these acts.
+fn sizes_after(rt: &impl Abort, alloc: Global, settings: &str, acts: &str) -> String {
+    let gate = approved(rt, alloc, settings);
+    sizes(rt, alloc, &played(rt, alloc, gate, acts))
 }
 
+fn check_sizes(rt: &impl Abort, alloc: Global, settings: &str, acts: &str, words: &str) {
+    let found = sizes_after(rt, alloc, settings, acts);
+    check_words(rt, acts, found.as_str(), words);
+}
+
+// Batches of eight, and one batch of all that is halved.
 #[test]
 fn queues_of_3_000_changes(rt: HostRuntime) {
     let alloc = rt.alloc();
-    let settings = "settings status = ['ci']|max_batch_size = 8";
-    let acts = "3000 alice bors r+; 4 alice bors r-; tick 0; 5 alice bors r-";
-    let found = told(&rt, alloc, settings, acts);
-    check_words(&rt, acts, found.as_str(), "375 8, 375 7, 375 7, 375 6, ");
-    let settings = "settings status = ['ci']";
+    let eight = "settings status = ['ci']|max_batch_size = 8";
+    check_sizes(&rt, alloc, eight, "tick 0", "375 8");
+    check_sizes(&rt, alloc, eight, "4 alice bors r-; tick 0", "375 7");
+    let acts = "4 alice bors r-; tick 0; 5 alice bors r-";
+    check_sizes(&rt, alloc, eight, acts, "375 6");
+    let all = "settings status = ['ci']";
+    check_sizes(&rt, alloc, all, "tick 0", "1 2996");
+    check_sizes(&rt, alloc, all, "tick 0; conflict 1", "2 1498");
     let acts = "tick 0; conflict 1; tick 0; conflict 2";
-    let found = told(&rt, alloc, settings, acts);
-    check_words(
-        &rt,
-        acts,
-        found.as_str(),
-        "1 2996, 2 1498, 2 1498, 3 1498, ",
-    );
+    check_sizes(&rt, alloc, all, acts, "3 1498");
 }

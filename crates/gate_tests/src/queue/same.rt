@@ -1,7 +1,7 @@
 ghost use Rattle.std.specs.Prelude.{◌≡◌, ◌↔◌, IsTrue, IfOk};
 
 use super::reading::read_act;
-use super::{answered, played, started};
+use super::{answered, played, reply_of, started};
 use crate::checks::check_pair;
 use gate_queue::{Act, Head, Reply, StatusState, Why};
 use gate_text::List;
@@ -102,17 +102,16 @@ fn is_act(rt: &impl Abort, alloc: Global, act: &Act, line: &str) -> bool {
 }
 
 // The act of a line is equal to no act of another line.
-fn check_act(rt: &impl Abort, alloc: Global, line: &str) {
-    let act = read_act(rt, alloc, line);
+fn check_act(rt: &impl Abort, alloc: Global, act: &Act, line: &str) {
     for other in ACTS.lines() {
-        check_pair(rt, line, other, is_act(rt, alloc, &act, other));
+        check_pair(rt, line, other, is_act(rt, alloc, act, other));
     }
 }
 
 #[test]
 fn acts_that_are_equal(rt: HostRuntime) {
     for line in ACTS.lines() {
-        check_act(&rt, rt.alloc(), line);
+        check_act(&rt, rt.alloc(), &read_act(&rt, rt.alloc(), line), line);
     }
 }
 
@@ -159,7 +158,7 @@ const ANSWERED: &str = "\
 fn reply_to(rt: &impl Abort, alloc: Global, acts: &str) -> Reply {
     let (front, last) = acts.rsplit_once("; ").expect(rt, "a last act");
     let gate = played(rt, alloc, started(rt, alloc), front);
-    answered(rt, alloc, gate, last).1
+    reply_of(answered(rt, alloc, gate, last))
 }
 
 fn is_answered(rt: &impl Abort, alloc: Global, found: &Reply, acts: &str) -> bool {

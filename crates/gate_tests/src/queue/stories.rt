@@ -465,7 +465,7 @@ const TRIES: &str = r#"
 #[test]
 fn stories(rt: HostRuntime) {
     let alloc = rt.alloc();
-    check_story(&rt, alloc, &mut Gate::new(alloc), NOTHING_TOLD);
+    check_story(&rt, alloc, Gate::new(alloc), NOTHING_TOLD);
     check_stories(&rt, alloc, COMMANDS);
     check_stories(&rt, alloc, SETTINGS);
     check_stories(&rt, alloc, SERVICE);
