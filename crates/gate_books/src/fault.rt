@@ -6,7 +6,7 @@ use thiserror::Error;
 
 /// Why the program stopped before its end.
 #[derive(Debug, Drop, Error)]
-pub enum BooksFault {
+pub(crate) enum BooksFault {
     /// It was started without a word, or with one that means nothing.
     #[error("Usage")]
     Usage,

@@ -8,10 +8,10 @@ use std::alloc::Global;
 use std::io::{BufRead, Read, Write};
 
 /// The book that the program `gate` has.
-pub type MemoryBook = SqlBook<MemStore>;
+pub(crate) type MemoryBook = SqlBook<MemStore>;
 
 /// A book in a new database in memory.
-pub fn memory_book(alloc: Global) -> Result<MemoryBook, BooksFault> {
+pub(crate) fn memory_book(alloc: Global) -> Result<MemoryBook, BooksFault> {
     let connection = Connection::open_in_memory(alloc)?;
     match SqlBook::new(alloc, connection) {
         Ok(book) => Ok(book),
@@ -21,7 +21,7 @@ pub fn memory_book(alloc: Global) -> Result<MemoryBook, BooksFault> {
 
 /// Serves all lines by a keeper. Its callers pass the fault on by `match` or as it is: a `?` is dear to prove where a keeper is
 /// alive.
-pub fn serve<B: Book, R: Read, W: Write>(
+pub(crate) fn serve<B: Book, R: Read, W: Write>(
     alloc: Global,
     keeper: &mut Keeper<B>,
     reader: &mut R,
@@ -32,7 +32,7 @@ pub fn serve<B: Book, R: Read, W: Write>(
 }
 
 /// Serves all lines over a book without a database.
-pub fn serve_plain<R: Read, W: Write>(
+pub(crate) fn serve_plain<R: Read, W: Write>(
     alloc: Global,
     reader: &mut R,
     writer: &mut W,
@@ -43,7 +43,7 @@ pub fn serve_plain<R: Read, W: Write>(
 
 /// Serves all lines over one book in a database, each by a keeper of its own. A keeper that is new has no gate at hand, and so
 /// it loads the one of the book.
-pub fn serve_loaded<R: BufRead, W: Write>(
+pub(crate) fn serve_loaded<R: BufRead, W: Write>(
     alloc: Global,
     reader: &mut R,
     writer: &mut W,

@@ -23,7 +23,7 @@ const TABLES: [(&str, &str); 8] = [
 
 /// Serves all lines over a book in a database, drops the answers, and prints the rows of the tables: one on each line, the name
 /// of the table and the values of the columns with `|` between two.
-pub fn print_tables<R: Read, W: Write>(
+pub(crate) fn print_tables<R: Read, W: Write>(
     alloc: Global,
     reader: &mut R,
     writer: &mut W,
@@ -47,7 +47,8 @@ fn connection_after<R: Read>(
     }
 }
 
-fn print_table<W: Write>(
+/// Prints the rows that a statement shows, behind this name each.
+pub(crate) fn print_table<W: Write>(
     connection: &mut Connection<MemStore>,
     writer: &mut W,
     table: &str,
