@@ -11,6 +11,8 @@ mod records;
 mod reporting;
 mod running;
 mod serving;
+#[cfg(test)]
+mod tests;
 mod words;
 
 use crate::explaining::explain;

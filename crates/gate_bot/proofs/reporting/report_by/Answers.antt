@@ -11,7 +11,9 @@ returns-in-Err-clause-reported g c =
 
 pub returns-in-Ok-clause-reported : goal.returns-in-Ok-clause-reported
 returns-in-Ok-clause-reported g c =
-    let made = c.in-Ok.ensures.made in
-    (made.0, made.1,
-     text_told (shown over_memory c.args.keeper.now) c.print.result c.as_str.result.now made.0 (g.R.Read.remaining c.text_after.new.reader) (g.W.Write.contents c.args.writer.now) (g.W.Write.contents c.print.new.writer)
-     (c.as_str.ensures.value ∙ made.2.0) made.2.1 c.print.ensures.ok c.print.ensures.err)
+    let made = c.in-Ok.ensures.made in (
+      made.0,
+      made.1,
+      text_told (shown over_memory c.args.keeper.now) c.print.result c.as_str.result.now made.0 (g.R.Read.remaining c.text_after.new.reader) (g.W.Write.contents c.args.writer.now) (g.W.Write.contents c.print.new.writer)
+          (c.as_str.ensures.value ∙ made.2.0) made.2.1 c.print.ensures.ok c.print.ensures.err,
+    )
