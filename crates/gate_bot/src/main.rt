@@ -55,16 +55,15 @@ fn asked(rt: &HostRuntime) -> Result<Job, WordsFault> {
 }
 
 fn done(rt: &HostRuntime, job: &Job) -> Result<(), JobFault> {
-    let book = book_in_memory(rt.alloc())?;
     match job {
-        Job::Run => run(rt, book),
-        Job::Serve { port, count } => serve(rt, book, *port, *count),
-        Job::Report { file } => report(rt, book, file.as_str()),
+        Job::Run => run(rt),
+        Job::Serve { port, count } => serve(rt, book_in_memory(rt.alloc())?, *port, *count),
+        Job::Report { file } => report(rt, book_in_memory(rt.alloc())?, file.as_str()),
     }
 }
 
-fn run(rt: &HostRuntime, book: MemoryBook) -> Result<(), JobFault> {
-    running::run(rt.alloc(), book, &mut rt.reader(), &mut io::writer(rt))?;
+fn run(rt: &HostRuntime) -> Result<(), JobFault> {
+    running::run(rt.alloc(), &mut rt.reader(), &mut io::writer(rt))?;
     Ok(())
 }
 

@@ -1,4 +1,4 @@
-use Rattle.std.proofs.Common.{arith, ◌++◌, length, take}
+use Rattle.std.proofs.Common.{arith, ◌++◌, take}
 use Rattle.std.proofs.KnownBytes.{Consumes-trans}
 use Rattle.std.proofs.lemmas.List.{length-append, length-take}
 use Rattle.gate_bot.proofs.closing.drain.Goals as goal

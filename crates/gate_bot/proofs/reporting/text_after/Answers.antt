@@ -1,5 +1,4 @@
 use Rattle.std.proofs.Common.{◌∙◌, ap, inr}
-use Rattle.gate_queue.specs.declared.fault.Fault.TheVariants.{Memory}
 use Rattle.gate_report.specs.Queue.{queue_text_of}
 use Rattle.gate_sql.specs.Shown.{shown}
 use Rattle.gate_sql.specs.Tables.{always_sound}

@@ -1,4 +1,4 @@
-use Rattle.std.proofs.Common.{rules, sym, ◌∙◌, ap, codes}
+use Rattle.std.proofs.Common.{rules, sym, ◌∙◌, codes}
 use Rattle.clap.specs.Words.{found_of}
 use Rattle.clap.proofs.WalkLemmas.{first_value-rows}
 use Rattle.gate_bot.proofs.words.report_job.Goals as goal

@@ -1,4 +1,4 @@
-use Rattle.std.proofs.Common.{ℕ, codes, subst}
+use Rattle.std.proofs.Common.{codes, subst}
 use Rattle.clap.specs.Words.{found_of, one_text}
 use Rattle.clap.proofs.WalkLemmas.{one_text-rows}
 use Rattle.gate_bot.specs.Words.{IsNumber}
