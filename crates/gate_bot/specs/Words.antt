@@ -12,7 +12,7 @@ use Rattle.gate_bot.specs.declared.words.Job.TheVariants.{Run, Serve, Report}
 use Rattle.gate_bot.specs.declared.words.WordsFault.{WordsFault}
 use Rattle.gate_bot.specs.declared.words.WordsFault.TheVariants.{Help, Usage, Memory}
 
--- the limits of a port and of a count of connections
+-- a job whose port, and whose count of connections, keep their limits
 abbrev pub IsWithinLimits : Job → Type 0
 IsWithinLimits Run = ⊤
 IsWithinLimits (Serve port count) = (1 ≤ port) × (port ≤ 65535) × (1 ≤ count) × (count ≤ 1000000)
@@ -68,6 +68,7 @@ IsJobIn (Report file) command = (rows : List Row) × (command ≡ Some (codes "r
 abbrev pub IsAskedFor : Job → List Text → Type 0
 IsAskedFor job words = IsJobIn job (subcommand_of gate_words words) × (fault_of gate_words words ≡ [])
 
+-- Help and the version are told on standard output; the command has no version.
 abbrev pub AsksForHelp : ErrorKind → Type 0
 AsksForHelp kind = (kind ≡ DisplayHelp) ⊎ (kind ≡ DisplayVersion)
 

@@ -1,6 +1,5 @@
 use gate_hook::HookFault;
 use gate_queue::Fault;
-use std::alloc::AllocError;
 use thiserror::Error;
 
 /// Why a job stopped before its end.
@@ -40,18 +39,5 @@ impl From<Fault> for JobFault {
 
     fn from(fault: Fault) -> JobFault {
         JobFault::Hook(HookFault::Gate(fault))
-    }
-}
-
-impl From<AllocError> for JobFault {
-    ghost use Rattle.std.specs.Prelude.{◌≡◌};
-    ghost use Rattle.gate_bot.specs.declared.fault.JobFault.TheVariants.{Hook};
-    ghost use Rattle.gate_hook.specs.declared.fault.HookFault.TheVariants.{Gate};
-    ghost use Rattle.gate_queue.specs.declared.fault.Fault.TheVariants.{Memory};
-
-    ghost from_gives = { λ _ fault. fault ≡ Hook (Gate Memory) };
-
-    fn from(_error: AllocError) -> JobFault {
-        JobFault::from(Fault::Memory)
     }
 }

@@ -92,9 +92,10 @@ const ANSWER: &str =
     "HTTP/1.1 200 OK\r\nContent-Type: application/json\r\nContent-Length: 33\r\nConnection: close\r\n\r\n\
 [{\"orders\":[],\"verdict\":\"done\"}]\n";
 
-const BAD: &str = "GET\r\n\r\n";
+const GET: &str = "GET /deliveries HTTP/1.1\r\nHost: here\r\n\r\n";
 
-const REFUSAL: &str = "HTTP/1.1 400 Bad Request\r\nContent-Length: 0\r\nConnection: close\r\n\r\n";
+const REFUSAL: &str =
+    "HTTP/1.1 405 Method Not Allowed\r\nContent-Length: 0\r\nAllow: POST\r\nConnection: close\r\n\r\n";
 
 // A connection to a listener, with a request sent.
 fn client<R: Net<Stream = TcpStream> + Abort>(
@@ -125,7 +126,7 @@ fn serve_two(rt: &impl Abort, alloc: Global, listener: &TcpListener) {
 fn serves_two_connections(rt: HostRuntime) {
     let listener = TcpListener::bind(&rt, ("127.0.0.1", 0)).expect(&rt, "a listener");
     let first = client(&rt, &listener, POST);
-    let second = client(&rt, &listener, BAD);
+    let second = client(&rt, &listener, GET);
     serve_two(&rt, rt.alloc(), &listener);
     check_answer(&rt, rt.alloc(), first, ANSWER);
     check_answer(&rt, rt.alloc(), second, REFUSAL);

@@ -433,6 +433,11 @@ const LEVELS: &str = "
         mia 1 bors d+ => Reviewer true
         role mia nobody => set
         mia 1 bors try => MemberOrDelegate false
+        // Changes with all that a change can have.
+        7 dave b trying-landing -5 bug,hold mia,zoe al alice,zoe r=alice,zoe => set
+        8 carol a landed 0 bug mia,zoe zoe alice,mia r+ => set
+        al 7 bors r- => ReviewerOrDelegate true
+        zoe 8 bors try => MemberOrDelegate true
     ";
 
 #[test]
