@@ -14,17 +14,30 @@ fn check_words(rt: &impl Abort, row: &str, found: &str, due: &str) {
     assert_eq!(rt; found, due, "at {row}");
 }
 
-// What words ask for, in short.
-fn asked(rt: &impl Abort, alloc: Global, words: &[&str]) -> String {
-    match read_words(alloc, words) {
-        Ok(Job::Run) => format!(in alloc; "Run"),
-        Ok(Job::Serve { port, count }) => format!(in alloc; "Serve {port} {count}"),
-        Ok(Job::Report { file }) => format!(in alloc; "Report {file}"),
-        Err(WordsFault::Help(_)) => format!(in alloc; "Help"),
-        Err(WordsFault::Usage(_)) => format!(in alloc; "Usage"),
-        Err(WordsFault::Memory) => format!(in alloc; "Memory"),
+// A job in short.
+fn job_words(rt: &impl Abort, alloc: Global, job: &Job) -> String {
+    match job {
+        Job::Run => format!(in alloc; "Run"),
+        Job::Serve { port, count } => format!(in alloc; "Serve {port} {count}"),
+        Job::Report { file } => format!(in alloc; "Report {file}"),
     }
     .expect(rt, "memory")
+}
+
+fn fault_word(fault: &WordsFault) -> &'static str {
+    match fault {
+        WordsFault::Help(_) => "Help",
+        WordsFault::Usage(_) => "Usage",
+        WordsFault::Memory => "Memory",
+    }
+}
+
+// What words ask for.
+fn asked(rt: &impl Abort, alloc: Global, words: &[&str]) -> String {
+    match read_words(alloc, words) {
+        Ok(job) => job_words(rt, alloc, &job),
+        Err(fault) => String::from_str(alloc, fault_word(&fault)).expect(rt, "memory"),
+    }
 }
 
 fn check_asked(rt: &impl Abort, alloc: Global, row: &str, due: &str) {
