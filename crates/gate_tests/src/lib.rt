@@ -1,4 +1,4 @@
-//! Tests of gate_rules, gate_queue and gate_report, by the calls that these offer.
+//! The tests of gate_queue and gate_report, by the calls that these offer.
 #![tactic(auto)]
 
 #[cfg(test)]
@@ -10,4 +10,4 @@ mod readers;
 #[cfg(test)]
 mod reports;
 #[cfg(test)]
-mod rules;
+mod words;

@@ -6,7 +6,8 @@ mod same;
 mod stories;
 
 use crate::checks::{check_that, check_words, cut, row_of};
-use crate::readers::{is_change, number};
+use crate::readers::number;
+use crate::words::found_words;
 use gate_queue::{Fault, Gate, Reply};
 use gate_rules::Rule;
 use reading::{read_act, shown};
@@ -48,13 +49,23 @@ fn check_reply(
 // The rule that would deny the act of a line.
 fn refusal_to(rt: &impl Abort, alloc: Global, gate: &Gate, line: &str) -> Option<Rule> {
     let act = read_act(rt, alloc, line);
-    gate.refusal(alloc, &act).expect(rt, "memory")
+    let rule = gate.refusal(alloc, &act).expect(rt, "memory");
+    drop(act);
+    rule
+}
+
+// What the gate gives for the act of a line. What is dropped by a call is cheaper to prove than what is left to the end of its
+// scope, so acts, gates and replies are.
+fn given(rt: &impl Abort, alloc: Global, gate: Gate, line: &str) -> Result<(Gate, Reply), Fault> {
+    let act = read_act(rt, alloc, line);
+    let done = gate.act(alloc, &act);
+    drop(act);
+    done
 }
 
 // The gate after the act of a line, and what that is answered.
 fn answered(rt: &impl Abort, alloc: Global, gate: Gate, line: &str) -> (Gate, Reply) {
-    let act = read_act(rt, alloc, line);
-    gate.act(alloc, &act).expect(rt, "memory")
+    given(rt, alloc, gate, line).expect(rt, "memory")
 }
 
 // The gate after the act of a line, which is answered so.
@@ -62,20 +73,16 @@ fn stepped(rt: &impl Abort, alloc: Global, gate: Gate, line: &str, words: &str) 
     let refusal = refusal_to(rt, alloc, &gate, line);
     let (gate, reply) = answered(rt, alloc, gate, line);
     check_reply(rt, alloc, line, &refusal, &reply, words);
+    drop(refusal);
+    drop(reply);
     gate
-}
-
-fn gate_of(done: (Gate, Reply)) -> Gate {
-    done.0
-}
-
-fn reply_of(done: (Gate, Reply)) -> Reply {
-    done.1
 }
 
 // The gate after the act of a line, whatever it is answered.
 fn acted(rt: &impl Abort, alloc: Global, gate: Gate, line: &str) -> Gate {
-    gate_of(answered(rt, alloc, gate, line))
+    let (gate, reply) = answered(rt, alloc, gate, line);
+    drop(reply);
+    gate
 }
 
 // The gate after acts, whatever they are answered.
@@ -94,10 +101,10 @@ fn started(rt: &impl Abort, alloc: Global) -> Gate {
 
 // A batch as its number and its changes.
 fn push_batch(rt: &impl Abort, words: &mut String, gate: &Gate, number: u64) {
-    write!(words, " {number}:").expect(rt, "memory");
+    write!(words, "{number}: ").expect(rt, "memory");
     let batch = gate.batch(number).expect(rt, "a batch");
     for change in batch.changes.as_slice() {
-        write!(words, " {}", change.number()).expect(rt, "memory");
+        write!(words, "{} ", change.number()).expect(rt, "memory");
     }
 }
 
@@ -107,32 +114,36 @@ fn queue_words(rt: &impl Abort, alloc: Global, gate: &Gate) -> String {
     for number in gate.queue(alloc).expect(rt, "memory") {
         push_batch(rt, &mut words, gate, number);
     }
-    write!(words, " next {}", gate.next()).expect(rt, "memory");
+    write!(words, "next {}", gate.next()).expect(rt, "memory");
     words
 }
 
-// The gate shows what a text tells: of `queue` all batches, and of a number the change.
-fn check_shown(rt: &impl Abort, alloc: Global, gate: &Gate, text: &str) {
-    let (word, rest) = cut(text);
-    if word == "queue" {
-        let found = queue_words(rt, alloc, gate);
-        check_words(rt, text, found.as_str().trim_start(), rest);
-    } else {
-        let found = gate.change(number(rt, word));
-        check_that(rt, text, is_change(rt, alloc, found, rest));
+// What a gate shows: of `queue` all batches, and of a number the change.
+fn gate_words(rt: &impl Abort, alloc: Global, gate: &Gate, what: &str) -> String {
+    match what {
+        "queue" => queue_words(rt, alloc, gate),
+        number_word => found_words(rt, alloc, gate.change(number(rt, number_word))),
     }
 }
 
-// A copy of the gate, which shows so.
-fn copy_shown(rt: &impl Abort, alloc: Global, gate: &Gate, text: &str) -> Gate {
-    check_shown(rt, alloc, gate, text);
-    gate.copy(alloc).expect(rt, "memory")
+// The gate shows what a text tells, by its words behind the first.
+fn check_shown(rt: &impl Abort, alloc: Global, gate: &Gate, text: &str) {
+    let (what, words) = cut(text);
+    check_words(rt, text, gate_words(rt, alloc, gate, what).as_str(), words);
+}
+
+// A copy of a gate that shows so.
+fn copy_shown(rt: &impl Abort, alloc: Global, gate: Gate, text: &str) -> Gate {
+    check_shown(rt, alloc, &gate, text);
+    let copy = gate.copy(alloc).expect(rt, "memory");
+    drop(gate);
+    copy
 }
 
 // A copy of the gate after an act, which is answered so, and after which the gate shows so.
 fn told(rt: &impl Abort, alloc: Global, gate: Gate, act: &str, answer: &str) -> Gate {
     let (reply, text) = answer.split_once(" => ").expect(rt, "what is shown");
-    copy_shown(rt, alloc, &stepped(rt, alloc, gate, act, reply), text)
+    copy_shown(rt, alloc, stepped(rt, alloc, gate, act, reply), text)
 }
 
 // Each row has an act, what it is answered, and what the gate shows after it.
@@ -143,6 +154,7 @@ fn check_story(rt: &impl Abort, alloc: Global, gate: Gate, story: &str) {
             gate = told(rt, alloc, gate, act, answer);
         }
     }
+    drop(gate);
 }
 
 // Stories from the usual start. A line `start` stands between two.
@@ -152,27 +164,26 @@ fn check_stories(rt: &impl Abort, alloc: Global, stories: &str) {
     }
 }
 
-// What is answered to an act on a gate whose first batch would have the number.
-fn numbered(rt: &impl Abort, alloc: Global, next: u64, line: &str) -> Result<(Gate, Reply), Fault>
-    requires low { 1 ≤ next }
-    requires high { next ≤ 9_000_000_000_000_000 }
-{
-    let act = read_act(rt, alloc, line);
-    Gate::starting_at(alloc, next).act(alloc, &act)
-}
-
-// Whether such a gate is full, so that it does no act.
+// Whether a gate whose first batch would have the number is full, so that it does no act.
 fn is_full(rt: &impl Abort, alloc: Global, next: u64, line: &str) -> bool
     requires low { 1 ≤ next }
     requires high { next ≤ 9_000_000_000_000_000 }
 {
-    numbered(rt, alloc, next, line).err() == Some(Fault::Full)
+    match given(rt, alloc, Gate::starting_at(alloc, next), line) {
+        Ok((gate, reply)) => {
+            drop(gate);
+            drop(reply);
+            false
+        }
+        Err(fault) => fault == Fault::Full,
+    }
 }
 
 // A full gate has a refusal for an act all the same.
 fn check_refusal(rt: &impl Abort, alloc: Global, line: &str, rule: &Rule) {
     let gate = Gate::starting_at(alloc, 9_000_000_000_000_000);
     let refusal = refusal_to(rt, alloc, &gate, line);
+    drop(gate);
     check_that(rt, line, refusal.as_ref() == Some(rule));
 }
 

@@ -1,6 +1,5 @@
-use crate::checks::cut;
-use gate_rules::{Change, Phase, Repeat, Role, Rule};
-use gate_text::{ChangeNo, Commit, Context, Label, LabelSet, Name, NameSet, Names};
+use gate_rules::Role;
+use gate_text::{ChangeNo, Commit, Context, Label, Name};
 use std::alloc::Global;
 use std::process::Abort;
 
@@ -26,126 +25,10 @@ pub(crate) fn commit(rt: &impl Abort, alloc: Global, digit: &str) -> Commit {
     Commit::read(text.as_str()).expect(rt, "a commit")
 }
 
-// The names of a list in their order, and none of `-`.
-fn names(rt: &impl Abort, alloc: Global, list: &str) -> Names {
-    let mut names = Vec::new(alloc);
-    if list != "-" {
-        for word in list.split(',') {
-            names.push(name(rt, alloc, word)).expect(rt, "memory");
-        }
-    }
-    Names::from(names)
-}
-
-pub(crate) fn name_set(rt: &impl Abort, alloc: Global, list: &str) -> NameSet {
-    let mut set = NameSet::new(alloc);
-    if list != "-" {
-        for word in list.split(',') {
-            set.insert(name(rt, alloc, word)).expect(rt, "memory");
-        }
-    }
-    set
-}
-
-pub(crate) fn label_set(rt: &impl Abort, alloc: Global, list: &str) -> LabelSet {
-    let mut set = LabelSet::new(alloc);
-    if list != "-" {
-        for word in list.split(',') {
-            set.insert(label(rt, alloc, word)).expect(rt, "memory");
-        }
-    }
-    set
-}
-
 pub(crate) fn role(word: &str) -> Role {
     match word {
         "reviewer" => Role::Reviewer,
         "member" => Role::Member,
         _ => Role::Nobody,
     }
-}
-
-fn phase(word: &str) -> Phase {
-    match word {
-        "closed" | "closed-trying" | "closed-landing" => Phase::Closed,
-        "landed" => Phase::Landed,
-        _ => Phase::Opened,
-    }
-}
-
-fn approvers(rt: &impl Abort, alloc: Global, list: &str) -> Option<Names> {
-    match list {
-        "-" => None,
-        list => Some(names(rt, alloc, list)),
-    }
-}
-
-fn repeat(rt: &impl Abort, alloc: Global, word: &str) -> Repeat {
-    match word {
-        "r+" => Repeat::Approve,
-        "try" => Repeat::Try,
-        list => Repeat::ApproveFor(names(rt, alloc, list.trim_start_matches("r="))),
-    }
-}
-
-fn last(rt: &impl Abort, alloc: Global, word: &str) -> Option<Repeat> {
-    match word {
-        "-" => None,
-        word => Some(repeat(rt, alloc, word)),
-    }
-}
-
-// The change of a text: author, head, phase, priority, labels, reviews, delegates, approvers and last command, with `-` for
-// none. The phase is `opened`, `closed` or `landed`; an open change that is trying or landing has `trying`, `landing` or
-// `trying-landing`, and a closed one `closed-trying` or `closed-landing`.
-pub(crate) fn change(rt: &impl Abort, alloc: Global, text: &str) -> Change {
-    let (author, rest) = cut(text);
-    let (head, rest) = cut(rest);
-    let (phase_word, rest) = cut(rest);
-    let (priority, rest) = cut(rest);
-    let (labels, rest) = cut(rest);
-    let (reviews, rest) = cut(rest);
-    let (delegates, rest) = cut(rest);
-    let (approver_list, last_word) = cut(rest);
-    Change {
-        author: name(rt, alloc, author),
-        head: commit(rt, alloc, head),
-        phase: phase(phase_word),
-        priority: priority.parse::<i32>().expect(rt, "a priority"),
-        labels: label_set(rt, alloc, labels),
-        reviews: name_set(rt, alloc, reviews),
-        delegates: name_set(rt, alloc, delegates),
-        approved: approvers(rt, alloc, approver_list),
-        trying: phase_word.contains("trying"),
-        landing: phase_word.ends_with("landing"),
-        last: last(rt, alloc, last_word),
-    }
-}
-
-// Whether a change is the one of a text, which is `none` if there is no such change.
-pub(crate) fn is_change(
-    rt: &impl Abort,
-    alloc: Global,
-    found: Option<&Change>,
-    text: &str,
-) -> bool {
-    match found {
-        None => text == "none",
-        Some(found) => text != "none" && *found == change(rt, alloc, text),
-    }
-}
-
-// A rule by its name and what it names.
-pub(crate) fn rule_words(rt: &impl Abort, alloc: Global, rule: &Rule) -> String {
-    let mut words = String::from_str(alloc, rule.word()).expect(rt, "memory");
-    match rule {
-        Rule::NotPermitted(level) => write!(words, " {}", level.word()).expect(rt, "memory"),
-        Rule::Blocked(label) => write!(words, " {}", label.text()).expect(rt, "memory"),
-        Rule::TooFewReviews(have, need) => {
-            write!(words, " {have} {need}").expect(rt, "memory");
-        }
-        Rule::BadSettings(number) => write!(words, " {number}").expect(rt, "memory"),
-        _ => {}
-    }
-    words
 }

@@ -20,7 +20,9 @@ fn report(rt: &impl Abort, alloc: Global, gate: &Gate, what: &str) -> String {
 // What is reported after these acts.
 fn check_report(rt: &impl Abort, alloc: Global, acts: &str, what: &str, text: &str) {
     let gate = played(rt, alloc, Gate::new(alloc), acts);
-    check_words(rt, acts, report(rt, alloc, &gate, what).as_str(), text);
+    let found = report(rt, alloc, &gate, what);
+    drop(gate);
+    check_words(rt, acts, found.as_str(), text);
 }
 
 const EMPTY: &str = "\

@@ -5,14 +5,18 @@ use std::alloc::Global;
 use std::ops::Range;
 use std::process::Abort;
 
-// The act of a line for each of these changes: every `#` in it stands for the number.
+// A line in which every `#` stands for this number.
+fn line_of(rt: &impl Abort, alloc: Global, line: &str, number: u32) -> String {
+    let number = format!(in alloc; "{number}").expect(rt, "memory");
+    line.replace(alloc, "#", number.as_str())
+        .expect(rt, "memory")
+}
+
+// The act of such a line for each of these changes.
 fn each(rt: &impl Abort, alloc: Global, gate: Gate, numbers: Range<u32>, line: &str) -> Gate {
     let mut gate = gate;
     for number in numbers {
-        let number = format!(in alloc; "{number}").expect(rt, "memory");
-        let line = line
-            .replace(alloc, "#", number.as_str())
-            .expect(rt, "memory");
+        let line = line_of(rt, alloc, line, number);
         gate = stepped(rt, alloc, gate, line.as_str(), "done");
     }
     gate
@@ -43,8 +47,10 @@ fn sizes(rt: &impl Abort, alloc: Global, gate: &Gate) -> String {
 
 // The sizes of what is queued under these settings, after these acts.
 fn sizes_after(rt: &impl Abort, alloc: Global, settings: &str, acts: &str) -> String {
-    let gate = approved(rt, alloc, settings);
-    sizes(rt, alloc, &played(rt, alloc, gate, acts))
+    let gate = played(rt, alloc, approved(rt, alloc, settings), acts);
+    let words = sizes(rt, alloc, &gate);
+    drop(gate);
+    words
 }
 
 fn check_sizes(rt: &impl Abort, alloc: Global, settings: &str, acts: &str, words: &str) {

@@ -1,10 +1,11 @@
 ghost use Rattle.gate_text.specs.Limits.{KeepsLimits};
 ghost use Rattle.gate_queue.specs.Acts.{ActKeepsLimits, IsMoment};
 
-use crate::checks::cut;
-use crate::readers::{commit, context, label, name, number, role, rule_words};
-use gate_queue::{Act, Head, Order, Reply, StatusState, Why};
-use gate_text::{ChangeNo, Commit, Spoken, Text, read_comment};
+use crate::checks::{check_words, cut};
+use crate::readers::{commit, context, label, name, number, role};
+use crate::words::{digit, rule_words};
+use gate_queue::{Act, Head, Heads, Order, Reply, StatusState, Why};
+use gate_text::{ChangeNo, Spoken, Text, read_comment};
 use std::alloc::Global;
 use std::process::Abort;
 
@@ -19,6 +20,33 @@ fn spoken(rt: &impl Abort, alloc: Global, line: &str) -> Spoken
 fn settings(rt: &impl Abort, alloc: Global, text: &str) -> Text {
     let text = text.replace(alloc, "|", "\n").expect(rt, "memory");
     Text::from_str(alloc, text.as_str()).expect(rt, "memory")
+}
+
+fn read_settings(rt: &impl Abort, alloc: Global, text: &str) -> Act
+    ensures { ActKeepsLimits result }
+{
+    Act::Settings {
+        text: settings(rt, alloc, text),
+    }
+}
+
+fn read_role(rt: &impl Abort, alloc: Global, person: &str, role_word: &str) -> Act
+    ensures { ActKeepsLimits result }
+{
+    Act::Role {
+        person: name(rt, alloc, person),
+        role: role(role_word),
+    }
+}
+
+fn read_spoken(rt: &impl Abort, alloc: Global, change: ChangeNo, person: &str, line: &str) -> Act
+    ensures { ActKeepsLimits result }
+{
+    Act::Spoken {
+        change,
+        person: name(rt, alloc, person),
+        spoken: spoken(rt, alloc, line),
+    }
 }
 
 fn whole(rt: &impl Abort, word: &str) -> u64 {
@@ -41,45 +69,36 @@ pub(crate) fn read_act(rt: &impl Abort, alloc: Global, line: &str) -> Act
     let (word, rest) = cut(line);
     let (first, fields) = cut(rest);
     match word {
-        "role" => Act::Role {
-            person: name(rt, alloc, first),
-            role: role(fields),
-        },
-        "settings" => Act::Settings {
-            text: settings(rt, alloc, rest),
-        },
+        "role" => read_role(rt, alloc, first, fields),
+        "settings" => read_settings(rt, alloc, rest),
         "base" => Act::Base {
             commit: commit(rt, alloc, rest),
         },
-        "staged" | "conflict" | "refused" => {
-            read_news(rt, alloc, word, whole(rt, first), fields)
-        }
+        "staged" => Act::Staged {
+            batch: whole(rt, first),
+            commit: commit(rt, alloc, fields),
+        },
+        "conflict" => Act::Conflict {
+            batch: whole(rt, first),
+        },
+        "refused" => Act::Refused {
+            batch: whole(rt, first),
+        },
         "status" => read_status(rt, alloc, first, fields),
         "tick" => Act::Tick {
             now: moment(rt, first),
         },
-        "opened" | "pushed" | "closed" | "labeled" | "unlabeled" | "review" => {
-            read_fact(rt, alloc, word, number(rt, first), fields)
-        }
-        change_word => Act::Spoken {
-            change: number(rt, change_word),
-            person: name(rt, alloc, first),
-            spoken: spoken(rt, alloc, fields),
-        },
+        _ => read_on_change(rt, alloc, word, first, fields),
     }
 }
 
-// The act of a fact on a batch.
-fn read_news(rt: &impl Abort, alloc: Global, word: &str, batch: u64, fields: &str) -> Act
+// The act of a line about a change, which begins with its number if it is a comment.
+fn read_on_change(rt: &impl Abort, alloc: Global, word: &str, first: &str, fields: &str) -> Act
     ensures { ActKeepsLimits result }
 {
-    match word {
-        "staged" => Act::Staged {
-            batch,
-            commit: commit(rt, alloc, fields),
-        },
-        "conflict" => Act::Conflict { batch },
-        _ => Act::Refused { batch },
+    match ChangeNo::read(word) {
+        Ok(change) => read_spoken(rt, alloc, change, first, fields),
+        Err(_) => read_fact(rt, alloc, word, number(rt, first), fields),
     }
 }
 
@@ -98,6 +117,7 @@ fn read_fact(rt: &impl Abort, alloc: Global, word: &str, change: ChangeNo, field
             change,
             head: commit(rt, alloc, first),
         },
+        "closed" => Act::Closed { change },
         "labeled" => Act::Labeled {
             change,
             label: label(rt, alloc, fields),
@@ -106,8 +126,10 @@ fn read_fact(rt: &impl Abort, alloc: Global, word: &str, change: ChangeNo, field
             change,
             label: label(rt, alloc, fields),
         },
-        "review" => read_review(rt, alloc, change, first, rest),
-        _ => Act::Closed { change },
+        _ => {
+            check_words(rt, fields, word, "review");
+            read_review(rt, alloc, change, first, rest)
+        }
     }
 }
 
@@ -179,10 +201,14 @@ fn push_order(rt: &impl Abort, words: &mut String, order: &Order) {
             ..
         } => {
             write!(words, " stage {batch} on {}:", digit(base)).expect(rt, "memory");
-            for head in heads.as_slice() {
-                push_head(rt, words, head);
-            }
+            push_heads(rt, words, heads);
         }
+    }
+}
+
+fn push_heads(rt: &impl Abort, words: &mut String, heads: &Heads) {
+    for head in heads.as_slice() {
+        push_head(rt, words, head);
     }
 }
 
@@ -198,8 +224,4 @@ fn push_notice(rt: &impl Abort, words: &mut String, change: ChangeNo, why: &Why)
 fn push_head(rt: &impl Abort, words: &mut String, head: &Head) {
     let change = head.change.number();
     write!(words, " {change}{}", digit(&head.head)).expect(rt, "memory");
-}
-
-fn digit(commit: &Commit) -> char {
-    commit.text().chars().next().unwrap_or('-')
 }

@@ -1,7 +1,7 @@
 ghost use Rattle.std.specs.Prelude.{◌≡◌, ◌↔◌, IsTrue, IfOk};
 
 use super::reading::read_act;
-use super::{answered, played, reply_of, started};
+use super::{answered, played, started};
 use crate::checks::check_pair;
 use gate_queue::{Act, Head, Reply, StatusState, Why};
 use gate_text::List;
@@ -98,7 +98,10 @@ const ACTS: &str = "\
     tick 2";
 
 fn is_act(rt: &impl Abort, alloc: Global, act: &Act, line: &str) -> bool {
-    *act == read_act(rt, alloc, line)
+    let other = read_act(rt, alloc, line);
+    let is_same = *act == other;
+    drop(other);
+    is_same
 }
 
 // The act of a line is equal to no act of another line.
@@ -111,7 +114,9 @@ fn check_act(rt: &impl Abort, alloc: Global, act: &Act, line: &str) {
 #[test]
 fn acts_that_are_equal(rt: HostRuntime) {
     for line in ACTS.lines() {
-        check_act(&rt, rt.alloc(), &read_act(&rt, rt.alloc(), line), line);
+        let act = read_act(&rt, rt.alloc(), line);
+        check_act(&rt, rt.alloc(), &act, line);
+        drop(act);
     }
 }
 
@@ -158,11 +163,16 @@ const ANSWERED: &str = "\
 fn reply_to(rt: &impl Abort, alloc: Global, acts: &str) -> Reply {
     let (front, last) = acts.rsplit_once("; ").expect(rt, "a last act");
     let gate = played(rt, alloc, started(rt, alloc), front);
-    reply_of(answered(rt, alloc, gate, last))
+    let (gate, reply) = answered(rt, alloc, gate, last);
+    drop(gate);
+    reply
 }
 
 fn is_answered(rt: &impl Abort, alloc: Global, found: &Reply, acts: &str) -> bool {
-    *found == reply_to(rt, alloc, acts)
+    let reply = reply_to(rt, alloc, acts);
+    let is_same = *found == reply;
+    drop(reply);
+    is_same
 }
 
 // The copy of a reply, in a copy of a list of it alone.
@@ -179,6 +189,7 @@ fn check_answer(rt: &impl Abort, alloc: Global, acts: &str) {
     for others in ANSWERED.lines() {
         check_pair(rt, acts, others, is_answered(rt, alloc, &found, others));
     }
+    drop(found);
 }
 
 #[test]

@@ -1,6 +1,6 @@
 mod same;
 
-use crate::checks::{check_words, cut, row_of};
+use crate::checks::{check_that, check_words, cut, row_of};
 use crate::readers::{change, commit, name, number, role, rule_words};
 use gate_rules::{Desk, Level, Role, Rule};
 use gate_text::{ChangeNo, Name, Settings, Spoken, read_comment, read_settings};
@@ -20,11 +20,14 @@ fn new_desk(rt: &impl Abort, alloc: Global) -> Desk {
     desk
 }
 
-// Puts a change on the desk, by its number and what `change` takes.
-fn put(rt: &impl Abort, alloc: Global, desk: &mut Desk, number_word: &str, text: &str) {
+// Puts a change on the desk, by its number and what `change` takes. The desk then shows it. What is dropped by a call is cheaper
+// to prove than what is left to the end of its scope, so changes and desks are.
+fn put(rt: &impl Abort, alloc: Global, desk: &mut Desk, number: ChangeNo, text: &str) {
     let change = change(rt, alloc, text);
-    desk.put_change(alloc, number(rt, number_word), &change)
-        .expect(rt, "memory");
+    desk.put_change(alloc, number, &change).expect(rt, "memory");
+    let is_shown = desk.change(number) == Some(&change);
+    drop(change);
+    check_that(rt, text, is_shown);
 }
 
 // The settings of a text, in which a `|` stands for a line feed.
@@ -44,7 +47,7 @@ fn set(rt: &impl Abort, alloc: Global, desk: &mut Desk, row: &str) {
             let (person, role_word) = cut(rest);
             set_role(rt, alloc, desk, person, role(role_word));
         }
-        number => put(rt, alloc, desk, number, rest),
+        number_word => put(rt, alloc, desk, number(rt, number_word), rest),
     }
 }
 
@@ -136,6 +139,7 @@ fn check_table(rt: &impl Abort, alloc: Global, question: &str, table: &str) {
             check_row(rt, alloc, &mut desk, question, row, words);
         }
     }
+    drop(desk);
 }
 
 // What a command is answered on a desk.
