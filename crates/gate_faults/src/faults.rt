@@ -95,8 +95,13 @@ fn standing(alloc: Global, gate: &Gate) -> Result<String, AllocError> {
 }
 
 fn shown(alloc: Global, keeper: &mut PlainKeeper) -> Result<String, Fault> {
-    let gate = keeper.gate(alloc)?;
-    Ok(standing(alloc, &gate)?)
+    let gate = keeper.gate(alloc);
+    let text = match &gate {
+        Ok(gate) => standing(alloc, gate).map_err(Fault::from),
+        Err(fault) => Err(*fault),
+    };
+    drop(gate);
+    text
 }
 
 // How change 1 stands, asked once more if memory was refused: it is so once in each run.
@@ -121,20 +126,39 @@ fn verdicts_again(rt: &impl Abort, alloc: Global, answer: &Answer) -> String {
     }
 }
 
+fn check_shown(rt: &impl Abort, alloc: Global, keeper: &mut PlainKeeper, word: &str, due: &str) {
+    let found = shown_again(rt, alloc, keeper);
+    check_text(rt, word, found.as_str(), due);
+}
+
 // Hands a delivery in, and once more after a fault, which has to leave everything as it was.
-fn answered(rt: &impl Abort, alloc: Global, keeper: &mut PlainKeeper, word: &str) -> Answer {
-    let delivery = delivery_again(rt, alloc, word);
+fn handed_in(
+    rt: &impl Abort,
+    alloc: Global,
+    keeper: &mut PlainKeeper,
+    word: &str,
+    delivery: &Delivery,
+) -> Answer {
     let before = shown_again(rt, alloc, keeper);
-    match keeper.deliver(alloc, &delivery) {
+    match keeper.deliver(alloc, delivery) {
         Ok(answer) => answer,
         Err(_) => {
-            let after = shown_again(rt, alloc, keeper);
-            check_text(rt, word, after.as_str(), before.as_str());
+            check_shown(rt, alloc, keeper, word, before.as_str());
             keeper
-                .deliver(alloc, &delivery)
+                .deliver(alloc, delivery)
                 .expect(rt, "memory, once more")
         }
     }
+}
+
+// The verdicts of the answer to a line. (What a function lets go at its end is dear to prove; `drop` is not.)
+fn answered(rt: &impl Abort, alloc: Global, keeper: &mut PlainKeeper, word: &str) -> String {
+    let delivery = delivery_again(rt, alloc, word);
+    let answer = handed_in(rt, alloc, keeper, word, &delivery);
+    drop(delivery);
+    let words = verdicts_again(rt, alloc, &answer);
+    drop(answer);
+    words
 }
 
 // A line of the story is answered so, and leads there; and handed in again, it is answered the same and changes nothing.
@@ -142,11 +166,15 @@ fn check_line(rt: &impl Abort, alloc: Global, keeper: &mut PlainKeeper, line: &s
     let (word, due) = line.split_once(" => ").expect(rt, "a line");
     let (due_verdicts, due_standing) = due.split_once("; ").expect(rt, "a line");
     for _ in 0..2 {
-        let answer = answered(rt, alloc, keeper, word);
-        let found = verdicts_again(rt, alloc, &answer);
+        let found = answered(rt, alloc, keeper, word);
         check_text(rt, word, found.as_str(), due_verdicts);
-        let found = shown_again(rt, alloc, keeper);
-        check_text(rt, word, found.as_str(), due_standing);
+        check_shown(rt, alloc, keeper, word, due_standing);
+    }
+}
+
+fn check_story(rt: &impl Abort, alloc: Global, keeper: &mut PlainKeeper) {
+    for line in STORY.lines() {
+        check_line(rt, alloc, keeper, line);
     }
 }
 
@@ -154,7 +182,6 @@ fn check_line(rt: &impl Abort, alloc: Global, keeper: &mut PlainKeeper, line: &s
 fn a_fault_undoes_its_delivery(rt: HostRuntime) {
     let alloc = rt.alloc();
     let mut keeper = Keeper::new(PlainBook::new(alloc, Gate::new(alloc)));
-    for line in STORY.lines() {
-        check_line(&rt, alloc, &mut keeper, line);
-    }
+    check_story(&rt, alloc, &mut keeper);
+    drop(keeper);
 }

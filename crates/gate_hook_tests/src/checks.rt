@@ -1,3 +1,4 @@
+use crate::fakes::Run;
 use std::process::Abort;
 
 // An assertion is dear to prove where many values are alive, so all stand in these functions.
@@ -5,12 +6,14 @@ pub(crate) fn check_text(rt: &impl Abort, found: &str, due: &str) {
     assert_eq!(rt; found, due);
 }
 
-// What was asked about a case is so; a number of the case is told if it isn't.
-pub(crate) fn check_that(rt: &impl Abort, case: usize, is_so: bool) {
-    assert!(rt; is_so, "{case}");
-}
-
-// What was asked about a row is answered in these words.
-pub(crate) fn check_words(rt: &impl Abort, row: &str, found: &str, words: &str) {
-    assert_eq!(rt; found, words, "{row:?}");
+// A run went as it was due to, by the word that it was found to be.
+pub(crate) fn check_found(rt: &impl Abort, run: &Run<'_>, found: &str) {
+    let input = run.input;
+    let bad_read = run.bad_read;
+    let bad_write = run.bad_write;
+    assert_eq!(rt;
+        found,
+        "as due",
+        "{input:?}, bad read {bad_read}, bad write {bad_write}"
+    );
 }

@@ -9,6 +9,10 @@ mod failing;
 #[cfg(test)]
 mod fakes;
 #[cfg(test)]
+mod parts;
+#[cfg(test)]
 mod requests;
+#[cfg(test)]
+mod runs;
 #[cfg(test)]
 mod texts;

@@ -1,9 +1,9 @@
 ghost use Rattle.std.specs.Prelude.{◌≤◌};
 
 use crate::checks::{check_words, cut, row_of};
-use gate_queue::Gate;
+use gate_queue::{Fault, Gate};
 use gate_rules::Role;
-use gate_store::{Book, Delivery, Event, Keeper, PlainBook, answer_text};
+use gate_store::{Answer, Book, Delivery, Event, Keeper, PlainBook, answer_text};
 use gate_text::{ChangeNo, Commit, DeliveryId, Name, Text};
 use std::alloc::Global;
 use std::process::Abort;
@@ -54,8 +54,8 @@ fn delivery(rt: &impl Abort, alloc: Global, line: &str) -> Delivery {
     }
 }
 
-// The first digit of the base.
-fn base_of<'a>(rt: &impl Abort, gate: &'a Gate) -> &'a str {
+// The first digit of the base, which is 0 or 1.
+fn base_of(rt: &impl Abort, gate: &Gate) -> &'static str {
     let base = gate.desk().base().expect(rt, "a base");
     if base.text().starts_with('0') {
         "0"
@@ -64,13 +64,20 @@ fn base_of<'a>(rt: &impl Abort, gate: &'a Gate) -> &'a str {
     }
 }
 
-// What a delivery is answered, or its fault.
-fn answered(rt: &impl Abort, alloc: Global, keeper: &mut PlainKeeper, line: &str) -> String {
-    let delivery = delivery(rt, alloc, line);
-    match keeper.deliver(alloc, &delivery) {
+// The text of an answer, or the word of a fault.
+fn said(rt: &impl Abort, alloc: Global, answer: Result<Answer, Fault>) -> String {
+    match answer {
         Ok(answer) => answer_text(alloc, &answer).expect(rt, "memory"),
         Err(fault) => format!(in alloc; "{fault}").expect(rt, "memory"),
     }
+}
+
+// What a delivery is answered, or its fault.
+fn answered(rt: &impl Abort, alloc: Global, keeper: &mut PlainKeeper, line: &str) -> String {
+    let delivery = delivery(rt, alloc, line);
+    let words = said(rt, alloc, keeper.deliver(alloc, &delivery));
+    drop(delivery);
+    words
 }
 
 fn check_answer(rt: &impl Abort, alloc: Global, keeper: &mut PlainKeeper, line: &str, due: &str) {
@@ -78,11 +85,17 @@ fn check_answer(rt: &impl Abort, alloc: Global, keeper: &mut PlainKeeper, line: 
     check_words(rt, line, found.as_str(), due);
 }
 
+fn base_told(rt: &impl Abort, alloc: Global, keeper: &mut PlainKeeper) -> &'static str {
+    let gate = keeper.gate(alloc).expect(rt, "memory");
+    let base = base_of(rt, &gate);
+    drop(gate);
+    base
+}
+
 // A delivery is answered done, and leads to this base.
 fn check_base(rt: &impl Abort, alloc: Global, keeper: &mut PlainKeeper, line: &str, base: &str) {
     check_answer(rt, alloc, keeper, line, DONE);
-    let gate = keeper.gate(alloc).expect(rt, "memory");
-    check_words(rt, line, base_of(rt, &gate), base);
+    check_words(rt, line, base_told(rt, alloc, keeper), base);
 }
 
 // What a book keeps under an identifier.
@@ -102,37 +115,70 @@ fn keeper_at(alloc: Global, next: u64) -> PlainKeeper
     Keeper::new(PlainBook::new(alloc, Gate::starting_at(alloc, next)))
 }
 
+fn base_kept(rt: &impl Abort, alloc: Global, book: &mut PlainBook) -> &'static str {
+    let gate = book.load(alloc).expect(rt, "memory");
+    let base = base_of(rt, &gate);
+    drop(gate);
+    base
+}
+
+fn check_kept(rt: &impl Abort, alloc: Global, book: &mut PlainBook, id: &str, due: &str) {
+    let found = kept(rt, alloc, book, id);
+    check_words(rt, id, found.as_str(), due);
+}
+
 // A book holds the answer to `d1`, and the base 0.
 fn check_book(rt: &impl Abort, alloc: Global, book: &mut PlainBook) {
-    check_words(rt, "d1", kept(rt, alloc, book, "d1").as_str(), DONE);
-    check_words(rt, "d9", kept(rt, alloc, book, "d9").as_str(), "none");
-    let gate = book.load(alloc).expect(rt, "memory");
-    check_words(rt, "load", base_of(rt, &gate), "0");
+    check_kept(rt, alloc, book, "d1", DONE);
+    check_kept(rt, alloc, book, "d9", "none");
+    check_words(rt, "load", base_kept(rt, alloc, book), "0");
+}
+
+// The book of a keeper that was told a base.
+fn book_with_a_base(rt: &impl Abort, alloc: Global) -> PlainBook {
+    let mut keeper = keeper_at(alloc, 1);
+    check_base(rt, alloc, &mut keeper, "d1 base 0", "0");
+    keeper.into_book()
+}
+
+// What was kept is answered again, and then the state goes on. (A function that lets a keeper go is dear to prove if it calls
+// more than one other.)
+fn check_bases(rt: &impl Abort, alloc: Global, keeper: &mut PlainKeeper) {
+    check_base(rt, alloc, keeper, "d1 base 1", "0");
+    check_base(rt, alloc, keeper, "d9 base 1", "1");
+}
+
+fn check_next_keeper(rt: &impl Abort, alloc: Global, book: PlainBook) {
+    let mut keeper = Keeper::new(book);
+    check_bases(rt, alloc, &mut keeper);
+    drop(keeper);
 }
 
 // The book goes out and into another keeper, which answers the same.
 #[test]
 fn a_book_that_is_handed_on(rt: HostRuntime) {
-    let mut keeper = keeper_at(rt.alloc(), 1);
-    check_base(&rt, rt.alloc(), &mut keeper, "d1 base 0", "0");
-    let mut book = keeper.into_book();
+    let mut book = book_with_a_base(&rt, rt.alloc());
     check_book(&rt, rt.alloc(), &mut book);
-    let mut keeper = Keeper::new(book);
-    check_base(&rt, rt.alloc(), &mut keeper, "d1 base 1", "0");
-    check_base(&rt, rt.alloc(), &mut keeper, "d9 base 1", "1");
+    check_next_keeper(&rt, rt.alloc(), book);
 }
 
-// Each row of a table is a delivery, and what a keeper whose first batch will have this number answers to it.
+// Each row of a table is a delivery, and what is answered to it.
+fn check_rows(rt: &impl Abort, alloc: Global, keeper: &mut PlainKeeper, table: &str) {
+    for line in table.lines() {
+        if let Some((delivery, due)) = row_of(rt, line) {
+            check_answer(rt, alloc, keeper, delivery, due);
+        }
+    }
+}
+
+// The rows of a keeper whose first batch will have this number.
 fn check_answers(rt: &impl Abort, alloc: Global, next: u64, table: &str)
     requires low { 1 ≤ next }
     requires high { next ≤ 9_000_000_000_000_000 }
 {
     let mut keeper = keeper_at(alloc, next);
-    for line in table.lines() {
-        if let Some((delivery, due)) = row_of(rt, line) {
-            check_answer(rt, alloc, &mut keeper, delivery, due);
-        }
-    }
+    check_rows(rt, alloc, &mut keeper, table);
+    drop(keeper);
 }
 
 // The numbers are used up: each act is `Full`, and what has no act, or has its answer, is not.
@@ -175,12 +221,21 @@ fn told(rt: &impl Abort, alloc: Global, keeper: &mut PlainKeeper, lines: &str) -
 }
 
 // A run by a keeper whose next batch has this number.
-fn check_run(rt: &impl Abort, alloc: Global, next: u64, lines: &str, due: &str)
+fn ran(rt: &impl Abort, alloc: Global, next: u64, lines: &str) -> String
     requires low { 1 ≤ next }
     requires high { next ≤ 9_000_000_000_000_000 }
 {
     let mut keeper = keeper_at(alloc, next);
-    let found = told(rt, alloc, &mut keeper, lines);
+    let words = told(rt, alloc, &mut keeper, lines);
+    drop(keeper);
+    words
+}
+
+fn check_run(rt: &impl Abort, alloc: Global, next: u64, lines: &str, due: &str)
+    requires low { 1 ≤ next }
+    requires high { next ≤ 9_000_000_000_000_000 }
+{
+    let found = ran(rt, alloc, next, lines);
     check_words(rt, lines, found.as_str(), due);
 }
 
