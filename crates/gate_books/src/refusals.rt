@@ -5,7 +5,7 @@ use crate::serving::serve;
 use crate::tables::print_table;
 use gate_queue::{Fault, Gate};
 use gate_sql::{Refused, Rows, SqlBook, gate_of, rows_of};
-use gate_store::{Keeper, PlainBook};
+use gate_store::{Book, Keeper, PlainBook};
 use gate_text::List;
 use sqlite::{Connection, MemStore};
 use std::alloc::Global;
@@ -29,21 +29,35 @@ fn print_without_rows<R: Read, W: Write>(
     reader: &mut R,
     writer: &mut W,
 ) -> Result<(), BooksFault> {
-    let gate = gate_after(alloc, reader)?;
-    print_without(alloc, &gate, writer, "statuses")?;
-    print_without(alloc, &gate, writer, "members")
+    match gate_after(alloc, reader) {
+        Ok(gate) => print_without_each(alloc, &gate, writer),
+        Err(fault) => Err(fault),
+    }
+}
+
+fn print_without_each<W: Write>(
+    alloc: Global,
+    gate: &Gate,
+    writer: &mut W,
+) -> Result<(), BooksFault> {
+    print_without(alloc, gate, writer, "statuses")?;
+    print_without(alloc, gate, writer, "members")
 }
 
 // The gate that the lines lead to.
 fn gate_after<R: Read>(alloc: Global, reader: &mut R) -> Result<Gate, BooksFault> {
     let mut keeper = Keeper::new(PlainBook::new(alloc, Gate::new(alloc)));
-    match serve(alloc, &mut keeper, reader, &mut io::sink()) {
-        Ok(()) => gate_at_hand(alloc, &mut keeper),
-        Err(fault) => Err(fault),
-    }
+    let gate = gate_of_lines(alloc, &mut keeper, reader);
+    drop(keeper);
+    gate
 }
 
-fn gate_at_hand(alloc: Global, keeper: &mut Keeper<PlainBook>) -> Result<Gate, BooksFault> {
+fn gate_of_lines<B: Book, R: Read>(
+    alloc: Global,
+    keeper: &mut Keeper<B>,
+    reader: &mut R,
+) -> Result<Gate, BooksFault> {
+    serve(alloc, keeper, reader, &mut io::sink())?;
     match keeper.gate(alloc) {
         Ok(gate) => Ok(gate),
         Err(fault) => Err(BooksFault::from(fault)),

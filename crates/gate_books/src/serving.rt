@@ -19,8 +19,8 @@ pub(crate) fn memory_book(alloc: Global) -> Result<MemoryBook, BooksFault> {
     }
 }
 
-/// Serves all lines by a keeper. Its callers pass the fault on by `match` or as it is: a `?` is dear to prove where a keeper is
-/// alive.
+/// Serves all lines by a keeper. Its callers pass the fault on by `match` or as it is, and let the keeper go by `drop`: a `?` is
+/// dear to prove where a keeper is alive, and so is its end with the function.
 pub(crate) fn serve<B: Book, R: Read, W: Write>(
     alloc: Global,
     keeper: &mut Keeper<B>,
@@ -38,7 +38,9 @@ pub(crate) fn serve_plain<R: Read, W: Write>(
     writer: &mut W,
 ) -> Result<(), BooksFault> {
     let mut keeper = Keeper::new(PlainBook::new(alloc, Gate::new(alloc)));
-    serve(alloc, &mut keeper, reader, writer)
+    let done = serve(alloc, &mut keeper, reader, writer);
+    drop(keeper);
+    done
 }
 
 /// Serves all lines over one book in a database, each by a keeper of its own. A keeper that is new has no gate at hand, and so
@@ -48,7 +50,20 @@ pub(crate) fn serve_loaded<R: BufRead, W: Write>(
     reader: &mut R,
     writer: &mut W,
 ) -> Result<(), BooksFault> {
-    let mut book = memory_book(alloc)?;
+    match memory_book(alloc) {
+        Ok(book) => serve_each(alloc, book, reader, writer),
+        Err(fault) => Err(fault),
+    }
+}
+
+// The same over any book. It is cheaper to prove of a book that isn't known.
+fn serve_each<B: Book + Drop, R: BufRead, W: Write>(
+    alloc: Global,
+    book: B,
+    reader: &mut R,
+    writer: &mut W,
+) -> Result<(), BooksFault> {
+    let mut book = book;
     for _ in 0..u64::MAX {
         let mut line = Vec::new(alloc);
         if reader.read_until(b'\n', &mut line)? == 0 {
@@ -60,12 +75,12 @@ pub(crate) fn serve_loaded<R: BufRead, W: Write>(
 }
 
 // The book after one line, which a keeper has answered.
-fn served<W: Write>(
+fn served<B: Book + Drop, W: Write>(
     alloc: Global,
-    book: MemoryBook,
+    book: B,
     line: &[u8],
     writer: &mut W,
-) -> Result<MemoryBook, BooksFault> {
+) -> Result<B, BooksFault> {
     let mut keeper = Keeper::new(book);
     let mut rest = line;
     match serve(alloc, &mut keeper, &mut rest, writer) {

@@ -1,5 +1,5 @@
 use crate::fault::BooksFault;
-use crate::serving::{memory_book, serve};
+use crate::serving::{MemoryBook, memory_book, serve};
 use gate_store::Keeper;
 use sqlite::types::ValueRef;
 use sqlite::{Connection, MemStore, Row};
@@ -28,23 +28,44 @@ pub(crate) fn print_tables<R: Read, W: Write>(
     reader: &mut R,
     writer: &mut W,
 ) -> Result<(), BooksFault> {
-    let mut connection = connection_after(alloc, reader)?;
-    for (table, sql) in TABLES {
-        print_table(&mut connection, writer, table, sql)?;
-    }
-    Ok(())
-}
-
-// The database of a book after all lines.
-fn connection_after<R: Read>(
-    alloc: Global,
-    reader: &mut R,
-) -> Result<Connection<MemStore>, BooksFault> {
-    let mut keeper = Keeper::new(memory_book(alloc)?);
-    match serve(alloc, &mut keeper, reader, &mut io::sink()) {
-        Ok(()) => Ok(keeper.into_book().into_connection()),
+    match memory_book(alloc) {
+        Ok(book) => print_after(alloc, book, reader, writer),
         Err(fault) => Err(fault),
     }
+}
+
+// The rows of a book after all lines.
+fn print_after<R: Read, W: Write>(
+    alloc: Global,
+    book: MemoryBook,
+    reader: &mut R,
+    writer: &mut W,
+) -> Result<(), BooksFault> {
+    let mut keeper = Keeper::new(book);
+    match serve(alloc, &mut keeper, reader, &mut io::sink()) {
+        Ok(()) => print_all(keeper.into_book().into_connection(), writer),
+        Err(fault) => {
+            drop(keeper);
+            Err(fault)
+        }
+    }
+}
+
+fn print_all<W: Write>(connection: Connection<MemStore>, writer: &mut W) -> Result<(), BooksFault> {
+    let mut connection = connection;
+    let printed = print_each(&mut connection, writer);
+    drop(connection);
+    printed
+}
+
+fn print_each<W: Write>(
+    connection: &mut Connection<MemStore>,
+    writer: &mut W,
+) -> Result<(), BooksFault> {
+    for (table, sql) in TABLES {
+        print_table(connection, writer, table, sql)?;
+    }
+    Ok(())
 }
 
 /// Prints the rows that a statement shows, behind this name each.

@@ -1,5 +1,5 @@
 -- What serving the lines, making the text and printing it leave of a report.
-use Rattle.std.proofs.Common.{◌≡◌, ◌⊎◌, ◌<◌, ℕ, List, Option, Result, Ok, Err, inl, inr, OnOk, IfErr, length, refl, sym, subst, arith}
+use Rattle.std.proofs.Common.{◌≡◌, ◌<◌, ℕ, List, Option, Result, Ok, Err, inl, inr, OnOk, IfErr, length, refl, sym, subst, arith}
 use Rattle.std.proofs.KnownBytes.{Appends-nil}
 use Rattle.std.specs.Io.KnownBytes.{Appends}
 use Rattle.gate_bot.specs.Program.{IsCutOff}
@@ -35,12 +35,11 @@ served_misses old Write input left new before after within served = tt
 served_misses old TooMuch input left new before after within served = omega (arith, within)
 
 -- the gate or its text couldn't be had
-pub gate_misses : (old : Records) (fault : Fault) (input : List ℕ) (left : Option (List ℕ)) → (fault ≡ Memory) ⊎ IsOfBooks fault → MayMiss old (Gate fault) input left
+pub gate_misses : (old : Records) (fault : Fault) (input : List ℕ) (left : Option (List ℕ)) → IsOfBooks fault → MayMiss old (Gate fault) input left
 gate_misses old Memory input left cause = tt
 gate_misses old Store input left cause = tt
 gate_misses old Full input left (inl e) = absurd (full_is_not_memory e)
-gate_misses old Full input left (inr (inl e)) = absurd (full_is_not_memory e)
-gate_misses old Full input left (inr (inr e)) = absurd (grind (arith, e))
+gate_misses old Full input left (inr e) = absurd (grind (arith, e))
 
 some_text : (state : State) → 0 < length (queue_text_of state)
 unfolding head_of

@@ -20,6 +20,7 @@ use crate::fault::JobFault;
 use crate::outcome::{Ending, complaint, ended, status};
 use crate::records::{MemoryBook, book_in_memory};
 use crate::words::{Job, WordsFault, no_text, read_words};
+use gate_store::{Book, Keeper};
 use std::fs::File;
 use std::net::TcpListener;
 use std::process::ExitCode;
@@ -57,8 +58,8 @@ fn asked(rt: &HostRuntime) -> Result<Job, WordsFault> {
 fn done(rt: &HostRuntime, job: &Job) -> Result<(), JobFault> {
     match job {
         Job::Run => run(rt),
-        Job::Serve { port, count } => serve(rt, book_in_memory(rt.alloc())?, *port, *count),
-        Job::Report { file } => report(rt, book_in_memory(rt.alloc())?, file.as_str()),
+        Job::Serve { port, count } => serve(rt, *port, *count),
+        Job::Report { file } => report(rt, file.as_str()),
     }
 }
 
@@ -67,20 +68,45 @@ fn run(rt: &HostRuntime) -> Result<(), JobFault> {
     Ok(())
 }
 
-fn serve(rt: &HostRuntime, book: MemoryBook, port: u16, count: u32) -> Result<(), JobFault> {
+// The records are made before the address is bound.
+fn serve(rt: &HostRuntime, port: u16, count: u32) -> Result<(), JobFault> {
+    let mut keeper = Keeper::new(book_in_memory(rt.alloc())?);
+    let done = serve_on(rt, &mut keeper, port, count);
+    drop(keeper);
+    done
+}
+
+fn serve_on<B: Book>(
+    rt: &HostRuntime,
+    keeper: &mut Keeper<B>,
+    port: u16,
+    count: u32,
+) -> Result<(), JobFault> {
     match TcpListener::bind(rt, ("127.0.0.1", port)) {
         Ok(listener) => {
             serving::announce(rt.alloc(), port, &mut io::writer(rt))?;
-            serving::serve(rt.alloc(), book, &listener, count)
+            serving::serve(rt.alloc(), keeper, &listener, count)
         }
         Err(_) => Err(JobFault::Bind),
     }
 }
 
-fn report(rt: &HostRuntime, book: MemoryBook, file: &str) -> Result<(), JobFault> {
+// The records are made before the file is opened.
+fn report(rt: &HostRuntime, file: &str) -> Result<(), JobFault> {
+    let mut keeper = Keeper::new(book_in_memory(rt.alloc())?);
+    let done = report_of(rt, &mut keeper, file);
+    drop(keeper);
+    done
+}
+
+fn report_of(
+    rt: &HostRuntime,
+    keeper: &mut Keeper<MemoryBook>,
+    file: &str,
+) -> Result<(), JobFault> {
     match File::open(rt, file) {
         Ok(mut file) => {
-            reporting::report(rt.alloc(), book, &mut file, &mut io::writer(rt))?;
+            reporting::report(rt.alloc(), keeper, &mut file, &mut io::writer(rt))?;
             Ok(())
         }
         Err(_) => Err(JobFault::File),

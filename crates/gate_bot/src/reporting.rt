@@ -5,37 +5,49 @@ ghost use Rattle.gate_bot.specs.Report.{IsMade, IsReported};
 ghost use Rattle.gate_hook.specs.Lines.{MayEnd};
 ghost use Rattle.gate_report.specs.Queue.{queue_text_of};
 ghost use Rattle.gate_sql.specs.Shown.{shown};
-ghost use Rattle.gate_store.specs.Run.{IsOfBooks};
+ghost use Rattle.gate_store.specs.Run.{IsOfBooks, IsOfKeepers};
 ghost use Rattle.sqlite.specs.Steps.{over_memory};
 
 use crate::printing::print;
 use crate::records::MemoryBook;
 use gate_hook::{HookFault, serve_lines};
-use gate_queue::Fault;
+use gate_queue::{Fault, Gate};
 use gate_report::queue_text;
-use gate_store::Keeper;
+use gate_store::{Book, Keeper};
 use std::alloc::Global;
 use std::io::{self, Read, Write};
 
-// The text of the queue of a keeper.
-fn queue_of(alloc: Global, keeper: &mut Keeper<MemoryBook>) -> Result<String, Fault>
-    ensures text { IfOk result (λ text. string_bytes text ≡ queue_text_of (shown over_memory keeper.old).state) }
-    ensures cause { IfErr result IsOfBooks }
+// The text of the queue of a gate.
+fn text_of(alloc: Global, gate: &Gate) -> Result<String, Fault>
+    ensures text { IfOk result (λ text. string_bytes text ≡ queue_text_of gate.now) }
+    ensures fault { IfErr result (λ fault. fault ≡ Fault.Memory) }
 {
-    let gate = keeper.gate(alloc)?;
-    Ok(queue_text(alloc, &gate)?)
+    Ok(queue_text(alloc, gate)?)
+}
+
+// The text of the queue of a keeper.
+fn queue_of<B: Book>(alloc: Global, keeper: &mut Keeper<B>) -> Result<String, Fault>
+    ensures text { B.is_sound keeper.new → IfOk result (λ text. string_bytes text ≡ queue_text_of (B.shows keeper.old).state) }
+    ensures was { B.is_sound keeper.new → B.is_sound keeper.old }
+    ensures cause { IfErr result (IsOfKeepers B.may_answer) }
+    ensures fault { IfErr result IsOfBooks }
+{
+    match keeper.gate(alloc) {
+        Ok(gate) => text_of(alloc, &gate),
+        Err(fault) => Err(fault),
+    }
 }
 
 // The text of the queue after the lines of a reader.
-fn text_after<R: Read>(
+fn text_after<B: Book, R: Read>(
     alloc: Global,
-    keeper: &mut Keeper<MemoryBook>,
+    keeper: &mut Keeper<B>,
     reader: &mut R,
 ) -> Result<String, HookFault>
     ensures made { (input : List ℕ) × Consumes (R.remaining reader.old) (R.remaining reader.new) input
-        × IsMade (shown over_memory keeper.old) result input (R.remaining reader.new) }
+        × (B.is_sound keeper.new → IsMade (B.shows keeper.old) result input (R.remaining reader.new)) }
     ensures end { OnOk result (IsAtEnd (R.remaining reader.new)) }
-    ensures cause { IfErr result (MayEnd IsOfBooks) }
+    ensures cause { IfErr result (MayEnd B.may_answer) }
 {
     if let Err(fault) = serve_lines(alloc, keeper, reader, &mut io::sink()) {
         return Err(fault);
@@ -46,17 +58,17 @@ fn text_after<R: Read>(
     }
 }
 
-// As `report`, by a keeper that somebody else lets go.
-fn report_by<R: Read, W: Write>(
+// As `report`, over any book: what the report says holds if the book's premise does.
+fn report_by<B: Book, R: Read, W: Write>(
     alloc: Global,
-    keeper: &mut Keeper<MemoryBook>,
+    keeper: &mut Keeper<B>,
     reader: &mut R,
     writer: &mut W,
 ) -> Result<(), HookFault>
     ensures reported { (input : List ℕ) × Consumes (R.remaining reader.old) (R.remaining reader.new) input
-        × IsReported (shown over_memory keeper.old) result input (R.remaining reader.new) (W.contents writer.old) (W.contents writer.new) }
+        × (B.is_sound keeper.new → IsReported (B.shows keeper.old) result input (R.remaining reader.new) (W.contents writer.old) (W.contents writer.new)) }
     ensures end { OnOk result (IsAtEnd (R.remaining reader.new)) }
-    ensures cause { IfErr result (MayEnd IsOfBooks) }
+    ensures cause { IfErr result (MayEnd B.may_answer) }
 {
     match text_after(alloc, keeper, reader) {
         Ok(text) => print(writer, text.as_str()),
@@ -64,17 +76,17 @@ fn report_by<R: Read, W: Write>(
     }
 }
 
-/// Serves the lines of a reader over the records of a book, drops the answers, and then writes the queue as text. After a fault
-/// nothing is written, or after `Write` a part of the text.
+/// Serves the lines of a reader over the records of a keeper, drops the answers, and then writes the queue as text. After a
+/// fault nothing is written, or after `Write` a part of the text.
 pub fn report<R: Read, W: Write>(
     alloc: Global,
-    book: MemoryBook,
+    keeper: &mut Keeper<MemoryBook>,
     reader: &mut R,
     writer: &mut W,
 ) -> Result<(), HookFault>
-    // The report is that of the input which was read.
+    // The report is that of the input which was read. A book in memory needs no premise.
     ensures reported { (input : List ℕ) × Consumes (R.remaining reader.old) (R.remaining reader.new) input
-        × IsReported (shown over_memory book) result input (R.remaining reader.new) (W.contents writer.old) (W.contents writer.new) }
+        × IsReported (shown over_memory keeper.old) result input (R.remaining reader.new) (W.contents writer.old) (W.contents writer.new) }
 
     // It succeeds at the end of the input alone.
     ensures end { OnOk result (IsAtEnd (R.remaining reader.new)) }
@@ -82,6 +94,5 @@ pub fn report<R: Read, W: Write>(
     // A fault of the gate is one that a keeper over the database may answer.
     ensures cause { IfErr result (MayEnd IsOfBooks) }
 {
-    let mut keeper = Keeper::new(book);
-    report_by(alloc, &mut keeper, reader, writer)
+    report_by(alloc, keeper, reader, writer)
 }

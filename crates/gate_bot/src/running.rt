@@ -35,5 +35,7 @@ pub fn run<R: Read, W: Write>(
         Err(fault) => return Err(HookFault::Gate(fault)),
     };
     let mut keeper = Keeper::new(book);
-    serve_lines(alloc, &mut keeper, reader, writer)
+    let served = serve_lines(alloc, &mut keeper, reader, writer);
+    drop(keeper);
+    served
 }

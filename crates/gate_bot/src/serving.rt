@@ -6,7 +6,6 @@ ghost use Rattle.gate_bot.specs.Serving.{IsServedOnce, greeting};
 use crate::closing::close;
 use crate::fault::JobFault;
 use crate::printing::print;
-use crate::records::MemoryBook;
 use gate_hook::{HookFault, serve_one};
 use gate_queue::Fault;
 use gate_store::{Book, Keeper};
@@ -45,20 +44,19 @@ fn serve_stream<B: Book>(alloc: Global, keeper: &mut Keeper<B>, stream: &TcpStre
     close(stream);
 }
 
-/// Serves so many connections, one after the other, with one request each. The records are in the book, and go from one
+/// Serves so many connections, one after the other, with one request each. The records are the keeper's, and go from one
 /// connection to the next. The fault is `Accept`, at the first connection that can't be accepted.
-pub fn serve(
+pub fn serve<B: Book>(
     alloc: Global,
-    book: MemoryBook,
+    keeper: &mut Keeper<B>,
     listener: &TcpListener,
     count: u32,
 ) -> Result<(), JobFault>
     ensures cause { IfErr result (λ fault. fault ≡ JobFault.Accept) }
 {
-    let mut keeper = Keeper::new(book);
     for _ in 0..count {
         match listener.accept() {
-            Ok((stream, _)) => serve_stream(alloc, &mut keeper, &stream),
+            Ok((stream, _)) => serve_stream(alloc, keeper, &stream),
             Err(_) => return Err(JobFault::Accept),
         }
     }

@@ -1,10 +1,10 @@
 use crate::fault::JobFault;
 use crate::outcome::{Ending, complaint, status};
-use crate::records::book_in_memory;
 use crate::serving::serve;
 use crate::words::{Job, WordsFault, read_words};
 use gate_hook::HookFault;
-use gate_queue::Fault;
+use gate_queue::{Fault, Gate};
+use gate_store::{Keeper, PlainBook};
 use std::alloc::Global;
 use std::io::{self, Write};
 use std::net::{Net, TcpListener, TcpStream};
@@ -129,9 +129,16 @@ fn check_answer(rt: &impl Abort, alloc: Global, stream: TcpStream, due: &str) {
     check_words(rt, "the answer", found.as_str(), due);
 }
 
+fn check_done(rt: &impl Abort, is_done: bool) {
+    assert!(rt; is_done);
+}
+
+// By a keeper without a database, which is dear to link: what `serve` does is the same over any book.
 fn serve_two(rt: &impl Abort, alloc: Global, listener: &TcpListener) {
-    let book = book_in_memory(alloc).expect(rt, "a book");
-    assert!(rt; serve(alloc, book, listener, 2).is_ok());
+    let mut keeper = Keeper::new(PlainBook::new(alloc, Gate::new(alloc)));
+    let is_done = serve(alloc, &mut keeper, listener, 2).is_ok();
+    drop(keeper);
+    check_done(rt, is_done);
 }
 
 // The clients don't close their connections, so the bot leaves each after a moment of silence.

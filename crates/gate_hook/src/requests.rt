@@ -126,13 +126,15 @@ fn report_text(alloc: Global, gate: &Gate, report: Report) -> Result<Option<Stri
 }
 
 // The response that has a report of this gate, or says that there is none.
-fn reported_by(alloc: Global, gate: &Gate, report: Report) -> Result<Response, AllocError>
-    ensures { IfOk result (λ response. IsResponse response (response_to_report (report_in gate.now report))) }
+fn reported_by(alloc: Global, gate: &Gate, report: Report) -> Result<Response, Fault>
+    ensures response { IfOk result (λ response. IsResponse response (response_to_report (report_in gate.now report))) }
+    ensures fault { IfErr result (λ fault. fault ≡ Fault.Memory) }
 {
-    match report_text(alloc, gate, report)? {
+    let response = match report_text(alloc, gate, report)? {
         Some(text) => report_response(alloc, text.as_str()),
         None => refusal_response(alloc, Refusal::NotFound),
-    }
+    };
+    Ok(response?)
 }
 
 // The response that has a report, or says that there is none.
@@ -147,8 +149,10 @@ fn reported<B: Book>(
     ensures cause { IfErr result (IsOfKeepers B.may_answer) }
     ensures fault { IfErr result IsOfBooks }
 {
-    let gate = keeper.gate(alloc)?;
-    Ok(reported_by(alloc, &gate, report)?)
+    match keeper.gate(alloc) {
+        Ok(gate) => reported_by(alloc, &gate, report),
+        Err(fault) => Err(fault),
+    }
 }
 
 // The response to what is asked.

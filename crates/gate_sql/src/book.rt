@@ -128,10 +128,11 @@ impl<S: Alter> Book for SqlBook<S> {
         answer: &Answer,
     ) -> Result<(), Fault> {
         law_of_rows_of(gate);
-        let rows = rows_of(alloc, gate)?;
         let body = body_of(alloc, answer)?;
-        self.tables.write(&rows, id.text(), body.as_str())?;
-        Ok(())
+        let rows = rows_of(alloc, gate)?;
+        let written = self.tables.write(&rows, id.text(), body.as_str());
+        drop(rows);
+        Ok(written?)
     }
 }
 
@@ -141,8 +142,9 @@ fn first_rows(alloc: Global) -> Result<Rows, AllocError>
 {
     let gate = Gate::new(alloc);
     law_of_rows_of(&gate);
-    let first = rows_of(alloc, &gate)?;
-    Ok(first)
+    let first = rows_of(alloc, &gate);
+    drop(gate);
+    Ok(first?)
 }
 
 // The answer whose text this is, if there is one. `Store` if it is the text of none.

@@ -1,4 +1,4 @@
-ghost use Rattle.std.specs.Prelude.{◌≡◌, IfOk, IfErr};
+ghost use Rattle.std.specs.Prelude.{◌≡◌, IfOk, IfErr, IsTrue};
 ghost use Rattle.gate_sql.specs.Contents.{AreSame};
 ghost use Rattle.gate_sql.specs.Decoding.{state_in};
 ghost use Rattle.gate_sql.specs.Encoding.{rows_of as rows_of_state};
@@ -19,7 +19,7 @@ use crate::rows::rows_of;
 use crate::sorting::{are_same, in_order};
 use crate::tables::TablesFault;
 use gate_queue::{Fault, Gate, State};
-use std::alloc::Global;
+use std::alloc::{AllocError, Global};
 
 /// The gate of whose state these are the rows, in any order. `Store` if there is none, and `Memory` if there is no memory for
 /// it.
@@ -36,26 +36,62 @@ fn read_gate(alloc: Global, rows: Rows) -> Result<Gate, TablesFault>
     ensures state { IfOk result (λ gate. (others : RowsOf) → AreSame others rows → gate ≡ state_in others) }
 {
     let rows = in_order(rows);
-    let state = state_of(alloc, &rows)?;
-    let Some(gate) = Gate::from_state(state) else {
-        return Err(TablesFault::Store);
-    };
-    law_of_rows_of(&gate);
-    let own = rows_of(alloc, &gate)?;
-    if are_same(own, rows) {
-        Ok(gate)
-    } else {
-        Err(TablesFault::Store)
+    match guess(alloc, &rows) {
+        Ok(gate) => if_same(alloc, gate, rows),
+        Err(fault) => {
+            drop(rows);
+            Err(fault)
+        }
     }
 }
 
-// What may be the state of these rows. It needs no contract: the rows of what is found are compared with these.
+// A gate, if these are the rows of its state.
+fn if_same(alloc: Global, gate: Gate, rows: Rows) -> Result<Gate, TablesFault>
+    ensures rows { IfOk result (λ gate. AreSame (rows_of_state gate) rows) }
+    ensures state { IfOk result (λ gate. (others : RowsOf) → AreSame others rows → gate ≡ state_in others) }
+{
+    law_of_rows_of(&gate);
+    match has_rows(alloc, &gate, rows) {
+        Ok(true) => Ok(gate),
+        Ok(false) => {
+            drop(gate);
+            Err(TablesFault::Store)
+        }
+        Err(_) => {
+            drop(gate);
+            Err(TablesFault::Memory)
+        }
+    }
+}
+
+fn has_rows(alloc: Global, gate: &Gate, rows: Rows) -> Result<bool, AllocError>
+    ensures { IfOk result (λ has. IsTrue has → AreSame (rows_of_state gate.now) rows) }
+{
+    match rows_of(alloc, gate) {
+        Ok(own) => Ok(are_same(own, rows)),
+        Err(error) => {
+            drop(rows);
+            Err(error)
+        }
+    }
+}
+
+// What may be the gate of these rows. It needs no contract: the rows of what is found are compared with these.
+fn guess(alloc: Global, rows: &Rows) -> Result<Gate, TablesFault> {
+    Gate::from_state(state_of(alloc, rows)?).ok_or(TablesFault::Store)
+}
+
 fn state_of(alloc: Global, rows: &Rows) -> Result<State, TablesFault> {
     let Some(row) = rows.desk.as_slice().first() else {
         return Err(TablesFault::Store);
     };
-    let mut desk = desk_in(alloc, rows, row)?;
     let next = natural(row.next_batch)?;
-    let queue = queue_in(alloc, &mut desk, rows, next)?;
-    Ok(State { desk, queue })
+    let mut desk = desk_in(alloc, rows, row)?;
+    match queue_in(alloc, &mut desk, rows, next) {
+        Ok(queue) => Ok(State { desk, queue }),
+        Err(fault) => {
+            drop(desk);
+            Err(fault)
+        }
+    }
 }

@@ -14,27 +14,40 @@ pub(crate) fn queue_in(
     rows: &Rows,
     next: u64,
 ) -> Result<Queue, TablesFault> {
+    let mut queue = Queue {
+        staging: Lane::new(alloc),
+        trying: Lane::new(alloc),
+        next,
+    };
+    match fill(alloc, desk, &mut queue, rows) {
+        Ok(()) => Ok(queue),
+        Err(fault) => {
+            drop(queue);
+            Err(fault)
+        }
+    }
+}
+
+// Puts the batches of these rows on their branches.
+fn fill(alloc: Global, desk: &mut Desk, queue: &mut Queue, rows: &Rows) -> Result<(), TablesFault> {
     let mut changes = members_in(alloc, rows.members.as_slice())?;
     let mut reports = reports_in(alloc, rows.statuses.as_slice())?;
-    let mut staging = Lane::new(alloc);
-    let mut trying = Lane::new(alloc);
     for row in rows.batches.as_slice() {
         let changes = changes
             .remove(&row.number)
             .unwrap_or(Changes::from(Vec::new(alloc)));
         let reports = reports.remove(&row.number).unwrap_or(Reports::new(alloc));
-        let batch = batch_in(row, changes, reports)?;
-        mark_changes(desk, &batch);
-        match batch.branch {
-            Branch::Staging => put_batch(&mut staging, batch)?,
-            Branch::Trying => put_batch(&mut trying, batch)?,
-        }
+        put(desk, queue, batch_in(row, changes, reports)?)?;
     }
-    Ok(Queue {
-        staging,
-        trying,
-        next,
-    })
+    Ok(())
+}
+
+fn put(desk: &mut Desk, queue: &mut Queue, batch: Batch) -> Result<(), TablesFault> {
+    mark_changes(desk, &batch);
+    match batch.branch {
+        Branch::Staging => put_batch(&mut queue.staging, batch),
+        Branch::Trying => put_batch(&mut queue.trying, batch),
+    }
 }
 
 // The changes of each batch.

@@ -8,23 +8,57 @@ use std::alloc::Global;
 
 /// The desk of these rows, whose changes are neither tried nor landing yet.
 pub(crate) fn desk_in(alloc: Global, rows: &Rows, row: &DeskRow) -> Result<Desk, TablesFault> {
+    let clock = natural(row.clock)?;
     let mut desk = Desk::new(alloc);
-    desk.set_clock(natural(row.clock)?);
+    desk.set_clock(clock);
+    match fill(alloc, &mut desk, rows, row) {
+        Ok(()) => Ok(desk),
+        Err(fault) => {
+            drop(desk);
+            Err(fault)
+        }
+    }
+}
+
+// Puts the rest onto a desk. (Each value that a function lets go where it ends early is dear to prove, so it has none.)
+fn fill(alloc: Global, desk: &mut Desk, rows: &Rows, row: &DeskRow) -> Result<(), TablesFault> {
     if !row.base.as_str().is_empty() {
         desk.set_base(commit(&row.base)?);
     }
     if row.timeout_sec != 0 {
         desk.set_settings(settings_in(alloc, row, rows.marks.as_slice())?);
     }
-    put_people(alloc, &mut desk, rows.people.as_slice())?;
-    put_changes(alloc, &mut desk, rows)?;
-    Ok(desk)
+    put_people(alloc, desk, rows.people.as_slice())?;
+    put_changes(alloc, desk, rows)
 }
 
 // The settings, whose marks are those of the change 0.
 fn settings_in(alloc: Global, row: &DeskRow, marks: &[MarkRow]) -> Result<Settings, TablesFault> {
+    let timeout = small_natural(row.timeout_sec)?;
+    let approvals = small_natural(row.required_approvals)?;
+    let size = match small_natural(row.max_batch_size)? {
+        0 => None,
+        size => Some(size),
+    };
     let mut status = Contexts::from(Vec::new(alloc));
     let mut labels = Labels::from(Vec::new(alloc));
+    match add_marks(alloc, &mut status, &mut labels, marks) {
+        Ok(()) => {
+            Settings::new(status, timeout, labels, approvals, size).ok_or(TablesFault::Store)
+        }
+        Err(fault) => {
+            drop((status, labels));
+            Err(fault)
+        }
+    }
+}
+
+fn add_marks(
+    alloc: Global,
+    status: &mut Contexts,
+    labels: &mut Labels,
+    marks: &[MarkRow],
+) -> Result<(), TablesFault> {
     for mark in marks {
         match (mark.change_no, mark.kind) {
             (0, 6) => status.push(context(alloc, &mark.word)?)?,
@@ -32,18 +66,16 @@ fn settings_in(alloc: Global, row: &DeskRow, marks: &[MarkRow]) -> Result<Settin
             _ => (),
         }
     }
-    let timeout = small_natural(row.timeout_sec)?;
-    let approvals = small_natural(row.required_approvals)?;
-    let size = match small_natural(row.max_batch_size)? {
-        0 => None,
-        size => Some(size),
-    };
-    Settings::new(status, timeout, labels, approvals, size).ok_or(TablesFault::Store)
+    Ok(())
 }
 
 fn put_people(alloc: Global, desk: &mut Desk, rows: &[PersonRow]) -> Result<(), TablesFault> {
     for row in rows {
-        desk.set_role(alloc, &name(alloc, &row.name)?, role_in(row.role)?)?;
+        let role = role_in(row.role)?;
+        let name = name(alloc, &row.name)?;
+        let put = desk.set_role(alloc, &name, role);
+        drop(name);
+        put?;
     }
     Ok(())
 }

@@ -8,12 +8,12 @@ use Rattle.gate_bot.proofs.running.run.Goals as goal
 
 pub returns-clause-served : goal.returns-clause-served
 returns-clause-served g c =
-    let served = c.serve_lines.ensures.served in
+    let served = c.serve_lines-served.ensures.served in
     let begins = ap (shown over_memory) c.new-keeper.ensures.value ∙ c.in-Ok.ensures.value in
-    let left = g.R.Read.remaining c.serve_lines.new.reader in
+    let left = g.R.Read.remaining c.serve_lines-served.new.reader in
     let before = g.W.Write.contents c.args.writer.now in
-    let after = g.W.Write.contents c.serve_lines.new.writer in
-    let ends = shown over_memory c.serve_lines.new.keeper in
+    let after = g.W.Write.contents c.serve_lines-served.new.writer in
+    let ends = shown over_memory c.serve_lines-served.new.keeper in
     let from_none =
-    subst (λ (old : Records). IsServed c.serve_lines.result old served.0 left ends before after) begins (served.3 (always_sound c.serve_lines.new.keeper)) in
+    subst (λ (old : Records). IsServed c.serve_lines-served.result old served.0 left ends before after) begins (served.3 (always_sound c.serve_lines-served.new.keeper)) in
     inr (served.0, served.1, served.2, (ends, from_none))
