@@ -1,11 +1,11 @@
 ghost use Rattle.std.specs.Prelude.{◌≡◌, false, IfOk};
 
 use crate::fault::BooksFault;
-use crate::serving::serve;
+use crate::serving::served;
 use crate::tables::print_table;
 use gate_queue::{Fault, Gate};
 use gate_sql::{Refused, Rows, SqlBook, gate_of, rows_of};
-use gate_store::{Book, Keeper, PlainBook};
+use gate_store::{Book, PlainBook};
 use gate_text::List;
 use sqlite::{Connection, MemStore};
 use std::alloc::Global;
@@ -46,22 +46,18 @@ fn print_without_each<W: Write>(
 
 // The gate that the lines lead to.
 fn gate_after<R: Read>(alloc: Global, reader: &mut R) -> Result<Gate, BooksFault> {
-    let mut keeper = Keeper::new(PlainBook::new(alloc, Gate::new(alloc)));
-    let gate = gate_of_lines(alloc, &mut keeper, reader);
-    drop(keeper);
-    gate
+    gate_over(alloc, PlainBook::new(alloc, Gate::new(alloc)), reader)
 }
 
-fn gate_of_lines<B: Book, R: Read>(
+fn gate_over<B: Book + Drop, R: Read>(
     alloc: Global,
-    keeper: &mut Keeper<B>,
+    book: B,
     reader: &mut R,
 ) -> Result<Gate, BooksFault> {
-    serve(alloc, keeper, reader, &mut io::sink())?;
-    match keeper.gate(alloc) {
-        Ok(gate) => Ok(gate),
-        Err(fault) => Err(BooksFault::from(fault)),
-    }
+    let mut book = served(alloc, book, reader, &mut io::sink())?;
+    let gate = book.load(alloc);
+    drop(book);
+    Ok(gate?)
 }
 
 // Prints what is read of the rows of a gate without those of one table, of which it tells how many these are.

@@ -19,16 +19,22 @@ pub(crate) fn memory_book(alloc: Global) -> Result<MemoryBook, BooksFault> {
     }
 }
 
-/// Serves all lines by a keeper. Its callers pass the fault on by `match` or as it is, and let the keeper go by `drop`: a `?` is
-/// dear to prove where a keeper is alive, and so is its end with the function.
-pub(crate) fn serve<B: Book, R: Read, W: Write>(
+/// Serves all lines over a book, and gives the book back. This function, and those that call it, know no more of the book than
+/// that it is one: a keeper whose book is known is dear to prove where it is let go.
+pub(crate) fn served<B: Book + Drop, R: Read, W: Write>(
     alloc: Global,
-    keeper: &mut Keeper<B>,
+    book: B,
     reader: &mut R,
     writer: &mut W,
-) -> Result<(), BooksFault> {
-    serve_lines(alloc, keeper, reader, writer)?;
-    Ok(())
+) -> Result<B, BooksFault> {
+    let mut keeper = Keeper::new(book);
+    match serve_lines(alloc, &mut keeper, reader, writer) {
+        Ok(_) => Ok(keeper.into_book()),
+        Err(fault) => {
+            drop(keeper);
+            Err(BooksFault::from(fault))
+        }
+    }
 }
 
 /// Serves all lines over a book without a database.
@@ -37,10 +43,22 @@ pub(crate) fn serve_plain<R: Read, W: Write>(
     reader: &mut R,
     writer: &mut W,
 ) -> Result<(), BooksFault> {
-    let mut keeper = Keeper::new(PlainBook::new(alloc, Gate::new(alloc)));
-    let done = serve(alloc, &mut keeper, reader, writer);
-    drop(keeper);
-    done
+    serve_over(
+        alloc,
+        PlainBook::new(alloc, Gate::new(alloc)),
+        reader,
+        writer,
+    )
+}
+
+fn serve_over<B: Book + Drop, R: Read, W: Write>(
+    alloc: Global,
+    book: B,
+    reader: &mut R,
+    writer: &mut W,
+) -> Result<(), BooksFault> {
+    drop(served(alloc, book, reader, writer)?);
+    Ok(())
 }
 
 /// Serves all lines over one book in a database, each by a keeper of its own. A keeper that is new has no gate at hand, and so
@@ -56,7 +74,7 @@ pub(crate) fn serve_loaded<R: BufRead, W: Write>(
     }
 }
 
-// The same over any book. It is cheaper to prove of a book that isn't known.
+// The same over any book.
 fn serve_each<B: Book + Drop, R: BufRead, W: Write>(
     alloc: Global,
     book: B,
@@ -69,22 +87,7 @@ fn serve_each<B: Book + Drop, R: BufRead, W: Write>(
         if reader.read_until(b'\n', &mut line)? == 0 {
             break;
         }
-        book = served(alloc, book, line.as_slice(), writer)?;
+        book = served(alloc, book, &mut line.as_slice(), writer)?;
     }
     Ok(())
-}
-
-// The book after one line, which a keeper has answered.
-fn served<B: Book + Drop, W: Write>(
-    alloc: Global,
-    book: B,
-    line: &[u8],
-    writer: &mut W,
-) -> Result<B, BooksFault> {
-    let mut keeper = Keeper::new(book);
-    let mut rest = line;
-    match serve(alloc, &mut keeper, &mut rest, writer) {
-        Ok(()) => Ok(keeper.into_book()),
-        Err(fault) => Err(fault),
-    }
 }

@@ -1,6 +1,5 @@
 use crate::fault::BooksFault;
-use crate::serving::{MemoryBook, memory_book, serve};
-use gate_store::Keeper;
+use crate::serving::{MemoryBook, memory_book, served};
 use sqlite::types::ValueRef;
 use sqlite::{Connection, MemStore, Row};
 use std::alloc::Global;
@@ -28,26 +27,17 @@ pub(crate) fn print_tables<R: Read, W: Write>(
     reader: &mut R,
     writer: &mut W,
 ) -> Result<(), BooksFault> {
-    match memory_book(alloc) {
-        Ok(book) => print_after(alloc, book, reader, writer),
+    match book_after(alloc, reader) {
+        Ok(book) => print_all(book.into_connection(), writer),
         Err(fault) => Err(fault),
     }
 }
 
-// The rows of a book after all lines.
-fn print_after<R: Read, W: Write>(
-    alloc: Global,
-    book: MemoryBook,
-    reader: &mut R,
-    writer: &mut W,
-) -> Result<(), BooksFault> {
-    let mut keeper = Keeper::new(book);
-    match serve(alloc, &mut keeper, reader, &mut io::sink()) {
-        Ok(()) => print_all(keeper.into_book().into_connection(), writer),
-        Err(fault) => {
-            drop(keeper);
-            Err(fault)
-        }
+// The book in a database after all lines.
+fn book_after<R: Read>(alloc: Global, reader: &mut R) -> Result<MemoryBook, BooksFault> {
+    match memory_book(alloc) {
+        Ok(book) => served(alloc, book, reader, &mut io::sink()),
+        Err(fault) => Err(fault),
     }
 }
 

@@ -1,8 +1,8 @@
 ghost use Rattle.std.specs.Prelude.{◌≡◌, false, pos, map, IfOk};
-ghost use Rattle.clap.specs.Words.{FailsBy, app_of, fault_of, new_app, rule_of, subcommand_of, subcommand_rows_of};
+ghost use Rattle.clap.specs.Words.{FailsBy, app_of, fault_of, new_app, rule_of, subcommand_of, subcommand_rows_of, with_subcommand};
 ghost use Rattle.clap.specs.declared.builder.command.Command.TheViews.{out-Command as fields_of};
 ghost use Rattle.clap.specs.declared.builder.value_parser.ValueParser.TheVariants.{Signed};
-ghost use Rattle.gate_bot.specs.Words.{bare_words, file_rule, gate_words, number_rule, report_words, serve_words};
+ghost use Rattle.gate_bot.specs.Words.{bare_words, file_rule, gate_words, number_rule, report_words, run_words, serve_words};
 
 use clap::builder::ValueParser;
 use clap::{Arg, ArgMatches, Command, Error, value_parser};
@@ -111,13 +111,25 @@ fn bare_gate<'a>(alloc: Global) -> Command<'a>
         .after_help(MORE)
 }
 
+// One subcommand more in each function: a command that may be let go beside others is dear to prove.
+fn with_run<'a>(alloc: Global) -> Result<Command<'a>, AllocError>
+    ensures { IfOk result (λ made. app_of made ≡ with_subcommand bare_words run_words.top) }
+{
+    bare_gate(alloc).subcommand(command(alloc, "run", "gate run", RUN))
+}
+
+fn with_serve<'a>(alloc: Global) -> Result<Command<'a>, AllocError>
+    ensures { IfOk result (λ made. app_of made ≡ with_subcommand (with_subcommand bare_words run_words.top) serve_words.top) }
+{
+    let serve = serve_command(alloc)?;
+    with_run(alloc)?.subcommand(serve)
+}
+
 fn gate_command<'a>(alloc: Global) -> Result<Command<'a>, AllocError>
     ensures { IfOk result (λ made. app_of made ≡ gate_words) }
 {
-    bare_gate(alloc)
-        .subcommand(command(alloc, "run", "gate run", RUN))?
-        .subcommand(serve_command(alloc)?)?
-        .subcommand(report_command(alloc)?)
+    let report = report_command(alloc)?;
+    with_serve(alloc)?.subcommand(report)
 }
 
 /// What words come to, by the command.

@@ -18,7 +18,7 @@ mod words;
 use crate::explaining::explain;
 use crate::fault::JobFault;
 use crate::outcome::{Ending, complaint, ended, status};
-use crate::records::{MemoryBook, book_in_memory};
+use crate::records::book_in_memory;
 use crate::words::{Job, WordsFault, no_text, read_words};
 use gate_store::{Book, Keeper};
 use std::fs::File;
@@ -70,7 +70,17 @@ fn run(rt: &HostRuntime) -> Result<(), JobFault> {
 
 // The records are made before the address is bound.
 fn serve(rt: &HostRuntime, port: u16, count: u32) -> Result<(), JobFault> {
-    let mut keeper = Keeper::new(book_in_memory(rt.alloc())?);
+    serve_over(rt, book_in_memory(rt.alloc())?, port, count)
+}
+
+// The same over any book. A keeper whose book is known is dear to prove where it is let go.
+fn serve_over<B: Book + Drop>(
+    rt: &HostRuntime,
+    book: B,
+    port: u16,
+    count: u32,
+) -> Result<(), JobFault> {
+    let mut keeper = Keeper::new(book);
     let done = serve_on(rt, &mut keeper, port, count);
     drop(keeper);
     done
@@ -93,15 +103,20 @@ fn serve_on<B: Book>(
 
 // The records are made before the file is opened.
 fn report(rt: &HostRuntime, file: &str) -> Result<(), JobFault> {
-    let mut keeper = Keeper::new(book_in_memory(rt.alloc())?);
-    let done = report_of(rt, &mut keeper, file);
+    report_over(rt, book_in_memory(rt.alloc())?, file)
+}
+
+// The same over any book.
+fn report_over<B: Book + Drop>(rt: &HostRuntime, book: B, file: &str) -> Result<(), JobFault> {
+    let mut keeper = Keeper::new(book);
+    let done = report_on(rt, &mut keeper, file);
     drop(keeper);
     done
 }
 
-fn report_of(
+fn report_on<B: Book>(
     rt: &HostRuntime,
-    keeper: &mut Keeper<MemoryBook>,
+    keeper: &mut Keeper<B>,
     file: &str,
 ) -> Result<(), JobFault> {
     match File::open(rt, file) {

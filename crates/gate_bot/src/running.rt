@@ -6,7 +6,7 @@ ghost use Rattle.gate_store.specs.Run.{IsOfBooks, Records};
 
 use crate::records::book_in_memory;
 use gate_hook::{HookFault, serve_lines};
-use gate_store::Keeper;
+use gate_store::{Book, Keeper};
 use std::alloc::Global;
 use std::io::{Read, Write};
 
@@ -30,10 +30,25 @@ pub fn run<R: Read, W: Write>(
     // A fault of the gate is one that a keeper over the database may answer.
     ensures cause { IfErr result (MayEnd IsOfBooks) }
 {
-    let book = match book_in_memory(alloc) {
-        Ok(book) => book,
-        Err(fault) => return Err(HookFault::Gate(fault)),
-    };
+    match book_in_memory(alloc) {
+        Ok(book) => run_over(alloc, book, reader, writer),
+        Err(fault) => Err(HookFault::Gate(fault)),
+    }
+}
+
+// The same over any book, whose premise has to hold in the end. A keeper whose book is known is dear to prove where it is let go.
+fn run_over<B: Book + Drop, R: Read, W: Write>(
+    alloc: Global,
+    book: B,
+    reader: &mut R,
+    writer: &mut W,
+) -> Result<u64, HookFault>
+    ensures served { (input : List ℕ) × Consumes (R.remaining reader.old) (R.remaining reader.new) input
+        × IsWithinLimit result input
+        × ((last : B) × (B.is_sound last → IsServed result (B.shows book) input (R.remaining reader.new) (B.shows last) (W.contents writer.old) (W.contents writer.new))) }
+    ensures end { OnOk result (IsAtEnd (R.remaining reader.new)) }
+    ensures cause { IfErr result (MayEnd B.may_answer) }
+{
     let mut keeper = Keeper::new(book);
     let served = serve_lines(alloc, &mut keeper, reader, writer);
     drop(keeper);

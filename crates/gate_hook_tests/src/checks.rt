@@ -2,6 +2,17 @@ use crate::fakes::Run;
 use std::process::Abort;
 
 // An assertion is dear to prove where many values are alive, so all stand in these functions.
+
+// The answer to a row is these words.
+pub(crate) fn check_words(rt: &impl Abort, row: &str, found: &str, words: &str) {
+    assert_eq!(rt; found, words, "{row:?}");
+}
+
+// What was asked about a row is so.
+pub(crate) fn check_that(rt: &impl Abort, row: &str, is_so: bool) {
+    assert!(rt; is_so, "{row:?}");
+}
+
 pub(crate) fn check_text(rt: &impl Abort, found: &str, due: &str) {
     assert_eq!(rt; found, due);
 }

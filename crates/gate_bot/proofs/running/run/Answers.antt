@@ -1,4 +1,4 @@
-use Rattle.std.proofs.Common.{inr, ◌∙◌, ap, subst}
+use Rattle.std.proofs.Common.{inr, subst}
 use Rattle.gate_sql.specs.Shown.{shown}
 use Rattle.gate_sql.specs.Tables.{always_sound}
 use Rattle.gate_hook.specs.Lines.{IsServed}
@@ -6,14 +6,13 @@ use Rattle.gate_store.specs.Run.{Records}
 use Rattle.sqlite.specs.Steps.{over_memory}
 use Rattle.gate_bot.proofs.running.run.Goals as goal
 
-pub returns-clause-served : goal.returns-clause-served
-returns-clause-served g c =
-    let served = c.serve_lines-served.ensures.served in
-    let begins = ap (shown over_memory) c.new-keeper.ensures.value ∙ c.in-Ok.ensures.value in
-    let left = g.R.Read.remaining c.serve_lines-served.new.reader in
+pub returns-in-Ok-clause-served : goal.returns-in-Ok-clause-served
+returns-in-Ok-clause-served g c =
+    let served = c.run_over.ensures.served in
+    let last = served.3.0 in
+    let left = g.R.Read.remaining c.run_over.new.reader in
     let before = g.W.Write.contents c.args.writer.now in
-    let after = g.W.Write.contents c.serve_lines-served.new.writer in
-    let ends = shown over_memory c.serve_lines-served.new.keeper in
+    let after = g.W.Write.contents c.run_over.new.writer in
     let from_none =
-    subst (λ (old : Records). IsServed c.serve_lines-served.result old served.0 left ends before after) begins (served.3 (always_sound c.serve_lines-served.new.keeper)) in
-    inr (served.0, served.1, served.2, (ends, from_none))
+    subst (λ (old : Records). IsServed c.run_over.result old served.0 left (shown over_memory last) before after) c.in-Ok.ensures.value (served.3.1 (always_sound last)) in
+    inr (served.0, served.1, served.2, (shown over_memory last, from_none))

@@ -1,6 +1,7 @@
 ghost use Rattle.std.specs.Prelude.{◌≤◌};
 
-use crate::checks::{check_words, cut, row_of};
+use crate::checks::check_words;
+use crate::parts::{cut, row_of};
 use gate_queue::{Fault, Gate};
 use gate_rules::Role;
 use gate_store::{Answer, Book, Delivery, Event, Keeper, PlainBook, answer_text};
