@@ -103,27 +103,15 @@ fn serve_on<B: Book>(
 
 // The records are made before the file is opened.
 fn report(rt: &HostRuntime, file: &str) -> Result<(), JobFault> {
-    report_over(rt, book_in_memory(rt.alloc())?, file)
-}
-
-// The same over any book.
-fn report_over<B: Book + Drop>(rt: &HostRuntime, book: B, file: &str) -> Result<(), JobFault> {
-    let mut keeper = Keeper::new(book);
-    let done = report_on(rt, &mut keeper, file);
-    drop(keeper);
-    done
-}
-
-fn report_on<B: Book>(
-    rt: &HostRuntime,
-    keeper: &mut Keeper<B>,
-    file: &str,
-) -> Result<(), JobFault> {
+    let book = book_in_memory(rt.alloc())?;
     match File::open(rt, file) {
         Ok(mut file) => {
-            reporting::report(rt.alloc(), keeper, &mut file, &mut io::writer(rt))?;
+            reporting::report(rt.alloc(), book, &mut file, &mut io::writer(rt))?;
             Ok(())
         }
-        Err(_) => Err(JobFault::File),
+        Err(_) => {
+            drop(book);
+            Err(JobFault::File)
+        }
     }
 }

@@ -58,27 +58,59 @@ fn text_after<B: Book, R: Read>(
     }
 }
 
-/// Serves the lines of a reader over the records of a keeper, drops the answers, and then writes the queue as text. After a
-/// fault nothing is written, or after `Write` a part of the text. What the report says holds if the book's premise does; a book in
-/// memory needs none.
-pub fn report<B: Book, R: Read, W: Write>(
+// The report over the records of a keeper. What it says holds if the premise of the keeper's book does.
+fn report_by<B: Book, R: Read, W: Write>(
     alloc: Global,
     keeper: &mut Keeper<B>,
     reader: &mut R,
     writer: &mut W,
 ) -> Result<(), HookFault>
-    // The report is that of the input which was read.
     ensures reported { (input : List ℕ) × Consumes (R.remaining reader.old) (R.remaining reader.new) input
         × (B.is_sound keeper.new → IsReported (B.shows keeper.old) result input (R.remaining reader.new) (W.contents writer.old) (W.contents writer.new)) }
-
-    // It succeeds at the end of the input alone.
     ensures end { OnOk result (IsAtEnd (R.remaining reader.new)) }
-
-    // A fault of the gate is one that the keeper may answer.
     ensures cause { IfErr result (MayEnd B.may_answer) }
 {
     match text_after(alloc, keeper, reader) {
         Ok(text) => print(writer, text.as_str()),
         Err(fault) => Err(fault),
     }
+}
+
+// As `report`, over any book. A keeper whose book is known is dear to prove where it is let go.
+fn report_over<B: Book + Drop, R: Read, W: Write>(
+    alloc: Global,
+    book: B,
+    reader: &mut R,
+    writer: &mut W,
+) -> Result<(), HookFault>
+    ensures reported { (input : List ℕ) × Consumes (R.remaining reader.old) (R.remaining reader.new) input
+        × ((last : B) × (B.is_sound last → IsReported (B.shows book) result input (R.remaining reader.new) (W.contents writer.old) (W.contents writer.new))) }
+    ensures end { OnOk result (IsAtEnd (R.remaining reader.new)) }
+    ensures cause { IfErr result (MayEnd B.may_answer) }
+{
+    let mut keeper = Keeper::new(book);
+    let reported = report_by(alloc, &mut keeper, reader, writer);
+    drop(keeper);
+    reported
+}
+
+/// Serves the lines of a reader over the records of a book, drops the answers, and then writes the queue as text. The book is let
+/// go. After a fault nothing is written, or after `Write` a part of the text.
+pub fn report<R: Read, W: Write>(
+    alloc: Global,
+    book: MemoryBook,
+    reader: &mut R,
+    writer: &mut W,
+) -> Result<(), HookFault>
+    // The report is that of the input which was read. A book in memory needs no premise.
+    ensures reported { (input : List ℕ) × Consumes (R.remaining reader.old) (R.remaining reader.new) input
+        × IsReported (shown over_memory book) result input (R.remaining reader.new) (W.contents writer.old) (W.contents writer.new) }
+
+    // It succeeds at the end of the input alone.
+    ensures end { OnOk result (IsAtEnd (R.remaining reader.new)) }
+
+    // A fault of the gate is one that a keeper over the database may answer.
+    ensures cause { IfErr result (MayEnd IsOfBooks) }
+{
+    report_over(alloc, book, reader, writer)
 }

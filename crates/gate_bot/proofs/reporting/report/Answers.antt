@@ -1,18 +1,7 @@
-use Rattle.std.proofs.Common.{◌∙◌}
-use Rattle.gate_bot.proofs.Reports.{nothing_told, text_told}
+use Rattle.gate_sql.specs.Tables.{always_sound}
 use Rattle.gate_bot.proofs.reporting.report.Goals as goal
 
-pub returns-in-Err-clause-reported : goal.returns-in-Err-clause-reported
-returns-in-Err-clause-reported g c =
-    let made = c.in-Err.ensures.made in
-    (made.0, made.1, λ sound. nothing_told _ c.in-Err.fault made.0 _ _ (made.2 sound))
-
-pub returns-in-Ok-clause-reported : goal.returns-in-Ok-clause-reported
-returns-in-Ok-clause-reported g c =
-    let made = c.in-Ok.ensures.made in (
-      made.0,
-      made.1,
-      λ sound.
-          text_told _ c.print.result c.as_str.result.now made.0 (g.R.Read.remaining c.text_after.new.reader) (g.W.Write.contents c.args.writer.now) (g.W.Write.contents c.print.new.writer)
-          (c.as_str.ensures.value ∙ (made.2 sound).0) (made.2 sound).1 c.print.ensures.ok c.print.ensures.err,
-    )
+pub returns-clause-reported : goal.returns-clause-reported
+returns-clause-reported g c =
+    let reported = c.report_over.ensures.reported in
+    (reported.0, reported.1, reported.2.1 (always_sound reported.2.0))
