@@ -133,7 +133,7 @@ fn check_done(rt: &impl Abort, is_done: bool) {
     assert!(rt; is_done);
 }
 
-// By a keeper without a database, which is dear to link: what `serve` does is the same over any book.
+// Over a book without a database, since a database is dear to link: what `serve` does is the same over any book.
 fn serve_two(rt: &impl Abort, alloc: Global, listener: &TcpListener) {
     let mut keeper = Keeper::new(PlainBook::new(alloc, Gate::new(alloc)));
     let is_done = serve(alloc, &mut keeper, listener, 2).is_ok();

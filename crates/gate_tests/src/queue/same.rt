@@ -33,6 +33,12 @@ fn clone_of_state(state: &StatusState) -> Result<StatusState, AllocError>
     state.clone()
 }
 
+fn clone_of_head(head: &Head) -> Result<Head, AllocError>
+    ensures value { IfOk result (λ clone. clone ≡ head.now) }
+{
+    head.clone()
+}
+
 // Acts, no two of which are the same.
 const ACTS: &str = "\
     1 alice bors r+\n\
