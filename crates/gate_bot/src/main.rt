@@ -110,6 +110,7 @@ fn report(rt: &HostRuntime, file: &str) -> Result<(), JobFault> {
             Ok(())
         }
         Err(_) => {
+            // By name, since a book that ends with its function is dear to prove.
             drop(book);
             Err(JobFault::File)
         }

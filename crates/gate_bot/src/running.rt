@@ -36,8 +36,8 @@ pub fn run<R: Read, W: Write>(
     }
 }
 
-// The same over any book, if some book that may be left in the end is sound. A keeper whose book is known is dear to prove where
-// it is let go.
+// The same over any book, under its premise: `last` stands for the book as it is let go. A keeper whose book is known is dear to
+// prove where it is let go.
 fn run_over<B: Book + Drop, R: Read, W: Write>(
     alloc: Global,
     book: B,

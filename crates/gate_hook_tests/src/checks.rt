@@ -13,10 +13,6 @@ pub(crate) fn check_that(rt: &impl Abort, row: &str, is_so: bool) {
     assert!(rt; is_so, "{row:?}");
 }
 
-pub(crate) fn check_text(rt: &impl Abort, found: &str, due: &str) {
-    assert_eq!(rt; found, due);
-}
-
 // A run went as it was due to, by the word that it was found to be.
 pub(crate) fn check_found(rt: &impl Abort, run: &Run<'_>, found: &str) {
     let input = run.input;

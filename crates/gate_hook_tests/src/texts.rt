@@ -1,4 +1,4 @@
-use crate::checks::check_text;
+use crate::checks::check_words;
 use gate_hook::{DeliveryFault, Field, HookFault, error_text};
 use gate_queue::{Fault, Reply};
 use gate_rules::{Level, Rule};
@@ -10,12 +10,17 @@ use std::process::Abort;
 #[test]
 fn the_error_of_refused_memory(rt: HostRuntime) {
     let found = error_text(rt.alloc(), &DeliveryFault::Memory).expect(&rt, "memory");
-    check_text(&rt, found.as_str(), r#"{"error":"Memory","number":4}"#);
+    check_words(
+        &rt,
+        "Memory",
+        found.as_str(),
+        r#"{"error":"Memory","number":4}"#,
+    );
 }
 
 fn check_hook_fault(rt: &impl Abort, alloc: Global, fault: HookFault, word: &str) {
     let printed = format!(in alloc; "{fault}").expect(rt, "memory");
-    check_text(rt, printed.as_str(), word);
+    check_words(rt, word, printed.as_str(), word);
 }
 
 #[test]
@@ -30,7 +35,7 @@ fn words_of_hook_faults(rt: HostRuntime) {
 
 fn check_delivery_fault(rt: &impl Abort, alloc: Global, fault: DeliveryFault, words: &str) {
     let printed = format!(in alloc; "{fault}").expect(rt, "memory");
-    check_text(rt, printed.as_str(), words);
+    check_words(rt, words, printed.as_str(), words);
 }
 
 #[test]
@@ -50,7 +55,7 @@ fn check_denial(rt: &impl Abort, alloc: Global, rule: Rule, text: &str) {
     let mut answer = List::from(Vec::new(alloc));
     answer.push(Reply::Denied(rule)).expect(rt, "memory");
     let found = answer_text(alloc, &answer).expect(rt, "memory");
-    check_text(rt, found.as_str(), text);
+    check_words(rt, text, found.as_str(), text);
 }
 
 #[test]
