@@ -1,7 +1,6 @@
--- EACH JOB begins without records, and what it prints may be cut off by the writer.
-use Rattle.std.specs.Prelude.{◌≡◌, ◌⊎◌, ◌<◌, ℕ, List, length, take, Option, Result, Err}
+-- EACH JOB begins without records.
+use Rattle.std.specs.Prelude.{◌≡◌, ◌⊎◌, ℕ, List, Option, Result, Err}
 use Rattle.std.specs.FinMap.{empty}
-use Rattle.std.specs.Io.KnownBytes.{Appends}
 use Rattle.gate_hook.specs.declared.fault.HookFault.{HookFault}
 use Rattle.gate_hook.specs.declared.fault.HookFault.TheVariants.{Gate}
 use Rattle.gate_queue.specs.Machine.{empty_state}
@@ -14,7 +13,3 @@ no_records = record { state = empty_state 1; kept = empty }
 -- no book could be made, and nothing was read or written
 abbrev pub HasNotBegun : Result ℕ HookFault → Option (List ℕ) → Option (List ℕ) → Option (List ℕ) → Option (List ℕ) → Type 0
 HasNotBegun result unread left before after = ((result ≡ Err (Gate Memory)) ⊎ (result ≡ Err (Gate Store))) × (left ≡ unread) × (after ≡ before)
-
--- a part from the front of a text is written, but not all
-abbrev pub IsCutOff : List ℕ → Option (List ℕ) → Option (List ℕ) → Type 0
-IsCutOff text before after = (taken : ℕ) × (taken < length text) × Appends before after (take taken text)

@@ -1,25 +1,15 @@
 //! The program `gate`: the merge bot, from the words that it is started with to its exit status.
 #![tactic(auto)]
 
-mod closing;
-mod command;
-mod explaining;
-mod fault;
-mod outcome;
-mod printing;
 mod records;
 mod reporting;
 mod running;
-mod serving;
-#[cfg(test)]
-mod tests;
-mod words;
 
-use crate::explaining::explain;
-use crate::fault::JobFault;
-use crate::outcome::{Ending, complaint, ended, status};
 use crate::records::book_in_memory;
-use crate::words::{Job, WordsFault, no_text, read_words};
+use gate_jobs::{
+    Ending, Job, JobFault, WordsFault, announce, complaint, ended, explain, no_text, read_words,
+    status,
+};
 use gate_store::{Book, Keeper};
 use std::fs::File;
 use std::net::TcpListener;
@@ -94,8 +84,8 @@ fn serve_on<B: Book>(
 ) -> Result<(), JobFault> {
     match TcpListener::bind(rt, ("127.0.0.1", port)) {
         Ok(listener) => {
-            serving::announce(rt.alloc(), port, &mut io::writer(rt))?;
-            serving::serve(rt.alloc(), keeper, &listener, count)
+            announce(rt.alloc(), port, &mut io::writer(rt))?;
+            gate_jobs::serve(rt.alloc(), keeper, &listener, count)
         }
         Err(_) => Err(JobFault::Bind),
     }

@@ -47,6 +47,12 @@ fn responses(rt: HostRuntime) {
         |~POST /deliveries?a HTTP/1.1~hOST:x~cONTENT-length:    061  ~~{"id":"d1","event":"role","person":"alice","role":"reviewer"} => HTTP/1.1 200 OK|Content-Type: application/json|Content-Length: 33|Connection: close||[{"orders":[],"verdict":"done"}]~
         POST /deliveries HTTP/1.0|Content-Length:61||{"id":"d1","event":"role","person":"alice","role":"reviewer"} => HTTP/1.1 200 OK|Content-Type: application/json|Content-Length: 33|Connection: close||[{"orders":[],"verdict":"done"}]~
         GET /deliveries HTTP/1.1|Host: here|| => HTTP/1.1 405 Method Not Allowed|Content-Length: 0|Allow: POST|Connection: close||
+        GET /deliveries?x HTTP/1.0|Transfer-Encoding: chunked|| => HTTP/1.1 405 Method Not Allowed|Content-Length: 0|Allow: POST|Connection: close||
+        PUT /deliveries?x HTTP/1.0|Transfer-Encoding: chunked|| => HTTP/1.1 405 Method Not Allowed|Content-Length: 0|Allow: POST|Connection: close||
+        HEAD /deliveries?x HTTP/1.0|Transfer-Encoding: chunked|| => HTTP/1.1 405 Method Not Allowed|Content-Length: 0|Allow: POST|Connection: close||
+        post /deliveries?x HTTP/1.0|Transfer-Encoding: chunked|| => HTTP/1.1 405 Method Not Allowed|Content-Length: 0|Allow: POST|Connection: close||
+        Post /deliveries?x HTTP/1.0|Transfer-Encoding: chunked|| => HTTP/1.1 405 Method Not Allowed|Content-Length: 0|Allow: POST|Connection: close||
+        POSTS /deliveries?x HTTP/1.0|Transfer-Encoding: chunked|| => HTTP/1.1 405 Method Not Allowed|Content-Length: 0|Allow: POST|Connection: close||
         POST /deliveries HTTP/1.1|Host: here|Content-Length: 5||hello => HTTP/1.1 400 Bad Request|Content-Type: application/json|Content-Length: 31|Connection: close||{"error":"NotJson","number":1}~
         POST /deliveries HTTP/1.1|Host: here|Content-Length: 0|| => HTTP/1.1 400 Bad Request|Content-Type: application/json|Content-Length: 31|Connection: close||{"error":"NotJson","number":1}~
         POST /deliveries HTTP/1.1|Host: here|Content-Length: 0002||{} => HTTP/1.1 422 Unprocessable Entity|Content-Type: application/json|Content-Length: 45|Connection: close||{"error":"BadField","field":"id","number":2}~
@@ -204,24 +210,6 @@ fn reports(rt: HostRuntime) {
         request(QUEUE, OF_QUEUE),
     ];
     check_runs(&rt, rt.alloc(), &runs);
-}
-
-// A method of other routes, or of none.
-fn check_method(rt: &impl Abort, alloc: Global, method: &str) {
-    let input = format!(in alloc;
-        "{method} /deliveries?x HTTP/1.0\r\nTransfer-Encoding: chunked\r\n\r\n"
-    ).expect(rt, "memory");
-    let output =
-        "HTTP/1.1 405 Method Not Allowed\r\nContent-Length: 0\r\nAllow: POST\r\nConnection: close\r\n\r\n";
-    check_request(rt, alloc, input.as_str(), output);
-}
-
-// Methods count in the case that they are sent in.
-#[test]
-fn methods(rt: HostRuntime) {
-    for method in ["GET", "PUT", "HEAD", "post", "Post", "POSTS"] {
-        check_method(&rt, rt.alloc(), method);
-    }
 }
 
 // The request that the format shows.

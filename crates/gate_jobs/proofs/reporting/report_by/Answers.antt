@@ -1,0 +1,18 @@
+use Rattle.std.proofs.Common.{◌∙◌}
+use Rattle.gate_jobs.proofs.Reports.{nothing_told, text_told}
+use Rattle.gate_jobs.proofs.reporting.report_by.Goals as goal
+
+pub returns-in-Err-clause-reported : goal.returns-in-Err-clause-reported
+returns-in-Err-clause-reported g c =
+    let made = c.in-Err.ensures.made in
+    (made.0, made.1, λ sound. nothing_told _ c.in-Err.fault made.0 _ _ (made.2 sound))
+
+pub returns-in-Ok-clause-reported : goal.returns-in-Ok-clause-reported
+returns-in-Ok-clause-reported g c =
+    let made = c.in-Ok.ensures.made in (
+      made.0,
+      made.1,
+      λ sound.
+          text_told _ c.print.result c.as_str.result.now made.0 (g.R.Read.remaining c.text_after.new.reader) (g.W.Write.contents c.args.writer.now) (g.W.Write.contents c.print.new.writer)
+          (c.as_str.ensures.value ∙ (made.2 sound).0) (made.2 sound).1 c.print.ensures.ok c.print.ensures.err,
+    )

@@ -1,0 +1,42 @@
+-- THE REPORT of an input: the text of the queue after its lines, over some records.
+use Rattle.std.specs.Prelude.{◌≡◌, ◌<◌, ℕ, ⊤, true, List, [], ◌∷◌, ◌++◌, length, Option, Result, Ok, Err, String}
+use Rattle.std.specs.Io.KnownBytes.{Appends}
+use Rattle.std.specs.String.{string_bytes}
+use Rattle.gate_jobs.specs.Printed.{IsCutOff}
+use Rattle.gate_hook.specs.Lines.{AreComplete, NoLineMeetsFull, after_lines, line_meets_full, lines_of, max_input}
+use Rattle.gate_hook.specs.declared.fault.HookFault.{HookFault}
+use Rattle.gate_hook.specs.declared.fault.HookFault.TheVariants.{Gate, Read, Write, TooMuch}
+use Rattle.gate_queue.specs.declared.fault.Fault.TheVariants.{Memory, Store, Full}
+use Rattle.gate_report.specs.Queue.{queue_text_of}
+use Rattle.gate_store.specs.Run.{Records}
+
+abbrev pub report_of : Records → List ℕ → List ℕ
+report_of records input = queue_text_of (after_lines records (lines_of input)).state
+
+-- an act of one of the lines meets a full gate
+abbrev pub StopsAtFull : Records → List ℕ → Option (List ℕ) → Type 0
+StopsAtFull records input left =
+    (served : List (List ℕ)) × (line : List ℕ) × AreComplete input left (served ++ line ∷ [])
+    × (line_meets_full (after_lines records served) line ≡ true)
+
+-- what may keep the text from being made, of the input that was consumed
+abbrev pub MayMiss : Records → HookFault → List ℕ → Option (List ℕ) → Type 0
+MayMiss records (Gate Memory) input left = ⊤
+MayMiss records (Gate Store) input left = ⊤
+MayMiss records (Gate Full) input left = StopsAtFull records input left
+MayMiss records Read input left = ⊤
+MayMiss records Write input left = ⊤
+MayMiss records TooMuch input left = max_input < length input
+
+-- the text is made, and no line met a full gate; or it isn't
+abbrev pub IsMade : {A : Type 0} → Records → Result (String A) HookFault → List ℕ → Option (List ℕ) → Type 0
+IsMade {A} records (Ok text) input left = (string_bytes text ≡ report_of records input) × NoLineMeetsFull records (lines_of input)
+IsMade {A} records (Err fault) input left = MayMiss records fault input left
+
+-- The report is written, or a part from its front if the writer refused the rest. After any other fault nothing is written.
+abbrev pub IsReported : Records → Result (Unit {0}) HookFault → List ℕ → Option (List ℕ) → Option (List ℕ) → Option (List ℕ) → Type 0
+IsReported records (Ok _) input left before after = Appends before after (report_of records input) × NoLineMeetsFull records (lines_of input)
+IsReported records (Err Write) input left before after = IsCutOff (report_of records input) before after
+IsReported records (Err (Gate fault)) input left before after = MayMiss records (Gate fault) input left × (after ≡ before)
+IsReported records (Err Read) input left before after = after ≡ before
+IsReported records (Err TooMuch) input left before after = (max_input < length input) × (after ≡ before)

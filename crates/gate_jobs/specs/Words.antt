@@ -1,0 +1,90 @@
+-- WHAT THE WORDS ASK FOR, in the terms of `clap`.
+use Rattle.std.specs.Prelude.{◌≡◌, ◌≢◌, ◌⊎◌, ◌≤◌, ℕ, pos, List, [], Option, Some, None, true, ⊤, codes}
+use Rattle.std.specs.String.{string_bytes}
+use Rattle.std.specs.Str.Parse.{digits_value, without_leading_plus}
+use Rattle.clap.specs.Words.{App, Row, Rule, Text, fault_of, first_of, new_app, new_rule, one_of, subcommand_of, with_rule, with_subcommand, IsAmong}
+use Rattle.clap.specs.declared.builder.value_parser.ValueParser.{ValueParser}
+use Rattle.clap.specs.declared.builder.value_parser.ValueParser.TheVariants.{Signed}
+use Rattle.clap.specs.declared.error.kind.ErrorKind.{ErrorKind}
+use Rattle.clap.specs.declared.error.kind.ErrorKind.TheVariants.{DisplayHelp, DisplayVersion, OutOfMemory}
+use Rattle.gate_jobs.specs.declared.words.Job.{Job}
+use Rattle.gate_jobs.specs.declared.words.Job.TheVariants.{Run, Serve, Report}
+use Rattle.gate_jobs.specs.declared.words.WordsFault.{WordsFault}
+use Rattle.gate_jobs.specs.declared.words.WordsFault.TheVariants.{Help, Usage, Memory}
+
+-- a job whose port, and whose count of connections, keep their limits
+abbrev pub IsWithinLimits : Job → Type 0
+IsWithinLimits Run = ⊤
+IsWithinLimits (Serve port count) = (1 ≤ port) × (port ≤ 65535) × (1 ≤ count) × (count ≤ 1000000)
+IsWithinLimits (Report file) = ⊤
+
+-- THE COMMANDS: `run`, `serve --port N --count N` and `report FILE`. The program's name isn't among the words.
+abbrev pub number_rule : Text → ValueParser → Rule
+number_rule name limits = record (new_rule name) { long = Some name; value_names = 1; required = true; parser = Some limits }
+
+abbrev pub file_rule : Rule
+file_rule = record (new_rule (codes "FILE")) { required = true }
+
+abbrev pub run_words : App
+run_words = new_app (codes "run")
+
+abbrev pub serve_words : App
+serve_words =
+    with_rule (with_rule (new_app (codes "serve"))
+    (number_rule (codes "port") (Signed (pos 1) (pos 65535))))
+    (number_rule (codes "count") (Signed (pos 1) (pos 1000000)))
+
+abbrev pub report_words : App
+report_words = with_rule (new_app (codes "report")) file_rule
+
+abbrev pub bare_words : App
+bare_words = record { top = record (new_app (codes "gate")).top { no_binary_name = true }; subs = [] }
+
+abbrev pub gate_words : App
+gate_words = with_subcommand (with_subcommand (with_subcommand bare_words run_words.top) serve_words.top) report_words.top
+
+-- THE JOB that a command asks for, by the values of its options
+abbrev pub IsNumber : ℕ → Option Text → Type 0
+IsNumber n None = ⊥
+IsNumber n (Some text) = n ≡ digits_value 10 (without_leading_plus text)
+
+abbrev pub IsServeIn : Job → List Row → Type 0
+IsServeIn Run rows = ⊥
+IsServeIn (Serve port count) rows = IsNumber port (one_of (codes "port") rows) × IsNumber count (one_of (codes "count") rows)
+IsServeIn (Report file) rows = ⊥
+
+abbrev pub IsFileIn : Job → List Row → Type 0
+IsFileIn Run rows = ⊥
+IsFileIn (Serve port count) rows = ⊥
+IsFileIn (Report file) rows = first_of (codes "FILE") rows ≡ Some (string_bytes file)
+
+-- no command is the command `run`
+abbrev pub IsJobIn : Job → Option (Text × List Row) → Type 0
+IsJobIn Run command = (command ≡ None) ⊎ ((rows : List Row) × (command ≡ Some (codes "run", rows)))
+IsJobIn (Serve port count) command = (rows : List Row) × (command ≡ Some (codes "serve", rows)) × IsServeIn (Serve port count) rows
+IsJobIn (Report file) command = (rows : List Row) × (command ≡ Some (codes "report", rows)) × IsFileIn (Report file) rows
+
+-- the words ask for this job, and have no mistake
+abbrev pub IsAskedFor : Job → List Text → Type 0
+IsAskedFor job words = IsJobIn job (subcommand_of gate_words words) × (fault_of gate_words words ≡ [])
+
+-- Help and the version are told on standard output; the command has no version.
+abbrev pub AsksForHelp : ErrorKind → Type 0
+AsksForHelp kind = (kind ≡ DisplayHelp) ⊎ (kind ≡ DisplayVersion)
+
+-- what is told of an error of `clap`: for want of memory its text may be lost, whatever the error
+abbrev pub IsToldBy : WordsFault → ErrorKind → Type 0
+IsToldBy (Help text) kind = AsksForHelp kind
+IsToldBy (Usage text) kind = (kind ≢ DisplayHelp) × (kind ≢ DisplayVersion) × (kind ≢ OutOfMemory)
+IsToldBy Memory kind = ⊤
+
+-- Help is told only if the words ask for it.
+abbrev pub IsRefusedBy : WordsFault → List Text → Type 0
+IsRefusedBy (Help text) words = (kind : ErrorKind) × AsksForHelp kind × IsAmong kind (fault_of gate_words words)
+IsRefusedBy (Usage text) words = ⊤
+IsRefusedBy Memory words = ⊤
+
+abbrev pub IsUsage : WordsFault → Type 0
+IsUsage (Help text) = ⊥
+IsUsage (Usage text) = ⊤
+IsUsage Memory = ⊤

@@ -1,0 +1,28 @@
+ghost use Rattle.gate_jobs.specs.Explaining.{Explains};
+
+use crate::fault::JobFault;
+use crate::outcome::Ending;
+use crate::printing::print;
+use crate::words::WordsFault;
+use gate_hook::HookFault;
+use gate_queue::Fault;
+use std::io::Write;
+
+/// Tells why words ask for no job: help that was asked for goes to the first writer, and what is wrong with the words to the
+/// second.
+pub fn explain<O: Write, E: Write>(fault: &WordsFault, out: &mut O, err: &mut E) -> Ending
+    ensures explains { Explains fault.now result (O.contents out.old) (O.contents out.new) (E.contents err.old) (E.contents err.new) }
+{
+    match fault {
+        WordsFault::Help(text) => match print(out, text.as_str()) {
+            Ok(()) => Ending::Done,
+            Err(fault) => Ending::Fault(JobFault::Hook(fault)),
+        },
+        WordsFault::Usage(text) => {
+            // If standard error fails, there is nothing left to tell it by.
+            let _ = print(err, text.as_str());
+            Ending::Usage
+        }
+        WordsFault::Memory => Ending::Fault(JobFault::Hook(HookFault::Gate(Fault::Memory))),
+    }
+}

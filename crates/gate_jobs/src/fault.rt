@@ -1,0 +1,43 @@
+use gate_hook::HookFault;
+use gate_queue::Fault;
+use thiserror::Error;
+
+/// Why a job stopped before its end.
+#[derive(Clone, Copy, Debug, PartialEq, Eq, Error)]
+pub enum JobFault {
+    /// No book could be made, or reading, answering or writing stopped.
+    #[error(transparent)]
+    Hook(HookFault),
+    /// The address can't be bound.
+    #[error("Bind")]
+    Bind,
+    /// No connection could be accepted.
+    #[error("Accept")]
+    Accept,
+    /// The file can't be opened.
+    #[error("File")]
+    File,
+}
+
+impl From<HookFault> for JobFault {
+    ghost use Rattle.std.specs.Prelude.{◌≡◌};
+    ghost use Rattle.gate_jobs.specs.declared.fault.JobFault.TheVariants.{Hook};
+
+    ghost from_gives = { λ hook fault. fault ≡ Hook hook };
+
+    fn from(fault: HookFault) -> JobFault {
+        JobFault::Hook(fault)
+    }
+}
+
+impl From<Fault> for JobFault {
+    ghost use Rattle.std.specs.Prelude.{◌≡◌};
+    ghost use Rattle.gate_jobs.specs.declared.fault.JobFault.TheVariants.{Hook};
+    ghost use Rattle.gate_hook.specs.declared.fault.HookFault.TheVariants.{Gate};
+
+    ghost from_gives = { λ gate fault. fault ≡ Hook (Gate gate) };
+
+    fn from(fault: Fault) -> JobFault {
+        JobFault::Hook(HookFault::Gate(fault))
+    }
+}

@@ -1,0 +1,23 @@
+//! What the program is asked for by its words, its jobs over any book, and how it ends.
+#![tactic(auto)]
+
+mod closing;
+mod command;
+mod explaining;
+mod fault;
+mod outcome;
+mod printing;
+mod reporting;
+mod running;
+mod serving;
+mod words;
+
+pub use closing::{close, drain};
+pub use explaining::explain;
+pub use fault::JobFault;
+pub use outcome::{Ending, complaint, ended, status};
+pub use printing::print;
+pub use reporting::report;
+pub use running::run;
+pub use serving::{announce, serve, serve_request};
+pub use words::{Job, WordsFault, no_text, read_words};

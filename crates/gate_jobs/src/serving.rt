@@ -1,0 +1,64 @@
+ghost use Rattle.std.specs.Prelude.{◌≡◌, ◌⊎◌, IfErr, OnOk};
+ghost use Rattle.std.specs.Io.KnownBytes.{Appends};
+ghost use Rattle.gate_jobs.specs.Printed.{IsCutOff};
+ghost use Rattle.gate_jobs.specs.Serving.{IsServedOnce, greeting};
+
+use crate::closing::close;
+use crate::fault::JobFault;
+use crate::printing::print;
+use gate_hook::{HookFault, serve_one};
+use gate_queue::Fault;
+use gate_store::{Book, Keeper};
+use std::alloc::Global;
+use std::io::{Read, Write};
+use std::net::{TcpListener, TcpStream};
+
+/// Prints on which port the program listens.
+pub fn announce<W: Write>(alloc: Global, port: u16, writer: &mut W) -> Result<(), HookFault>
+    ensures ok { OnOk result (Appends (W.contents writer.old) (W.contents writer.new) (greeting port)) }
+    ensures err { IfErr result (λ fault. ((fault ≡ HookFault.Write) × IsCutOff (greeting port) (W.contents writer.old) (W.contents writer.new))
+        ⊎ ((fault ≡ HookFault.Gate Fault.Memory) × (W.contents writer.new ≡ W.contents writer.old))) }
+{
+    let line = match format!(in alloc; "listening on 127.0.0.1:{port}\n") {
+        Ok(line) => line,
+        Err(_) => return Err(HookFault::Gate(Fault::Memory)),
+    };
+    print(writer, line.as_str())
+}
+
+/// Serves the request of one connection. If the connection fails, nobody is left to be told.
+pub fn serve_request<B: Book, R: Read, W: Write>(
+    alloc: Global,
+    keeper: &mut Keeper<B>,
+    reader: &mut R,
+    writer: &mut W,
+)
+    ensures served { IsServedOnce (B.is_sound keeper.new) (B.shows keeper.old) (B.shows keeper.new) (R.remaining reader.old) (R.remaining reader.new) (W.contents writer.old) (W.contents writer.new) }
+{
+    let _ = serve_one(alloc, keeper, reader, writer);
+}
+
+// Serves a connection, and closes it so that its client can read the response.
+fn serve_stream<B: Book>(alloc: Global, keeper: &mut Keeper<B>, stream: &TcpStream) {
+    serve_request(alloc, keeper, &mut &*stream, &mut &*stream);
+    close(stream);
+}
+
+/// Serves so many connections, one after the other, with one request each. The records are the keeper's, and go from one
+/// connection to the next. The fault is `Accept`, at the first connection that can't be accepted.
+pub fn serve<B: Book>(
+    alloc: Global,
+    keeper: &mut Keeper<B>,
+    listener: &TcpListener,
+    count: u32,
+) -> Result<(), JobFault>
+    ensures cause { IfErr result (λ fault. fault ≡ JobFault.Accept) }
+{
+    for _ in 0..count {
+        match listener.accept() {
+            Ok((stream, _)) => serve_stream(alloc, keeper, &stream),
+            Err(_) => return Err(JobFault::Accept),
+        }
+    }
+    Ok(())
+}

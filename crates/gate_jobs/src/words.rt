@@ -1,0 +1,140 @@
+ghost use Rattle.std.specs.Prelude.{◌≡◌, map, IfOk, IfErr, IfSome};
+ghost use Rattle.clap.specs.Words.{found_of, kind_of, rows_of, subcommand_rows_of};
+ghost use Rattle.gate_jobs.specs.Words.{IsAskedFor, IsFileIn, IsJobIn, IsRefusedBy, IsServeIn, IsToldBy, IsUsage, IsWithinLimits};
+
+use crate::command::{MAX_COUNT, matches_in};
+use clap::error::ErrorKind;
+use clap::{ArgMatches, Error};
+use std::alloc::{AllocError, Global};
+use std::io;
+
+const NO_JOB: &str = "error: these words ask for nothing that gate does\n";
+
+const NO_TEXT: &str = "error: a word isn't UTF-8\n";
+
+/// What the program is asked to do.
+#[derive(Debug, PartialEq, Eq, Drop)]
+pub enum Job {
+    /// To serve the lines of standard input.
+    Run,
+    /// To serve so many connections on a port of 127.0.0.1.
+    Serve { port: u16, count: u32 },
+    /// To report the queue after the lines of a file.
+    Report { file: String },
+}
+
+/// Why words ask for no job.
+#[derive(Debug, PartialEq, Eq, Drop)]
+pub enum WordsFault {
+    /// They ask for help, which is this text.
+    Help(String),
+    /// They are none that the program takes. The text says why.
+    Usage(String),
+    /// There is no memory to read them.
+    Memory,
+}
+
+impl From<AllocError> for WordsFault {
+    ghost use Rattle.std.specs.Prelude.{◌≡◌};
+    ghost use Rattle.gate_jobs.specs.declared.words.WordsFault.TheVariants.{Memory};
+
+    ghost from_gives = { λ _ fault. fault ≡ Memory };
+
+    fn from(_error: AllocError) -> WordsFault {
+        WordsFault::Memory
+    }
+}
+
+// The job of `serve` with these options. The limits are those of the command; they are looked at again, so that what is said of
+// them doesn't rest on it.
+fn serve_job(options: &ArgMatches<'_>) -> Option<Job>
+    ensures limits { IfSome result IsWithinLimits }
+    ensures job { IfSome result (λ job. IsServeIn job (rows_of (found_of options.now))) }
+{
+    let port = options.get_one::<u16>("port")?;
+    let count = options.get_one::<u32>("count")?;
+    if port == 0 || count == 0 || count > MAX_COUNT {
+        return None;
+    }
+    Some(Job::Serve { port, count })
+}
+
+fn report_job(alloc: Global, options: &ArgMatches<'_>) -> Result<Option<Job>, AllocError>
+    ensures { IfOk result (λ job. IfSome job (λ job. IsFileIn job (rows_of (found_of options.now)))) }
+{
+    match options.get_str("FILE") {
+        Some(file) => Ok(Some(Job::Report {
+            file: String::from_str(alloc, file)?,
+        })),
+        None => Ok(None),
+    }
+}
+
+fn job_in(alloc: Global, matches: &ArgMatches<'_>) -> Result<Option<Job>, AllocError>
+    ensures limits { IfOk result (λ job. IfSome job IsWithinLimits) }
+    ensures job { IfOk result (λ job. IfSome job (λ job. IsJobIn job (subcommand_rows_of matches.now))) }
+{
+    match matches.subcommand() {
+        None | Some(("run", _)) => Ok(Some(Job::Run)),
+        Some(("serve", options)) => Ok(serve_job(options)),
+        Some(("report", options)) => report_job(alloc, options),
+        Some(_) => Ok(None),
+    }
+}
+
+// What is told of an error of the words.
+fn fault_of(alloc: Global, error: &Error) -> WordsFault
+    ensures { IsToldBy result (kind_of error.now) }
+{
+    if error.kind() == ErrorKind::OutOfMemory {
+        return WordsFault::Memory;
+    }
+    match format!(in alloc; "{error}") {
+        Ok(text) if error.use_stderr() => WordsFault::Usage(text),
+        Ok(text) => WordsFault::Help(text),
+        Err(_) => WordsFault::Memory,
+    }
+}
+
+// A fault of words that `clap` doesn't see.
+fn misuse(alloc: Global, text: &str) -> WordsFault
+    ensures { IsUsage result }
+{
+    match String::from_str(alloc, text) {
+        Ok(text) => WordsFault::Usage(text),
+        Err(_) => WordsFault::Memory,
+    }
+}
+
+/// Why the words couldn't be had as texts.
+pub fn no_text(alloc: Global, error: &io::Error) -> WordsFault
+    ensures { IsUsage result }
+{
+    if error.kind() == io::ErrorKind::OutOfMemory {
+        return WordsFault::Memory;
+    }
+    misuse(alloc, NO_TEXT)
+}
+
+/// The job that words ask for, which stand behind the program's name.
+pub fn read_words(alloc: Global, words: &[&str]) -> Result<Job, WordsFault>
+    // The port and the count keep their limits.
+    ensures limits { IfOk result IsWithinLimits }
+
+    // The words have no mistake, and ask for this job.
+    ensures job { IfOk result (λ job. IsAskedFor job (map (λ word. word.now) words.now)) }
+
+    // Help is told only if the words ask for it.
+    ensures help { IfErr result (λ fault. IsRefusedBy fault (map (λ word. word.now) words.now)) }
+{
+    let matches = match matches_in(alloc, words) {
+        Ok(matches) => matches,
+        Err(error) => return Err(fault_of(alloc, &error)),
+    };
+    match job_in(alloc, &matches) {
+        Ok(Some(job)) => Ok(job),
+        // The command refuses such words, so this is never told.
+        Ok(None) => Err(misuse(alloc, NO_JOB)),
+        Err(_) => Err(WordsFault::Memory),
+    }
+}

@@ -1,0 +1,150 @@
+use gate_hook::HookFault;
+use gate_jobs::{Ending, Job, JobFault, WordsFault, complaint, read_words, serve, status};
+use gate_queue::{Fault, Gate};
+use gate_store::{Keeper, PlainBook};
+use std::alloc::Global;
+use std::io::{self, Write};
+use std::net::{Net, TcpListener, TcpStream};
+use std::process::Abort;
+
+fn check_words(rt: &impl Abort, row: &str, found: &str, due: &str) {
+    assert_eq!(rt; found, due, "at {row}");
+}
+
+// A job in short.
+fn job_words(rt: &impl Abort, alloc: Global, job: &Job) -> String {
+    match job {
+        Job::Run => format!(in alloc; "Run"),
+        Job::Serve { port, count } => format!(in alloc; "Serve {port} {count}"),
+        Job::Report { file } => format!(in alloc; "Report {file}"),
+    }
+    .expect(rt, "memory")
+}
+
+fn fault_word(fault: &WordsFault) -> &'static str {
+    match fault {
+        WordsFault::Help(_) => "Help",
+        WordsFault::Usage(_) => "Usage",
+        WordsFault::Memory => "Memory",
+    }
+}
+
+// What words ask for.
+fn asked(rt: &impl Abort, alloc: Global, words: &[&str]) -> String {
+    match read_words(alloc, words) {
+        Ok(job) => job_words(rt, alloc, &job),
+        Err(fault) => String::from_str(alloc, fault_word(&fault)).expect(rt, "memory"),
+    }
+}
+
+fn check_asked(rt: &impl Abort, alloc: Global, row: &str, due: &str) {
+    let words: Vec<&str> = row.split_whitespace().collect(alloc).expect(rt, "memory");
+    let found = asked(rt, alloc, &words);
+    check_words(rt, row, found.as_str(), due);
+}
+
+#[test]
+fn words_ask_for_jobs(rt: HostRuntime) {
+    let table = "
+         => Run
+        run => Run
+        serve --port 8080 --count 2 => Serve 8080 2
+        serve --count=1000000 --port=65535 => Serve 65535 1000000
+        serve --port 1 --count 1 => Serve 1 1
+        serve --port 0 --count 2 => Usage
+        serve --port 65536 --count 2 => Usage
+        serve --port 8080 --count 0 => Usage
+        serve --port 8080 --count 1000001 => Usage
+        serve --port 8080 => Usage
+        serve --count 2 => Usage
+        serve --port eighty --count 2 => Usage
+        report q.jsonl => Report q.jsonl
+        report => Usage
+        report q.jsonl r.jsonl => Usage
+        dance => Usage
+        run now => Usage
+        --version => Usage
+        --help => Help
+        serve --help => Help
+        help => Help
+    ";
+    for row in table.lines() {
+        if let Some((words, due)) = row.split_once(" => ") {
+            check_asked(&rt, rt.alloc(), words, due);
+        }
+    }
+}
+
+fn check_fault(rt: &impl Abort, fault: JobFault, line: &str) {
+    assert!(rt; status(Ending::Fault(fault)) == 1);
+    check_words(rt, line, complaint(fault), line);
+}
+
+#[test]
+fn statuses_and_words(rt: HostRuntime) {
+    assert!(rt; status(Ending::Done) == 0);
+    assert!(rt; status(Ending::Usage) == 2);
+    check_fault(&rt, JobFault::from(Fault::Memory), "gate: Memory");
+    check_fault(&rt, JobFault::from(Fault::Store), "gate: Store");
+    check_fault(&rt, JobFault::from(Fault::Full), "gate: Full");
+    check_fault(&rt, JobFault::from(HookFault::Read), "gate: Read");
+    check_fault(&rt, JobFault::from(HookFault::Write), "gate: Write");
+    check_fault(&rt, JobFault::from(HookFault::TooMuch), "gate: TooMuch");
+    check_fault(&rt, JobFault::Bind, "gate: Bind");
+    check_fault(&rt, JobFault::Accept, "gate: Accept");
+    check_fault(&rt, JobFault::File, "gate: File");
+}
+
+const POST: &str = "POST /deliveries HTTP/1.1\r\nHost: here\r\nContent-Length: 61\r\n\r\n\
+{\"id\":\"d1\",\"event\":\"role\",\"person\":\"alice\",\"role\":\"reviewer\"}";
+
+const ANSWER: &str =
+    "HTTP/1.1 200 OK\r\nContent-Type: application/json\r\nContent-Length: 33\r\nConnection: close\r\n\r\n\
+[{\"orders\":[],\"verdict\":\"done\"}]\n";
+
+const GET: &str = "GET /deliveries HTTP/1.1\r\nHost: here\r\n\r\n";
+
+const REFUSAL: &str =
+    "HTTP/1.1 405 Method Not Allowed\r\nContent-Length: 0\r\nAllow: POST\r\nConnection: close\r\n\r\n";
+
+// A connection to a listener, with a request sent.
+fn client<R: Net<Stream = TcpStream> + Abort>(
+    rt: &R,
+    listener: &TcpListener,
+    request: &str,
+) -> TcpStream {
+    let address = listener.local_addr().expect(rt, "an address");
+    let mut stream = TcpStream::connect(rt, address).expect(rt, "a connection");
+    stream
+        .write_all(request.as_bytes())
+        .expect(rt, "to send it");
+    stream
+}
+
+fn check_answer(rt: &impl Abort, alloc: Global, stream: TcpStream, due: &str) {
+    let found = io::read_to_string(alloc, stream).expect(rt, "an answer");
+    check_words(rt, "the answer", found.as_str(), due);
+}
+
+fn check_done(rt: &impl Abort, is_done: bool) {
+    assert!(rt; is_done);
+}
+
+// Over a book without a database: what `serve` does is the same over any book.
+fn serve_two(rt: &impl Abort, alloc: Global, listener: &TcpListener) {
+    let mut keeper = Keeper::new(PlainBook::new(alloc, Gate::new(alloc)));
+    let is_done = serve(alloc, &mut keeper, listener, 2).is_ok();
+    drop(keeper);
+    check_done(rt, is_done);
+}
+
+// The clients don't close their connections, so the bot leaves each after a moment of silence.
+#[test]
+fn serves_two_connections(rt: HostRuntime) {
+    let listener = TcpListener::bind(&rt, ("127.0.0.1", 0)).expect(&rt, "a listener");
+    let first = client(&rt, &listener, POST);
+    let second = client(&rt, &listener, GET);
+    serve_two(&rt, rt.alloc(), &listener);
+    check_answer(&rt, rt.alloc(), first, ANSWER);
+    check_answer(&rt, rt.alloc(), second, REFUSAL);
+}
