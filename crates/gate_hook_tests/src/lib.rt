@@ -1,6 +1,7 @@
-//! Tests of gate_store and gate_hook, by the calls that these offer: answers that are read back from their text, a keeper whose
-//! numbers are used up, requests and their responses, readers and writers that fail, and texts that no line is answered. What a line
-//! of input can show stands in `rows/`, and so does what a keeper answers over each book.
+//! Tests of gate_store, gate_hook and gate_jobs, by the calls that these offer: answers that are read back from their text, a keeper
+//! whose numbers are used up, requests and their responses, readers and writers that fail, texts that no line is answered, the jobs
+//! that words ask for, how the program ends, and two connections. What a line of input can show stands in `rows/`, and so does what a
+//! keeper answers over each book.
 #![tactic(auto)]
 
 #[cfg(test)]
@@ -11,6 +12,8 @@ mod checks;
 mod failing;
 #[cfg(test)]
 mod fakes;
+#[cfg(test)]
+mod jobs;
 #[cfg(test)]
 mod keeper;
 #[cfg(test)]

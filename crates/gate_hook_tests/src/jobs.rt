@@ -1,3 +1,4 @@
+use crate::checks::check_words;
 use gate_hook::HookFault;
 use gate_jobs::{Ending, Job, JobFault, WordsFault, complaint, read_words, serve, status};
 use gate_queue::{Fault, Gate};
@@ -6,10 +7,6 @@ use std::alloc::Global;
 use std::io::{self, Write};
 use std::net::{Net, TcpListener, TcpStream};
 use std::process::Abort;
-
-fn check_words(rt: &impl Abort, row: &str, found: &str, due: &str) {
-    assert_eq!(rt; found, due, "at {row}");
-}
 
 // A job in short.
 fn job_words(rt: &impl Abort, alloc: Global, job: &Job) -> String {
