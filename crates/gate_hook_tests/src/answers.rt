@@ -37,7 +37,7 @@ fn check_refused(rt: &impl Abort, alloc: Global, table: &str) {
     }
 }
 
-const DENIALS: &str = r#"
+const DENIALS_AND_EMPTY_ANSWERS: &str = r#"
     []
     [{"orders":[],"verdict":"done"}]
     [{"orders":[],"verdict":"done"},{"orders":[],"verdict":"done"}]
@@ -94,7 +94,7 @@ const ORDERS: &str = r#"
 
 #[test]
 fn answers_as_they_are_written(rt: HostRuntime) {
-    check_same(&rt, rt.alloc(), DENIALS);
+    check_same(&rt, rt.alloc(), DENIALS_AND_EMPTY_ANSWERS);
     check_same(&rt, rt.alloc(), ORDERS);
 }
 

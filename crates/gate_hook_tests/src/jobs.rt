@@ -1,4 +1,4 @@
-use crate::checks::check_words;
+use crate::checks::{check_that, check_words};
 use gate_hook::HookFault;
 use gate_jobs::{Ending, Job, JobFault, WordsFault, complaint, read_words, serve, status};
 use gate_queue::{Fault, Gate};
@@ -73,14 +73,14 @@ fn words_ask_for_jobs(rt: HostRuntime) {
 }
 
 fn check_fault(rt: &impl Abort, fault: JobFault, line: &str) {
-    assert!(rt; status(Ending::Fault(fault)) == 1);
+    check_that(rt, line, status(Ending::Fault(fault)) == 1);
     check_words(rt, line, complaint(fault), line);
 }
 
 #[test]
 fn statuses_and_words(rt: HostRuntime) {
-    assert!(rt; status(Ending::Done) == 0);
-    assert!(rt; status(Ending::Usage) == 2);
+    check_that(&rt, "done", status(Ending::Done) == 0);
+    check_that(&rt, "usage", status(Ending::Usage) == 2);
     check_fault(&rt, JobFault::from(Fault::Memory), "gate: Memory");
     check_fault(&rt, JobFault::from(Fault::Store), "gate: Store");
     check_fault(&rt, JobFault::from(Fault::Full), "gate: Full");
@@ -123,16 +123,12 @@ fn check_answer(rt: &impl Abort, alloc: Global, stream: TcpStream, due: &str) {
     check_words(rt, "the answer", found.as_str(), due);
 }
 
-fn check_done(rt: &impl Abort, is_done: bool) {
-    assert!(rt; is_done);
-}
-
 // Over a book without a database: what `serve` does is the same over any book.
 fn serve_two(rt: &impl Abort, alloc: Global, listener: &TcpListener) {
     let mut keeper = Keeper::new(PlainBook::new(alloc, Gate::new(alloc)));
     let is_done = serve(alloc, &mut keeper, listener, 2).is_ok();
     drop(keeper);
-    check_done(rt, is_done);
+    check_that(rt, "serve", is_done);
 }
 
 // The clients don't close their connections, so the bot leaves each after a moment of silence.

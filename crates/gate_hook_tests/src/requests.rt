@@ -39,6 +39,7 @@ fn check_responses(rt: &impl Abort, alloc: Global, table: &str) {
     }
 }
 
+// Methods count in the case that they are sent in: `post` is none of a delivery's.
 #[test]
 fn responses(rt: HostRuntime) {
     let table = r#"

@@ -81,7 +81,7 @@ pub fn report<B: Book + Drop, R: Read, W: Write>(
     reader: &mut R,
     writer: &mut W,
 ) -> Result<(), HookFault>
-    // The report is that of the input which was read, under the premise of the book as it is let go.
+    // The report is that of the input which was read, under the book's premise: `last` stands for the book as it is let go.
     ensures reported { (input : List ℕ) × Consumes (R.remaining reader.old) (R.remaining reader.new) input
         × ((last : B) × (B.is_sound last → IsReported (B.shows book) result input (R.remaining reader.new) (W.contents writer.old) (W.contents writer.new))) }
 
@@ -93,6 +93,7 @@ pub fn report<B: Book + Drop, R: Read, W: Write>(
 {
     let mut keeper = Keeper::new(book);
     let reported = report_by(alloc, &mut keeper, reader, writer);
+    // By name, since a keeper that ends with its function is dear to prove.
     drop(keeper);
     reported
 }

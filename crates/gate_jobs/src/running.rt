@@ -15,7 +15,7 @@ pub fn run<B: Book + Drop, R: Read, W: Write>(
     reader: &mut R,
     writer: &mut W,
 ) -> Result<u64, HookFault>
-    // The lines that were read are served from the book's records on, under the premise of the book as it is let go.
+    // The lines that were read are served from the book's records on, under its premise: `last` stands for the book as it is let go.
     ensures served { (input : List ℕ) × Consumes (R.remaining reader.old) (R.remaining reader.new) input
         × IsWithinLimit result input
         × ((last : B) × (B.is_sound last → IsServed result (B.shows book) input (R.remaining reader.new) (B.shows last) (W.contents writer.old) (W.contents writer.new))) }
@@ -28,6 +28,7 @@ pub fn run<B: Book + Drop, R: Read, W: Write>(
 {
     let mut keeper = Keeper::new(book);
     let served = serve_lines(alloc, &mut keeper, reader, writer);
+    // By name, since a keeper that ends with its function is dear to prove.
     drop(keeper);
     served
 }
