@@ -1,6 +1,6 @@
 //! Tests of gate_store, gate_hook and gate_jobs, by the calls that these offer: answers that are read back from their text, a keeper
-//! whose numbers are used up, requests and their responses, readers and writers that fail, texts that no line is answered, the jobs
-//! that words ask for, how the program ends, and two connections. What a line of input can show stands in `rows/`, and so does what a
+//! whose numbers are used up, readers and writers that give pieces or fail, texts that no line is answered, the jobs that words ask
+//! for, how the program ends, and two connections. What a line of input or a request can show stands in `rows/`, and so does what a
 //! keeper answers over each book.
 #![tactic(auto)]
 
