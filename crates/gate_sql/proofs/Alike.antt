@@ -4,8 +4,8 @@ use Rattle.std.proofs.lemmas.List.Sorted.{IsPermutation-sym, IsPermutation-trans
 use Rattle.std.specs.Cmp.{first_so, second_so}
 use Rattle.std.specs.Cmp.Lexicographic.{pointwise}
 use Rattle.std.specs.Prelude.{IsPermutation}
-use Rattle.gate_sql.specs.Contents.{AreSame}
-use Rattle.gate_sql.specs.declared.row.Rows.{Rows}
+use Rattle.gate_tables.specs.Contents.{AreSame}
+use Rattle.gate_tables.specs.declared.row.Rows.{Rows}
 
 module _ {X : Type 0} (equal : X → X → Bool) (same : (x y : X) → IsTrue (equal x y) → x ≡ y) where
   pub alike : (xs ys : List X) → pointwise equal xs ys ≡ true → xs ≡ ys

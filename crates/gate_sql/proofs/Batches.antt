@@ -16,9 +16,9 @@ use Rattle.gate_queue.specs.declared.batch.Stage.{Stage}
 use Rattle.gate_queue.specs.declared.batch.Stage.TheVariants as stage
 use Rattle.gate_sql.specs.Decoding.{batch_in, branch_in, changes_in, report_in, reports_in, stage_in}
 use Rattle.gate_sql.specs.Encoding.{batch_row, branch_number, flag, member_row, members_of, placed, report_number, reports_of, sha_of, since_of, stage_number, status_row, statuses_of}
-use Rattle.gate_sql.specs.declared.row.MemberRow.{MemberRow}
-use Rattle.gate_sql.specs.declared.row.Rows.{Rows}
-use Rattle.gate_sql.specs.declared.row.StatusRow.{StatusRow}
+use Rattle.gate_tables.specs.declared.row.MemberRow.{MemberRow}
+use Rattle.gate_tables.specs.declared.row.Rows.{Rows}
+use Rattle.gate_tables.specs.declared.row.StatusRow.{StatusRow}
 use Rattle.gate_sql.proofs.Canonical.{map_again}
 use Rattle.gate_sql.proofs.Elements.{Among, HaveSame, among-append, map-among, same-filter, same-map, same-trans}
 use Rattle.gate_sql.proofs.Marks.{filter_const, itself, map_back, same_number}

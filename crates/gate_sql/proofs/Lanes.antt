@@ -20,8 +20,8 @@ use Rattle.gate_queue.specs.declared.batch.Stage.{Stage}
 use Rattle.gate_queue.specs.declared.batch.Stage.TheVariants as stage
 use Rattle.gate_sql.specs.Decoding.{batch_in, first, in_order, is_on, lane_in, service_key}
 use Rattle.gate_sql.specs.Encoding.{batch_row, branch_number, flag, stage_number}
-use Rattle.gate_sql.specs.declared.row.BatchRow.{BatchRow}
-use Rattle.gate_sql.specs.declared.row.Rows.{Rows}
+use Rattle.gate_tables.specs.declared.row.BatchRow.{BatchRow}
+use Rattle.gate_tables.specs.declared.row.Rows.{Rows}
 use Rattle.gate_sql.proofs.Canonical.{equal, values_again}
 use Rattle.gate_sql.proofs.Elements.{Among, HaveSame, same-map}
 use Rattle.gate_sql.proofs.Marks.{map_back}

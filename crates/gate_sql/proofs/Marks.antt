@@ -14,7 +14,7 @@ use Rattle.gate_text.specs.Settings.{SettingsView}
 use Rattle.gate_rules.specs.declared.change.Change.{Change}
 use Rattle.gate_sql.specs.Decoding.{is_mark, set_in, list_in}
 use Rattle.gate_sql.specs.Encoding.{list_marks, mark, marks_of, names_of, placed, set_marks, settings_marks, words_of}
-use Rattle.gate_sql.specs.declared.row.MarkRow.{MarkRow}
+use Rattle.gate_tables.specs.declared.row.MarkRow.{MarkRow}
 use Rattle.gate_sql.proofs.Canonical.{one_of_key, same-keys}
 use Rattle.gate_sql.proofs.Elements.{Among, HaveSame, among-append, map-among, same-filter, same-map, same-trans}
 use Rattle.gate_sql.proofs.Scanning.{list_again, own_rows, set_again}

@@ -11,9 +11,9 @@ use Rattle.gate_queue.specs.declared.batch.Batch.{Batch}
 use Rattle.gate_queue.specs.declared.lane.Lane.{Lane}
 use Rattle.gate_sql.specs.Decoding.{is_member}
 use Rattle.gate_sql.specs.Encoding.{batch_row, from_place, member_row, members_of, placed}
-use Rattle.gate_sql.specs.declared.row.BatchRow.{BatchRow}
-use Rattle.gate_sql.specs.declared.row.MemberRow.{MemberRow}
-use Rattle.gate_sql.specs.declared.row.Rows.{Rows}
+use Rattle.gate_tables.specs.declared.row.BatchRow.{BatchRow}
+use Rattle.gate_tables.specs.declared.row.MemberRow.{MemberRow}
+use Rattle.gate_tables.specs.declared.row.Rows.{Rows}
 use Rattle.gate_sql.proofs.Batches.{among_all}
 use Rattle.gate_sql.proofs.Elements.{Among, HaveSame, among-flat_map, among-map, flat_map-among, map-among}
 use Rattle.gate_sql.proofs.Marks.{itself, same_number}

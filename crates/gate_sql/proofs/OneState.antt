@@ -31,13 +31,13 @@ use Rattle.gate_queue.specs.declared.batch.Stage.{Stage}
 use Rattle.gate_queue.specs.declared.batch.Stage.TheVariants as stage
 use Rattle.gate_queue.specs.declared.lane.Lane.{Lane}
 use Rattle.gate_queue.specs.declared.state.State.{State}
-use Rattle.gate_sql.specs.Contents.{AreSame}
+use Rattle.gate_tables.specs.Contents.{AreSame}
 use Rattle.gate_sql.specs.Decoding.{batch_in, change_in, desk_in, first, is_member, is_on, lane_in, last_in, list_in, phase_in, role_in, settings_in, state_by, state_in}
 use Rattle.gate_sql.specs.Encoding.{flag, approvals_of, size_of, timeout_of, batch_row, branch_number, change_row, desk_row, last_number, marks_of, members_of, names_of, person_row, phase_number, role_number, rows_of, settings_marks, stage_number, statuses_of}
 use Rattle.gate_sql.specs.Standing.{KeepsLimits}
-use Rattle.gate_sql.specs.declared.row.ChangeRow.{ChangeRow}
-use Rattle.gate_sql.specs.declared.row.PersonRow.{PersonRow}
-use Rattle.gate_sql.specs.declared.row.Rows.{Rows}
+use Rattle.gate_tables.specs.declared.row.ChangeRow.{ChangeRow}
+use Rattle.gate_tables.specs.declared.row.PersonRow.{PersonRow}
+use Rattle.gate_tables.specs.declared.row.Rows.{Rows}
 use Rattle.gate_sql.proofs.Batches.{alone_in_both, among_all, batch_again}
 use Rattle.gate_sql.proofs.Canonical.{got, map_again}
 use Rattle.gate_sql.proofs.Elements.{Among, HaveSame, among-append, among-append_left, among-append_right, same-filter, same-map, same-permutation, same-sym}

@@ -29,13 +29,13 @@ use Rattle.gate_queue.specs.declared.batch.Stage.TheVariants as stage
 use Rattle.gate_queue.specs.declared.lane.Lane.{Lane}
 use Rattle.gate_queue.specs.declared.state.State.{State}
 use Rattle.gate_sql.specs.Encoding.{branch_number}
-use Rattle.gate_sql.specs.declared.row.BatchRow.{BatchRow}
-use Rattle.gate_sql.specs.declared.row.ChangeRow.{ChangeRow}
-use Rattle.gate_sql.specs.declared.row.DeskRow.{DeskRow}
-use Rattle.gate_sql.specs.declared.row.MarkRow.{MarkRow}
-use Rattle.gate_sql.specs.declared.row.MemberRow.{MemberRow}
-use Rattle.gate_sql.specs.declared.row.Rows.{Rows}
-use Rattle.gate_sql.specs.declared.row.StatusRow.{StatusRow}
+use Rattle.gate_tables.specs.declared.row.BatchRow.{BatchRow}
+use Rattle.gate_tables.specs.declared.row.ChangeRow.{ChangeRow}
+use Rattle.gate_tables.specs.declared.row.DeskRow.{DeskRow}
+use Rattle.gate_tables.specs.declared.row.MarkRow.{MarkRow}
+use Rattle.gate_tables.specs.declared.row.MemberRow.{MemberRow}
+use Rattle.gate_tables.specs.declared.row.Rows.{Rows}
+use Rattle.gate_tables.specs.declared.row.StatusRow.{StatusRow}
 
 abbrev pub first : {X : Type 0} → List X → Option X
 first [] = None

@@ -24,14 +24,14 @@ use Rattle.gate_queue.specs.declared.batch.Report.TheVariants.{Success, Pending}
 use Rattle.gate_queue.specs.declared.batch.Stage.{Stage}
 use Rattle.gate_queue.specs.declared.batch.Stage.TheVariants as stage
 use Rattle.gate_queue.specs.declared.state.State.{State}
-use Rattle.gate_sql.specs.declared.row.BatchRow.{BatchRow}
-use Rattle.gate_sql.specs.declared.row.ChangeRow.{ChangeRow}
-use Rattle.gate_sql.specs.declared.row.DeskRow.{DeskRow}
-use Rattle.gate_sql.specs.declared.row.MarkRow.{MarkRow}
-use Rattle.gate_sql.specs.declared.row.MemberRow.{MemberRow}
-use Rattle.gate_sql.specs.declared.row.PersonRow.{PersonRow}
-use Rattle.gate_sql.specs.declared.row.Rows.{Rows}
-use Rattle.gate_sql.specs.declared.row.StatusRow.{StatusRow}
+use Rattle.gate_tables.specs.declared.row.BatchRow.{BatchRow}
+use Rattle.gate_tables.specs.declared.row.ChangeRow.{ChangeRow}
+use Rattle.gate_tables.specs.declared.row.DeskRow.{DeskRow}
+use Rattle.gate_tables.specs.declared.row.MarkRow.{MarkRow}
+use Rattle.gate_tables.specs.declared.row.MemberRow.{MemberRow}
+use Rattle.gate_tables.specs.declared.row.PersonRow.{PersonRow}
+use Rattle.gate_tables.specs.declared.row.Rows.{Rows}
+use Rattle.gate_tables.specs.declared.row.StatusRow.{StatusRow}
 
 -- WORDS AS NUMBERS
 abbrev pub flag : Bool → ℤ

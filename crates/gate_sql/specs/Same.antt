@@ -5,13 +5,13 @@ use Rattle.std.proofs.lemmas.Slice.Eq.{bytes_eq-Decides}
 use Rattle.std.specs.Cmp.{first_so, second_so}
 use Rattle.std.specs.Cmp.Lexicographic.{pointwise}
 use Rattle.std.specs.Ordering.{int_eq}
-use Rattle.gate_sql.specs.declared.row.BatchRow.{BatchRow}
-use Rattle.gate_sql.specs.declared.row.ChangeRow.{ChangeRow}
-use Rattle.gate_sql.specs.declared.row.DeskRow.{DeskRow}
-use Rattle.gate_sql.specs.declared.row.MarkRow.{MarkRow}
-use Rattle.gate_sql.specs.declared.row.MemberRow.{MemberRow}
-use Rattle.gate_sql.specs.declared.row.PersonRow.{PersonRow}
-use Rattle.gate_sql.specs.declared.row.StatusRow.{StatusRow}
+use Rattle.gate_tables.specs.declared.row.BatchRow.{BatchRow}
+use Rattle.gate_tables.specs.declared.row.ChangeRow.{ChangeRow}
+use Rattle.gate_tables.specs.declared.row.DeskRow.{DeskRow}
+use Rattle.gate_tables.specs.declared.row.MarkRow.{MarkRow}
+use Rattle.gate_tables.specs.declared.row.MemberRow.{MemberRow}
+use Rattle.gate_tables.specs.declared.row.PersonRow.{PersonRow}
+use Rattle.gate_tables.specs.declared.row.StatusRow.{StatusRow}
 
 both : {P Q : Type 0} (s t : Bool) → (s ≡ true → P) → (t ≡ true → Q) → (s && t) ≡ true → P × Q
 both s t p q is = (p (first_so s t is), q (second_so s t is))

@@ -8,7 +8,7 @@ use Rattle.gate_queue.specs.declared.reply.Reply.{Reply}
 use Rattle.gate_store.specs.Reading.{answer_of}
 use Rattle.gate_store.specs.Run.{Records}
 use Rattle.gate_sql.specs.Decoding.{state_in}
-use Rattle.gate_sql.specs.Tables.{rows_in, answers_in}
+use Rattle.gate_tables.specs.Tables.{rows_in, answers_in}
 use Rattle.sqlite.specs.Held.{Held}
 use Rattle.sqlite.specs.Store.{Ghosts}
 

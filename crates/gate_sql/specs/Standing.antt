@@ -5,10 +5,10 @@ use Rattle.gate_text.specs.SmallTexts.{commit_of}
 use Rattle.gate_rules.specs.View.{DeskView}
 use Rattle.gate_queue.specs.State.{IsState}
 use Rattle.gate_queue.specs.declared.state.State.{State}
-use Rattle.gate_sql.specs.Contents.{AreSame}
+use Rattle.gate_tables.specs.Contents.{AreSame}
 use Rattle.gate_sql.specs.Decoding.{state_in}
 use Rattle.gate_sql.specs.Encoding.{rows_of}
-use Rattle.gate_sql.specs.declared.row.Rows.{Rows}
+use Rattle.gate_tables.specs.declared.row.Rows.{Rows}
 
 -- what the settings and the base of a gate keep, by their types; so no settings and no base have rows of their own
 pub record KeepsLimits (desk : DeskView) : Type 0 where

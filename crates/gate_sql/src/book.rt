@@ -3,23 +3,23 @@ ghost use Rattle.std.specs.FinMap.{empty};
 ghost use Rattle.std.specs.Option.{option_map};
 ghost use Rattle.std.specs.String.{string_bytes};
 ghost use Rattle.gate_queue.specs.Machine.{empty_state};
-ghost use Rattle.gate_sql.specs.Contents.{AreSame};
-ghost use Rattle.gate_sql.specs.Database.{schema_of};
+ghost use Rattle.gate_tables.specs.Contents.{AreSame};
+ghost use Rattle.gate_tables.specs.Database.{schema_of};
 ghost use Rattle.gate_sql.specs.Decoding.{state_in};
 ghost use Rattle.gate_sql.specs.Shown.{shown};
-ghost use Rattle.gate_sql.specs.Tables.{is_sound};
-ghost use Rattle.gate_sql.specs.declared.row.Rows.{Rows as RowsOf};
+ghost use Rattle.gate_tables.specs.Tables.{is_sound};
+ghost use Rattle.gate_tables.specs.declared.row.Rows.{Rows as RowsOf};
 ghost use Rattle.gate_store.specs.Reading.{answer_of};
 ghost use Rattle.gate_store.specs.Run.{IsOfBooks};
 ghost use Rattle.sqlite.specs.Held.{state};
 
+use crate::fault::told;
 use crate::laws::law_of_rows_of;
 use crate::reading::gate_of;
-use crate::row::Rows;
 use crate::rows::rows_of;
-use crate::tables::{Tables, is_blank};
 use gate_queue::{Fault, Gate};
 use gate_store::{Answer, AnswerFault, Book, answer_text, law_of_texts, read_answer};
+use gate_tables::{Rows, Tables, is_blank};
 use gate_text::{DeliveryId, Text};
 use sqlite::{Alter, Connection};
 use std::alloc::{AllocError, Global};
@@ -83,7 +83,7 @@ impl<S: Alter> SqlBook<S> {
         match Tables::new(connection, &first) {
             Ok(tables) => Ok(SqlBook { tables }),
             Err(refused) => Err(Refused {
-                fault: Fault::from(refused.fault),
+                fault: told(refused.fault),
                 connection: refused.connection,
             }),
         }
@@ -101,7 +101,7 @@ impl<S: Alter> SqlBook<S> {
 impl<S: Alter> Book for SqlBook<S> {
     ghost use Rattle.gate_store.specs.Run.{IsOfBooks};
     ghost use Rattle.gate_sql.specs.Shown.{shown};
-    ghost use Rattle.gate_sql.specs.Tables.{is_sound};
+    ghost use Rattle.gate_tables.specs.Tables.{is_sound};
 
     ghost shows = { λ book. shown S.Store book };
 
@@ -111,12 +111,18 @@ impl<S: Alter> Book for SqlBook<S> {
     ghost may_answer = { IsOfBooks };
 
     fn load(&mut self, alloc: Global) -> Result<Gate, Fault> {
-        let rows = self.tables.read(alloc)?;
+        let rows = match self.tables.read(alloc) {
+            Ok(rows) => rows,
+            Err(fault) => return Err(told(fault)),
+        };
         gate_of(alloc, rows)
     }
 
     fn kept(&mut self, alloc: Global, id: &DeliveryId) -> Result<Option<Answer>, Fault> {
-        let body = self.tables.answer(id.text())?;
+        let body = match self.tables.answer(id.text()) {
+            Ok(body) => body,
+            Err(fault) => return Err(told(fault)),
+        };
         answer_in(alloc, body)
     }
 
@@ -132,7 +138,10 @@ impl<S: Alter> Book for SqlBook<S> {
         let rows = rows_of(alloc, gate)?;
         let written = self.tables.write(&rows, id.text(), body.as_str());
         drop(rows);
-        Ok(written?)
+        match written {
+            Ok(()) => Ok(()),
+            Err(fault) => Err(told(fault)),
+        }
     }
 }
 

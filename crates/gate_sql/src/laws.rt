@@ -1,9 +1,9 @@
 ghost use Rattle.std.specs.Prelude.{◌≡◌};
-ghost use Rattle.gate_sql.specs.Contents.{AreSame};
+ghost use Rattle.gate_tables.specs.Contents.{AreSame};
 ghost use Rattle.gate_sql.specs.Decoding.{state_in};
 ghost use Rattle.gate_sql.specs.Encoding.{rows_of};
 ghost use Rattle.gate_sql.specs.Standing.{KeepsLimits, LawOfRows};
-ghost use Rattle.gate_sql.specs.declared.row.Rows.{Rows};
+ghost use Rattle.gate_tables.specs.declared.row.Rows.{Rows};
 
 use gate_queue::{Gate, law_of_checks};
 

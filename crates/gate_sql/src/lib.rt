@@ -3,15 +3,13 @@
 #![tactic(auto)]
 
 mod book;
+mod fault;
 mod laws;
 mod reading;
-mod row;
 mod rows;
 mod sorting;
-mod tables;
 
 pub use book::{Refused, SqlBook};
 pub use laws::law_of_rows;
 pub use reading::gate_of;
-pub use row::{BatchRow, ChangeRow, DeskRow, MarkRow, MemberRow, PersonRow, Rows, StatusRow};
 pub use rows::rows_of;

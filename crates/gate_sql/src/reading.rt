@@ -1,8 +1,8 @@
 ghost use Rattle.std.specs.Prelude.{◌≡◌, IfOk, IfErr, IsTrue};
-ghost use Rattle.gate_sql.specs.Contents.{AreSame};
+ghost use Rattle.gate_tables.specs.Contents.{AreSame};
 ghost use Rattle.gate_sql.specs.Decoding.{state_in};
 ghost use Rattle.gate_sql.specs.Encoding.{rows_of as rows_of_state};
-ghost use Rattle.gate_sql.specs.declared.row.Rows.{Rows as RowsOf};
+ghost use Rattle.gate_tables.specs.declared.row.Rows.{Rows as RowsOf};
 ghost use Rattle.gate_store.specs.Run.{IsOfBooks};
 
 mod batches;
@@ -10,15 +10,15 @@ mod changes;
 mod desk;
 mod words;
 
+use crate::fault::told;
 use crate::laws::law_of_rows_of;
 use crate::reading::batches::queue_in;
 use crate::reading::desk::desk_in;
 use crate::reading::words::natural;
-use crate::row::Rows;
 use crate::rows::rows_of;
 use crate::sorting::{are_same, in_order};
-use crate::tables::TablesFault;
 use gate_queue::{Fault, Gate, State};
+use gate_tables::{Rows, TablesFault};
 use std::alloc::{AllocError, Global};
 
 /// The gate of whose state these are the rows, in any order. `Store` if there is none, and `Memory` if there is no memory for
@@ -28,7 +28,7 @@ pub fn gate_of(alloc: Global, rows: Rows) -> Result<Gate, Fault>
     ensures state { IfOk result (λ gate. (others : RowsOf) → AreSame others rows → gate ≡ state_in others) }
     ensures fault { IfErr result IsOfBooks }
 {
-    Ok(read_gate(alloc, rows)?)
+    read_gate(alloc, rows).map_err(told)
 }
 
 fn read_gate(alloc: Global, rows: Rows) -> Result<Gate, TablesFault>

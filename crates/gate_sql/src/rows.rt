@@ -10,8 +10,8 @@ mod numbers;
 mod people;
 mod statuses;
 
-use crate::row::{DeskRow, Rows};
 use gate_queue::Gate;
+use gate_tables::{DeskRow, Rows};
 use gate_text::List;
 use std::alloc::{AllocError, Global};
 

@@ -1,7 +1,7 @@
 ghost use Rattle.std.specs.Prelude.{◌≡◌, IsTrue, IsPermutation};
-ghost use Rattle.gate_sql.specs.Contents.{AreSame};
+ghost use Rattle.gate_tables.specs.Contents.{AreSame};
 
-use crate::row::{BatchRow, ChangeRow, DeskRow, MarkRow, MemberRow, PersonRow, Rows, StatusRow};
+use gate_tables::{BatchRow, ChangeRow, DeskRow, MarkRow, MemberRow, PersonRow, Rows, StatusRow};
 use gate_text::List;
 use std::cmp::Reverse;
 

@@ -1,8 +1,7 @@
 use crate::reading::words::{change_no, commit, context, natural, priority};
-use crate::row::{BatchRow, MemberRow, Rows, StatusRow};
-use crate::tables::TablesFault;
 use gate_queue::{Batch, Branch, Changes, Lane, Queue, Report, Reports, Stage};
 use gate_rules::Desk;
+use gate_tables::{BatchRow, MemberRow, Rows, StatusRow, TablesFault};
 use gate_text::{ChangeNo, Context};
 use std::alloc::{AllocError, Global};
 use std::collections::BTreeMap;

@@ -1,7 +1,6 @@
 use crate::reading::words::{change_no, commit, label, name, priority};
-use crate::row::{ChangeRow, MarkRow, Rows};
-use crate::tables::TablesFault;
 use gate_rules::{Change, Desk, Phase, Repeat};
+use gate_tables::{ChangeRow, MarkRow, Rows, TablesFault};
 use gate_text::{LabelSet, NameSet, Names, Text};
 use std::alloc::Global;
 

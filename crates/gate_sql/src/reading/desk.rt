@@ -1,8 +1,7 @@
 use crate::reading::changes::put_changes;
 use crate::reading::words::{commit, context, label, name, natural, small_natural};
-use crate::row::{DeskRow, MarkRow, PersonRow, Rows};
-use crate::tables::TablesFault;
 use gate_rules::{Desk, Role};
+use gate_tables::{DeskRow, MarkRow, PersonRow, Rows, TablesFault};
 use gate_text::{Contexts, Labels, Settings};
 use std::alloc::Global;
 

@@ -1,4 +1,4 @@
-use crate::tables::TablesFault;
+use gate_tables::TablesFault;
 use gate_text::{ChangeNo, Commit, Context, Label, Name, Text, TextFault, unless_bad};
 use std::alloc::Global;
 

@@ -5,9 +5,9 @@ ghost use Rattle.gate_queue.specs.Queue as queue_specs;
 ghost use Rattle.gate_sql.specs.Encoding as encoding;
 ghost use Rattle.gate_sql.specs.Limits.{BatchKeepsLimits, LaneKeepsLimits, StageKeepsLimits};
 
-use crate::row::BatchRow;
 use crate::rows::numbers::{branch_number, flag, integer, stage_number};
 use gate_queue::{Batch, Lane, Queue, Stage};
+use gate_tables::BatchRow;
 use gate_text::{List, Text};
 use std::alloc::{AllocError, Global};
 

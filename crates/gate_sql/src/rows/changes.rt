@@ -5,9 +5,9 @@ ghost use Rattle.std.specs.Map.{keys_of};
 ghost use Rattle.std.specs.Ordering.{nat_cmp};
 ghost use Rattle.gate_sql.specs.Encoding as encoding;
 
-use crate::row::ChangeRow;
 use crate::rows::numbers::{flag, last_number, phase_number};
 use gate_rules::{Change, Desk};
+use gate_tables::ChangeRow;
 use gate_text::{ChangeNo, List, Text};
 use std::alloc::{AllocError, Global};
 use std::collections::BTreeMap;

@@ -2,9 +2,9 @@ ghost use Rattle.std.specs.Prelude.{◌≡◌, [], IfOk};
 ghost use Rattle.std.specs.Option.{option_copied, unwrap_or};
 ghost use Rattle.gate_sql.specs.Encoding as encoding;
 
-use crate::row::DeskRow;
 use crate::rows::numbers::integer;
 use gate_queue::Gate;
+use gate_tables::DeskRow;
 use gate_text::{Commit, Settings, Text};
 use std::alloc::{AllocError, Global};
 

@@ -9,8 +9,8 @@ ghost use Rattle.gate_sql.specs.Encoding as encoding;
 
 mod words;
 
-use crate::row::MarkRow;
 use gate_rules::{Change, Desk, Repeat};
+use gate_tables::MarkRow;
 use gate_text::{ChangeNo, List, Names, Settings};
 use std::alloc::{AllocError, Global};
 use std::collections::BTreeMap;

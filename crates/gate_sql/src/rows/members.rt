@@ -5,9 +5,9 @@ ghost use Rattle.gate_queue.specs.Queue as queue_specs;
 ghost use Rattle.gate_sql.specs.Encoding as encoding;
 ghost use Rattle.gate_sql.specs.Limits.{BatchKeepsLimits, LaneKeepsLimits};
 
-use crate::row::MemberRow;
 use crate::rows::numbers::{integer, place_number};
 use gate_queue::{Batch, Lane, Queue};
+use gate_tables::MemberRow;
 use gate_text::List;
 use std::alloc::{AllocError, Global};
 

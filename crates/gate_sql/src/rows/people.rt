@@ -6,9 +6,9 @@ ghost use Rattle.std.specs.Map.{keys_of};
 ghost use Rattle.std.specs.Ordering.{nat_cmp};
 ghost use Rattle.gate_sql.specs.Encoding as encoding;
 
-use crate::row::PersonRow;
 use crate::rows::numbers::role_number;
 use gate_rules::{Desk, Role};
+use gate_tables::PersonRow;
 use gate_text::{List, Name, Text};
 use std::alloc::{AllocError, Global};
 use std::collections::BTreeMap;

@@ -10,9 +10,9 @@ ghost use Rattle.gate_queue.specs.Queue as queue_specs;
 ghost use Rattle.gate_sql.specs.Encoding as encoding;
 ghost use Rattle.gate_sql.specs.Limits.{BatchKeepsLimits, LaneKeepsLimits};
 
-use crate::row::StatusRow;
 use crate::rows::numbers::{integer, report_number};
 use gate_queue::{Batch, Lane, Queue, Report, Reports, Stage};
+use gate_tables::StatusRow;
 use gate_text::{Context, List, Text};
 use std::alloc::{AllocError, Global};
 use std::collections::BTreeMap;

@@ -1,4 +1,4 @@
-use Rattle.gate_sql.specs.Tables.{always_sound}
+use Rattle.gate_tables.specs.Tables.{always_sound}
 use Rattle.gate_bot.proofs.reporting.report.Goals as goal
 
 pub returns-clause-reported : goal.returns-clause-reported

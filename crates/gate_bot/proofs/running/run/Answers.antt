@@ -1,6 +1,6 @@
 use Rattle.std.proofs.Common.{inr, subst}
 use Rattle.gate_sql.specs.Shown.{shown}
-use Rattle.gate_sql.specs.Tables.{always_sound}
+use Rattle.gate_tables.specs.Tables.{always_sound}
 use Rattle.gate_hook.specs.Lines.{IsServed}
 use Rattle.gate_store.specs.Run.{Records}
 use Rattle.sqlite.specs.Steps.{over_memory}

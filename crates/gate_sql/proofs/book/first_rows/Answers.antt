@@ -1,6 +1,6 @@
 use Rattle.std.proofs.Common.{◌∙◌, subst}
-use Rattle.gate_sql.specs.Contents.{AreSame}
-use Rattle.gate_sql.specs.declared.row.Rows.{Rows as RowsOf}
+use Rattle.gate_tables.specs.Contents.{AreSame}
+use Rattle.gate_tables.specs.declared.row.Rows.{Rows as RowsOf}
 use Rattle.gate_sql.proofs.Alike.{same_back}
 use Rattle.gate_sql.proofs.book.first_rows.Goals as goal
 

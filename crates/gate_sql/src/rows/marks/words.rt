@@ -4,8 +4,8 @@ ghost use Rattle.std.specs.List.Sorted.{IsStrictlySortedBy};
 ghost use Rattle.std.specs.Ordering.{nat_cmp};
 ghost use Rattle.gate_sql.specs.Encoding as encoding;
 
-use crate::row::MarkRow;
 use crate::rows::numbers::place_number;
+use gate_tables::MarkRow;
 use gate_text::{Context, Label, Name, Set, Text};
 use std::alloc::{AllocError, Global};
 use std::collections::BTreeSet;

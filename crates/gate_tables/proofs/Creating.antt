@@ -1,0 +1,49 @@
+-- What a CREATE TABLE makes of the tables.
+use Rattle.std.proofs.Common.{◌≡◌, ℕ, List, [], ◌∷◌, ◌++◌, true, false, None, sym, ap, subst, ◌∙◌}
+use Rattle.std.specs.List.{AllByRecursion}
+use Rattle.gate_tables.proofs.Inserting.{went, same_value}
+use Rattle.gate_tables.specs.Database.{Layout, table_of}
+use Rattle.gate_tables.specs.Effects.{RanInside, IsInside}
+use Rattle.gate_tables.specs.Known.{Creates}
+use Rattle.sqlite.proofs.Callers.{runs_as}
+use Rattle.sqlite.specs.Change.{created, next_tree}
+use Rattle.sqlite.specs.Command.TheVariants.{CreateTable}
+use Rattle.sqlite.specs.Does.{Tally, lacks_sequence}
+use Rattle.sqlite.specs.Edit.{have_rowids}
+use Rattle.sqlite.specs.Effect.{Database}
+use Rattle.sqlite.specs.Schema.{Schema}
+use Rattle.sqlite.specs.State.{State, Writes}
+use Rattle.sqlite.specs.Table.{Table}
+use Rattle.sqlite.specs.Tree.{Trees}
+
+keyed_kept : (old new : Trees) (tables : List Table) (t : Table) → AllByRecursion (λ t. have_rowids (old t.tree) ≡ true) tables → AllByRecursion (λ t. new t.tree ≡ old t.tree) tables
+    → new t.tree ≡ [] → AllByRecursion (λ t. have_rowids (new t.tree) ≡ true) (tables ++ t ∷ [])
+keyed_kept old new [] t had kept none = (ap have_rowids none, tt)
+keyed_kept old new (x ∷ xs) t had kept none = (ap have_rowids kept.0 ∙ had.0, keyed_kept old new xs t had.1 kept.1 none)
+
+module _ (front : Schema) (layout : Layout) (after : Schema) (sql : List ℕ) (known : Creates front layout after sql) where
+  -- the schema has one more table, which is empty
+  pub creates : (old new : State) → IsInside front old → RanInside sql [] old new → IsInside after new × (new.now.trees layout.tree ≡ [])
+  creates old new inside ran =
+      let count = ran.0 in
+      let is = known.is in
+      let w = subst (λ t. Writes old new None CreateTable t [] count) known.whole (runs_as sql [] old new front inside.schema_is CreateTable known.is known.plain count ran.1) in
+      let all = went w.changed in
+      let first = went all.1 in
+      let made = first.1 in
+      let both = sym made.defined ∙ known.defined in
+      let same : made.table ≡ record (table_of layout) { tree = 0 } = same_value both in
+      let schema : first.0.schema ≡ after = made.is ∙ ap (λ s. created s made.table) inside.schema_is ∙ ap (created front) same ∙ known.made in
+      let plain : lacks_sequence first.0.schema ≡ false = ap lacks_sequence schema ∙ known.uncounted in
+      let now : new.now ≡ first.0 = ap (λ (p : Tally × Database). p.1) (same_value all.2) ∙ same_value (rw plain at first.2) in
+      let empty : new.now.trees layout.tree ≡ [] = ap (λ (d : Database). d.trees layout.tree) now ∙ subst (λ n. first.0.trees n ≡ []) (ap next_tree inside.schema_is ∙ known.next) made.empty in
+      let kept = subst (λ (s : Schema). AllByRecursion (λ t. new.now.trees t.tree ≡ old.now.trees t.tree) s.tables) inside.schema_is
+      (subst (λ (d : Database). AllByRecursion (λ t. d.trees t.tree ≡ old.now.trees t.tree) old.now.schema.tables) (sym now) made.others) in (
+        record {
+          is_open = ran.2.is_open;
+          within = ran.2.mode;
+          schema_is = ap (λ (d : Database). d.schema) now ∙ schema;
+          keyed = subst (λ ts. AllByRecursion (λ t. have_rowids (new.now.trees t.tree) ≡ true) ts) (sym known.tables) (keyed_kept old.now.trees new.now.trees front.tables (table_of layout) inside.keyed kept empty);
+        },
+        empty,
+      )

@@ -1,0 +1,61 @@
+-- A query leaves the database as it was.
+use Rattle.std.proofs.Common.{◌≡◌, inl, inr, ℕ, List, Option, Some, None, IsTrue, sym, ap, subst, ◌∙◌}
+use Rattle.gate_tables.specs.Database.{all_schema}
+use Rattle.gate_tables.specs.Effects.{AreKeyed, IsReady, Leaves}
+use Rattle.sqlite.proofs.Callers.{IsPlain}
+use Rattle.sqlite.specs.Clock.{timed}
+use Rattle.sqlite.specs.Effect.{Database}
+use Rattle.sqlite.specs.Listing.{understood}
+use Rattle.sqlite.specs.Order.{Row}
+use Rattle.sqlite.specs.State.{State, IsUnchanged, IsRolledBack, Shown, ShowsRows, FailsToQuery, FailsToShow, IsNotRun}
+use Rattle.sqlite.specs.declared.error.Error.{Error}
+use Rattle.sqlite_resolve.specs.declared.compiled.Compiled.{Compiled}
+use Rattle.sqlite_schema.specs.declared.command.Returning.{Returning}
+
+pub unchanged_leaves : (old new : State) → IsUnchanged old new → Leaves old new
+unchanged_leaves old new h = record { was_open = λ _. h.0.was_open; same = λ _ _. (h.0.now_is, h.0.committed_is) }
+
+pub undone_leaves : (old new : State) → IsRolledBack old new → Leaves old new
+undone_leaves old new h = record { was_open = h.was_open; same = λ is_open settled. let both = h.undone is_open in (both.0 ∙ sym settled, both.1) }
+
+pub shown_leaves : (sql : List ℕ) (params : Row) (old new : State) (rows : List Row) → IsPlain (understood old.now.schema sql) → Shown sql params old new rows → Leaves old new
+unfolding Shown
+shown_leaves sql params old new rows plain h =
+    let none = (subst IsPlain h.1.is plain).0 in
+    let it = subst (ShowsRows old new sql h.0 (timed params h.0.formats h.1.now) rows) none h.2 in unchanged_leaves old new it.3
+
+not_run_leaves : (old new : State) (sql : List ℕ) (params : Row) (e : Error) → IsNotRun old new sql params e → Leaves old new
+unfolding IsNotRun
+not_run_leaves old new sql params e (inl h) = unchanged_leaves old new h.1
+not_run_leaves old new sql params e (inr h) = undone_leaves old new h.3
+
+show_leaves : (old new : State) (sql : List ℕ) (c : Compiled) (params : Row) (e : Error) (r : Option Returning) → FailsToShow old new sql c params e r → Leaves old new
+show_leaves old new sql c params e None h = unchanged_leaves old new h.3
+show_leaves old new sql c params e (Some what) (inl h) = unchanged_leaves old new h.1
+show_leaves old new sql c params e (Some what) (inr h) = undone_leaves old new h.3
+
+pub failed_leaves : (sql : List ℕ) (params : Row) (old new : State) (e : Error) → FailsToQuery sql params old new e → Leaves old new
+unfolding FailsToQuery
+failed_leaves sql params old new e (inl h) = not_run_leaves old new sql params e h
+failed_leaves sql params old new e (inr h) = show_leaves old new sql h.0 (timed params h.0.formats h.1.now) e h.0.returning h.2
+
+shows_was_open : (old new : State) (sql : List ℕ) (c : Compiled) (params : Row) (rows : List Row) (r : Option Returning) → ShowsRows old new sql c params rows r → IsTrue old.is_open
+shows_was_open old new sql c params rows None h = h.3.0.was_open
+shows_was_open old new sql c params rows (Some what) h = h.1.shown.was_open
+
+pub shown_was_open : (sql : List ℕ) (params : Row) (old new : State) (rows : List Row) → Shown sql params old new rows → IsTrue old.is_open
+unfolding Shown
+shown_was_open sql params old new rows h = shows_was_open old new sql h.0 (timed params h.0.formats h.1.now) rows h.0.returning h.2
+
+-- an open and settled database of the tables stays so
+pub ready_after : (old new : State) → IsReady old → Leaves old new → IsTrue new.is_open → IsReady new × (new.now ≡ old.now) × (new.committed ≡ old.committed)
+ready_after old new ready left is_open =
+    let same = left.same is_open ready.settled in (
+      record {
+        schema_is = ap (λ (d : Database). d.schema) same.0 ∙ ready.schema_is;
+        settled = same.0 ∙ ready.settled ∙ sym same.1;
+        keyed = subst (λ (d : Database). AreKeyed all_schema d.trees) (sym same.0) ready.keyed;
+      },
+      same.0,
+      same.1,
+    )

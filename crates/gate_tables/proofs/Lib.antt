@@ -1,0 +1,13 @@
+pub mod Answering
+pub mod Clearing
+pub mod Committing
+pub mod Creating
+pub mod Filling
+pub mod Finding
+pub mod Inserting
+pub mod Leaving
+pub mod Placing
+pub mod Results
+pub mod Selecting
+pub mod Standing
+pub mod Steps

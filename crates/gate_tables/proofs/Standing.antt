@@ -1,0 +1,97 @@
+-- What tables keep true of their connection.
+use Rattle.std.proofs.Common.{◌≡◌, ℕ, [], ◌∷◌, List, map, false, IsPermutation, None, Result, Ok, Err, OnOk, OnErr, refl, sym, ap, subst}
+use Rattle.std.specs.List.{AllByRecursion, IsDistinct}
+use Rattle.std.specs.Cmp.Lexicographic.{slice_cmp}
+use Rattle.std.specs.Ordering.{nat_cmp, eq_by_cmp}
+use Rattle.std.specs.FinMap.{get, insert}
+use Rattle.std.proofs.lemmas.List.Elements.{All-from_recursion, recursion_from_All}
+use Rattle.std.proofs.lemmas.List.Sorted.{IsPermutation-map, All-permutation}
+use Rattle.gate_tables.proofs.Answering.{still_apart, one_more}
+use Rattle.gate_tables.proofs.Leaving.{ready_after}
+use Rattle.gate_tables.specs.Contents.{rows_at, answers_at}
+use Rattle.gate_tables.specs.Database.{cells}
+use Rattle.gate_tables.specs.Effects.{IsReady, Leaves, Made, Wrote}
+use Rattle.gate_tables.specs.Forms.{answers, rows_of}
+use Rattle.gate_tables.specs.Tables.{is_sound, rows_in, answers_in, AreAnswers, IsBook, Stands}
+use Rattle.gate_tables.specs.declared.row.Rows.{Rows}
+use Rattle.gate_tables.specs.declared.fault.TablesFault.{TablesFault}
+use Rattle.sqlite.specs.Effect.{Database}
+use Rattle.sqlite.specs.Held.{Held, state}
+use Rattle.sqlite.specs.Order.{Row}
+use Rattle.sqlite.specs.State.{State, HasCleanDisk}
+use Rattle.sqlite.specs.Store.{Ghosts}
+
+module _ {S : Type 0} (g : Ghosts S) (old new : Held S) where
+  -- a call that leaves the database keeps what stands, and shows the same
+  pub left_stands : Stands g old → new.in_transaction ≡ false → (is_sound g new → is_sound g old) → (HasCleanDisk (state g new) → IsReady (state g old) → Leaves (state g old) (state g new)) → Stands g new
+  left_stands stands mode was left = record {
+    autocommit = mode;
+    book = λ sound.
+        let book = stands.book (was sound) in
+        let after = ready_after (state g old) (state g new) book.ready (left sound.0 book.ready) sound.1 in
+        record { ready = after.0; answered = subst (λ (d : Database). AreAnswers d.trees) (sym after.1) book.answered };
+  }
+
+  pub left_same : Stands g old → (is_sound g new → is_sound g old) → (HasCleanDisk (state g new) → IsReady (state g old) → Leaves (state g old) (state g new)) → is_sound g new
+      → (rows_in g new ≡ rows_in g old) × (answers_in g new ≡ answers_in g old)
+  left_same stands was left sound =
+      let book = stands.book (was sound) in
+      let after = ready_after (state g old) (state g new) book.ready (left sound.0 book.ready) sound.1 in
+      (ap (λ (d : Database). rows_at d.trees) after.1, ap (λ (d : Database). answers_at d.trees) after.1)
+
+module _ {S : Type 0} (g : Ghosts S) (new : Held S) (rows : Rows) where
+  no_answers : (cs : List Row) → cs ≡ [] → AllByRecursion (λ c. answers.values (answers.read c) ≡ c) cs
+  no_answers [] none = tt
+  no_answers (c ∷ cs) none = cc
+
+  pub made_stands : new.in_transaction ≡ false → (HasCleanDisk (state g new) → Made rows (state g new)) → Stands g new
+  unfolding IsDistinct
+  made_stands mode made = record {
+    autocommit = mode;
+    book = λ sound.
+        let it = made sound.0 in
+        record {
+          ready = it.ready;
+          answered = record {
+            whole = no_answers (cells answers.layout (state g new).now.trees) it.none;
+            apart = subst (λ (cs : List Row). IsDistinct (eq_by_cmp (slice_cmp nat_cmp)) (map (λ a. a.0) (map answers.read cs))) (sym it.none) tt;
+          };
+        };
+  }
+
+module _ {S : Type 0} (g : Ghosts S) (old new : Held S) (rows : Rows) (id body : List ℕ) (stands : Stands g old) (free : is_sound g old → get (answers_in g old) id ≡ None) (was : is_sound g new → is_sound g old) where
+  abbrev was_state : State
+  was_state = state g old
+
+  abbrev now_state : State
+  now_state = state g new
+
+  entries_moved : Wrote rows id body was_state now_state → IsPermutation ((id, body) ∷ rows_of answers was_state.now.trees) (rows_of answers now_state.now.trees)
+  entries_moved wrote = IsPermutation-map answers.read (answers.values (id, body) ∷ cells answers.layout was_state.now.trees) (cells answers.layout now_state.now.trees) wrote.added
+
+  wrote_book : is_sound g new → Wrote rows id body was_state now_state → IsBook now_state
+  wrote_book sound wrote =
+      let book = stands.book (was sound) in
+      let before = answers.values (id, body) ∷ cells answers.layout was_state.now.trees in
+      let all = All-from_recursion (λ c. answers.values (answers.read c) ≡ c) before (refl, book.answered.whole) in
+      record {
+        ready = wrote.ready;
+        answered = record {
+          whole = recursion_from_All (λ c. answers.values (answers.read c) ≡ c) (cells answers.layout now_state.now.trees)
+              (All-permutation (λ c. answers.values (answers.read c) ≡ c) before (cells answers.layout now_state.now.trees) wrote.added all);
+          apart = still_apart id body (rows_of answers was_state.now.trees) (rows_of answers now_state.now.trees) (entries_moved wrote) book.answered.apart (free (was sound));
+        };
+      }
+
+  module _ (mode : new.in_transaction ≡ false) where
+    pub write_stands : (r : Result (Unit {0}) TablesFault) → (HasCleanDisk now_state → OnOk r (IsReady was_state → Wrote rows id body was_state now_state))
+        → (HasCleanDisk now_state → IsReady was_state → OnErr r (Leaves was_state now_state)) → Stands g new
+    write_stands (Ok x) wrote left = record { autocommit = mode; book = λ sound. wrote_book sound (wrote sound.0 (stands.book (was sound)).ready) }
+    write_stands (Err e) wrote left = left_stands g old new stands mode was left
+
+  pub write_answers : (r : Result (Unit {0}) TablesFault) → (HasCleanDisk now_state → OnOk r (IsReady was_state → Wrote rows id body was_state now_state)) → is_sound g new
+      → OnOk r (answers_in g new ≡ insert (answers_in g old) id body)
+  write_answers (Ok x) wrote sound =
+      let book = stands.book (was sound) in
+      one_more id body (rows_of answers was_state.now.trees) (rows_of answers now_state.now.trees) (entries_moved (wrote sound.0 book.ready)) book.answered.apart (free (was sound))
+  write_answers (Err e) wrote sound = tt

@@ -1,0 +1,20 @@
+use Rattle.gate_tables.proofs.Leaving.{shown_leaves, shown_was_open, failed_leaves}
+use Rattle.sqlite.specs.Held.{state}
+use Rattle.sqlite.specs.Values.{bound}
+use Rattle.gate_tables.proofs.statement.select.Goals as goal
+
+pub returns-in_err-query_all-clause-left : goal.returns-in_err-query_all-clause-left
+returns-in_err-query_all-clause-left g c clean plain =
+    failed_leaves c.args.sql.now (bound c.args.params.now) (state g.S.Store c.args.conn.now) (state g.S.Store c.query_all.new.self) c.in_err-query_all.field-0.0 (c.in_err-query_all.ensures.err clean)
+
+pub returns-clause-left : goal.returns-clause-left
+returns-clause-left g c clean plain =
+    shown_leaves c.args.sql.now (bound c.args.params.now) (state g.S.Store c.args.conn.now) (state g.S.Store c.query_all.new.self) c.in_ok-query_all.field-0.items plain (c.in_ok-query_all.ensures.ok clean)
+
+pub returns-in_err-query_all-clause-was : goal.returns-in_err-query_all-clause-was
+returns-in_err-query_all-clause-was g c clean =
+    (failed_leaves c.args.sql.now (bound c.args.params.now) (state g.S.Store c.args.conn.now) (state g.S.Store c.query_all.new.self) c.in_err-query_all.field-0.0 (c.in_err-query_all.ensures.err clean)).was_open
+
+pub returns-clause-was : goal.returns-clause-was
+returns-clause-was g c clean is_open =
+    shown_was_open c.args.sql.now (bound c.args.params.now) (state g.S.Store c.args.conn.now) (state g.S.Store c.query_all.new.self) c.in_ok-query_all.field-0.items (c.in_ok-query_all.ensures.ok clean)

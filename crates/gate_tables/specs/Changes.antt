@@ -1,0 +1,47 @@
+-- The statements on `changes`, understood.
+use Rattle.std.proofs.Common.{◌≡◌, List, [], ◌∷◌, codes, refl}
+use Rattle.gate_tables.specs.Casts.{cast_null, cast_int}
+use Rattle.gate_tables.specs.Database.{columns_of, table_of}
+use Rattle.gate_tables.specs.Forms as forms
+use Rattle.gate_tables.specs.Known.{Inserts, Selects, Clears, IsKnown}
+use Rattle.gate_tables.specs.declared.row.ChangeRow.{ChangeRow}
+use Rattle.sqlite.specs.Cast.{cast_row}
+use Rattle.sqlite.specs.Edit.{with_rowid}
+use Rattle.sqlite.specs.Listing.{understood}
+use Rattle.sqlite.specs.Order.{Row}
+use Rattle.sqlite.specs.Rowids.TheVariants.{Chosen}
+use Rattle.sqlite.specs.Term.{lit, col}
+use Rattle.sqlite.specs.declared.types.Value.TheVariants.{Null, Int, Text}
+use Rattle.sqlite_tied.specs.Compute.{everything}
+
+stored : (r : ChangeRow) (rows : List Row) → columns_of forms.changes.layout (with_rowid Chosen rows (cast_row (table_of forms.changes.layout) (Int r.number ∷ Null ∷ Text r.author ∷ Text r.head ∷ Int r.phase ∷ Int r.priority ∷ Int r.approved ∷ Int r.last_command ∷ []))) ≡ forms.changes.values r
+stored r rows = rw (cast_null, cast_int r.number, cast_int r.phase, cast_int r.priority, cast_int r.approved, cast_int r.last_command) refl
+
+inserts : Inserts forms.changes
+unfolding understood everything
+inserts = record {
+  terms = col 0 0 ∷ lit Null ∷ col 0 1 ∷ col 0 2 ∷ col 0 3 ∷ col 0 4 ∷ col 0 5 ∷ col 0 6 ∷ [];
+  width = 8;
+  is = refl;
+  plain = (refl, refl);
+  one = λ params. refl;
+  stored = stored;
+}
+
+selects : Selects forms.changes
+unfolding understood everything
+selects = record {
+  terms = col 1 0 ∷ col 1 2 ∷ col 1 3 ∷ col 1 4 ∷ col 1 5 ∷ col 1 6 ∷ col 1 7 ∷ [];
+  names = codes "number" ∷ codes "author" ∷ codes "head" ∷ codes "phase" ∷ codes "priority" ∷ codes "approved" ∷ codes "last_command" ∷ [];
+  is = refl;
+  plain = (refl, refl);
+  unlisted = refl;
+  shown = λ row. refl;
+}
+
+clears : Clears forms.changes
+unfolding understood everything
+clears = record { is = refl; plain = (refl, refl) }
+
+pub known : IsKnown forms.changes
+known = record { listed = refl; reads = λ r. refl; inserts = inserts; selects = selects; clears = clears }

@@ -1,0 +1,47 @@
+-- The statements on `desk`, understood.
+use Rattle.std.proofs.Common.{◌≡◌, List, [], ◌∷◌, codes, refl}
+use Rattle.gate_tables.specs.Casts.{cast_null, cast_int}
+use Rattle.gate_tables.specs.Database.{columns_of, table_of}
+use Rattle.gate_tables.specs.Forms as forms
+use Rattle.gate_tables.specs.Known.{Inserts, Selects, Clears, IsKnown}
+use Rattle.gate_tables.specs.declared.row.DeskRow.{DeskRow}
+use Rattle.sqlite.specs.Cast.{cast_row}
+use Rattle.sqlite.specs.Edit.{with_rowid}
+use Rattle.sqlite.specs.Listing.{understood}
+use Rattle.sqlite.specs.Order.{Row}
+use Rattle.sqlite.specs.Rowids.TheVariants.{Chosen}
+use Rattle.sqlite.specs.Term.{lit, col}
+use Rattle.sqlite.specs.declared.types.Value.TheVariants.{Null, Int, Text}
+use Rattle.sqlite_tied.specs.Compute.{everything}
+
+stored : (r : DeskRow) (rows : List Row) → columns_of forms.desk.layout (with_rowid Chosen rows (cast_row (table_of forms.desk.layout) (Int r.one ∷ Null ∷ Int r.version ∷ Int r.next_batch ∷ Int r.clock ∷ Text r.base ∷ Int r.timeout_sec ∷ Int r.required_approvals ∷ Int r.max_batch_size ∷ []))) ≡ forms.desk.values r
+stored r rows = rw (cast_null, cast_int r.one, cast_int r.version, cast_int r.next_batch, cast_int r.clock, cast_int r.timeout_sec, cast_int r.required_approvals, cast_int r.max_batch_size) refl
+
+inserts : Inserts forms.desk
+unfolding understood everything
+inserts = record {
+  terms = col 0 0 ∷ lit Null ∷ col 0 1 ∷ col 0 2 ∷ col 0 3 ∷ col 0 4 ∷ col 0 5 ∷ col 0 6 ∷ col 0 7 ∷ [];
+  width = 9;
+  is = refl;
+  plain = (refl, refl);
+  one = λ params. refl;
+  stored = stored;
+}
+
+selects : Selects forms.desk
+unfolding understood everything
+selects = record {
+  terms = col 1 0 ∷ col 1 2 ∷ col 1 3 ∷ col 1 4 ∷ col 1 5 ∷ col 1 6 ∷ col 1 7 ∷ col 1 8 ∷ [];
+  names = codes "one" ∷ codes "version" ∷ codes "next_batch" ∷ codes "clock" ∷ codes "base" ∷ codes "timeout_sec" ∷ codes "required_approvals" ∷ codes "max_batch_size" ∷ [];
+  is = refl;
+  plain = (refl, refl);
+  unlisted = refl;
+  shown = λ row. refl;
+}
+
+clears : Clears forms.desk
+unfolding understood everything
+clears = record { is = refl; plain = (refl, refl) }
+
+pub known : IsKnown forms.desk
+known = record { listed = refl; reads = λ r. refl; inserts = inserts; selects = selects; clears = clears }

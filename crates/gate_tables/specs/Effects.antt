@@ -1,0 +1,113 @@
+-- What statements in a transaction make of the tables. For private clauses.
+use Rattle.std.specs.Prelude.{◌≡◌, ℕ, true, List, [], ◌∷◌, ◌++◌, map, Ok, IsTrue, IsPermutation}
+use Rattle.std.specs.List.{AllByRecursion}
+use Rattle.gate_tables.specs.Database.{all_schema, cells}
+use Rattle.gate_tables.specs.Contents.{AreSame, rows_at}
+use Rattle.gate_tables.specs.Database as database
+use Rattle.gate_tables.specs.Forms as forms
+use Rattle.gate_tables.specs.Forms.{Form, rows_of}
+use Rattle.gate_tables.specs.declared.row.Rows.{Rows}
+use Rattle.gate_tables.specs.declared.read.First.{First}
+use Rattle.gate_tables.specs.declared.read.Last.{Last}
+use Rattle.sqlite.specs.Edit.{have_rowids}
+use Rattle.sqlite.specs.Order.{Row}
+use Rattle.sqlite.specs.Schema.{Schema}
+use Rattle.sqlite.specs.State.{State, Executes, Shows}
+use Rattle.sqlite.specs.Tree.{Trees}
+
+-- a statement ran in a transaction, and ended nothing
+abbrev pub RanInside : List ℕ → Row → State → State → Type 0
+RanInside sql params old new = (count : ℕ) × Executes sql params old new (Ok count) × Shows old new new.now old.committed true
+
+-- each row has an integer as its rowid, so that it can be deleted
+abbrev pub AreKeyed : Schema → Trees → Type 0
+AreKeyed schema db = AllByRecursion (λ t. have_rowids (db t.tree) ≡ true) schema.tables
+
+-- an open transaction over these tables
+pub record IsInside (schema : Schema) (s : State) : Type 0 where
+  pub is_open : IsTrue s.is_open
+  pub within : IsTrue s.in_transaction
+  pub schema_is : s.now.schema ≡ schema
+  pub keyed : AreKeyed schema s.now.trees
+
+-- a database of all tables, with nothing under way
+pub record IsReady (s : State) : Type 0 where
+  pub schema_is : s.now.schema ≡ all_schema
+  pub settled : s.now ≡ s.committed
+  pub keyed : AreKeyed all_schema s.now.trees
+
+-- Where nothing was under way, nothing changed. A connection that is shut says nothing.
+pub record Leaves (old new : State) : Type 0 where
+  pub was_open : IsTrue new.is_open → IsTrue old.is_open
+  pub same : IsTrue new.is_open → old.now ≡ old.committed → (new.now ≡ old.now) × (new.committed ≡ old.committed)
+
+-- every table but those at these trees is as it was
+abbrev pub Spares : Schema → (ℕ → Type 0) → Trees → Trees → Type 0
+Spares schema IsWritten old new = AllByRecursion (λ t. ¬ IsWritten t.tree → new t.tree ≡ old t.tree) schema.tables
+
+module _ {R : Type 0} (schema : Schema) (form : Form R) where
+  -- one more row
+  pub record Adds (r : R) (old new : Trees) : Type 0 where
+    pub added : IsPermutation (form.values r ∷ cells form.layout old) (cells form.layout new)
+    pub others : Spares schema (λ t. t ≡ form.layout.tree) old new
+
+  pub record AddsAll (rs : List R) (old new : Trees) : Type 0 where
+    pub added : IsPermutation (map form.values rs ++ cells form.layout old) (cells form.layout new)
+    pub others : Spares schema (λ t. t ≡ form.layout.tree) old new
+
+  pub record Empties (old new : Trees) : Type 0 where
+    pub none : cells form.layout new ≡ []
+    pub others : Spares schema (λ t. t ≡ form.layout.tree) old new
+
+  -- these rows in place of those before
+  pub record Replaces (rs : List R) (old new : Trees) : Type 0 where
+    pub rows : IsPermutation rs (rows_of form new)
+    pub others : Spares schema (λ t. t ≡ form.layout.tree) old new
+
+-- the first four tables have these rows, and the answers are as they were
+pub record FillsFirst (rows : Rows) (old new : Trees) : Type 0 where
+  pub desk : IsPermutation rows.desk (rows_of forms.desk new)
+  pub people : IsPermutation rows.people (rows_of forms.people new)
+  pub changes : IsPermutation rows.changes (rows_of forms.changes new)
+  pub marks : IsPermutation rows.marks (rows_of forms.marks new)
+  pub answers : new database.answers.tree ≡ old database.answers.tree
+
+-- the last three have these rows, and all others are as they were
+pub record FillsLast (rows : Rows) (old new : Trees) : Type 0 where
+  pub batches : IsPermutation rows.batches (rows_of forms.batches new)
+  pub members : IsPermutation rows.members (rows_of forms.members new)
+  pub statuses : IsPermutation rows.statuses (rows_of forms.statuses new)
+  pub desk : new database.desk.tree ≡ old database.desk.tree
+  pub people : new database.people.tree ≡ old database.people.tree
+  pub changes : new database.changes.tree ≡ old database.changes.tree
+  pub marks : new database.marks.tree ≡ old database.marks.tree
+  pub answers : new database.answers.tree ≡ old database.answers.tree
+
+-- all seven have these rows
+pub record Fills (rows : Rows) (old new : Trees) : Type 0 where
+  pub rows_are : AreSame (rows_at new) rows
+  pub answers : new database.answers.tree ≡ old database.answers.tree
+
+-- the rows were written, and one answer more
+pub record Wrote (rows : Rows) (id body : List ℕ) (old new : State) : Type 0 where
+  pub ready : IsReady new
+  pub rows_are : AreSame (rows_at new.now.trees) rows
+  pub added : IsPermutation (forms.answers.values (id, body) ∷ cells forms.answers.layout old.now.trees) (cells forms.answers.layout new.now.trees)
+
+-- the tables were made with these rows, and no answer
+pub record Made (rows : Rows) (new : State) : Type 0 where
+  pub ready : IsReady new
+  pub rows_are : AreSame (rows_at new.now.trees) rows
+  pub none : cells forms.answers.layout new.now.trees ≡ []
+
+-- what was read of the first four tables, and of the last three
+pub record ReadsFirst (db : Trees) (read : First) : Type 0 where
+  pub desk : IsPermutation (rows_of forms.desk db) read.desk
+  pub people : IsPermutation (rows_of forms.people db) read.people
+  pub changes : IsPermutation (rows_of forms.changes db) read.changes
+  pub marks : IsPermutation (rows_of forms.marks db) read.marks
+
+pub record ReadsLast (db : Trees) (read : Last) : Type 0 where
+  pub batches : IsPermutation (rows_of forms.batches db) read.batches
+  pub members : IsPermutation (rows_of forms.members db) read.members
+  pub statuses : IsPermutation (rows_of forms.statuses db) read.statuses

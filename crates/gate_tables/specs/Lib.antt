@@ -1,0 +1,24 @@
+-- What the contracts of this crate cite. For a reader, in this order:
+--     Database    the eight tables, and how a row of one is read
+--     Forms       the rows of a table as records
+--     Contents    what rows and what answers a database has
+--     Tables      the same of a connection, and when it may be relied on
+-- For the code: Faults; Answers, Batches, Changes, Desk, Marks, Members, People, Statuses, the statements on each table; Casts,
+-- Creation, Effects, Known, what statements do.
+pub mod Answers
+pub mod Batches
+pub mod Casts
+pub mod Changes
+pub mod Contents
+pub mod Creation
+pub mod Database
+pub mod Desk
+pub mod Effects
+pub mod Faults
+pub mod Forms
+pub mod Known
+pub mod Marks
+pub mod Members
+pub mod People
+pub mod Statuses
+pub mod Tables

@@ -1,0 +1,47 @@
+-- The statements on `marks`, understood.
+use Rattle.std.proofs.Common.{◌≡◌, List, [], ◌∷◌, codes, refl}
+use Rattle.gate_tables.specs.Casts.{cast_null, cast_int}
+use Rattle.gate_tables.specs.Database.{columns_of, table_of}
+use Rattle.gate_tables.specs.Forms as forms
+use Rattle.gate_tables.specs.Known.{Inserts, Selects, Clears, IsKnown}
+use Rattle.gate_tables.specs.declared.row.MarkRow.{MarkRow}
+use Rattle.sqlite.specs.Cast.{cast_row}
+use Rattle.sqlite.specs.Edit.{with_rowid}
+use Rattle.sqlite.specs.Listing.{understood}
+use Rattle.sqlite.specs.Order.{Row}
+use Rattle.sqlite.specs.Rowids.TheVariants.{Chosen}
+use Rattle.sqlite.specs.Term.{lit, col}
+use Rattle.sqlite.specs.declared.types.Value.TheVariants.{Null}
+use Rattle.sqlite_tied.specs.Compute.{everything}
+
+stored : (r : MarkRow) (rows : List Row) → columns_of forms.marks.layout (with_rowid Chosen rows (cast_row (table_of forms.marks.layout) (Null ∷ forms.marks.values r))) ≡ forms.marks.values r
+stored r rows = rw (cast_null, cast_int r.change_no, cast_int r.kind, cast_int r.place) refl
+
+inserts : Inserts forms.marks
+unfolding understood everything
+inserts = record {
+  terms = lit Null ∷ col 0 0 ∷ col 0 1 ∷ col 0 2 ∷ col 0 3 ∷ [];
+  width = 5;
+  is = refl;
+  plain = (refl, refl);
+  one = λ params. refl;
+  stored = stored;
+}
+
+selects : Selects forms.marks
+unfolding understood everything
+selects = record {
+  terms = col 1 1 ∷ col 1 2 ∷ col 1 3 ∷ col 1 4 ∷ [];
+  names = codes "change_no" ∷ codes "kind" ∷ codes "word" ∷ codes "place" ∷ [];
+  is = refl;
+  plain = (refl, refl);
+  unlisted = refl;
+  shown = λ row. refl;
+}
+
+clears : Clears forms.marks
+unfolding understood everything
+clears = record { is = refl; plain = (refl, refl) }
+
+pub known : IsKnown forms.marks
+known = record { listed = refl; reads = λ r. refl; inserts = inserts; selects = selects; clears = clears }

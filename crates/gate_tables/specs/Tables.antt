@@ -1,0 +1,52 @@
+-- WHAT TABLES SHOW: their rows and answers. The premise is that the disk has returned what was written and that no fault has
+-- shut the connection; of a database in memory it always holds.
+use Rattle.std.specs.Prelude.{◌≡◌, ℕ, false, List, [], ◌∷◌, map, Option, Some, None, IsTrue, refl}
+use Rattle.std.specs.Cmp.Lexicographic.{slice_cmp}
+use Rattle.std.specs.FinMap.{FinMap}
+use Rattle.std.specs.List.{AllByRecursion, IsDistinct}
+use Rattle.std.specs.Ordering.{nat_cmp, eq_by_cmp}
+use Rattle.gate_tables.specs.Contents.{rows_at, answers_at}
+use Rattle.gate_tables.specs.Database.{cells}
+use Rattle.gate_tables.specs.Effects.{IsReady}
+use Rattle.gate_tables.specs.Forms.{answers, rows_of}
+use Rattle.gate_tables.specs.declared.row.Rows.{Rows}
+use Rattle.sqlite.proofs.Callers.{memory_is_clean}
+use Rattle.sqlite.specs.Held.{Held, state}
+use Rattle.sqlite.specs.Order.{Row, column, bytes}
+use Rattle.sqlite.specs.State.{State, HasCleanDisk}
+use Rattle.sqlite.specs.Steps.{over_memory}
+use Rattle.sqlite.specs.Store.{Ghosts}
+use Rattle.sqlite.specs.Tree.{Trees}
+use Rattle.sqlite.specs.declared.MemStore.{MemStore}
+
+module _ {S : Type 0} (g : Ghosts S) where
+  abbrev pub is_sound : Held S → Type 0
+  is_sound h = HasCleanDisk (state g h) × IsTrue (state g h).is_open
+
+  abbrev pub rows_in : Held S → Rows
+  rows_in h = rows_at (state g h).now.trees
+
+  abbrev pub answers_in : Held S → FinMap (slice_cmp nat_cmp) (List ℕ)
+  answers_in h = answers_at (state g h).now.trees
+
+-- each answer is of two texts, and no identifier comes twice
+pub record AreAnswers (db : Trees) : Type 0 where
+  pub whole : AllByRecursion (λ c. answers.values (answers.read c) ≡ c) (cells answers.layout db)
+  pub apart : IsDistinct (eq_by_cmp (slice_cmp nat_cmp)) (map (λ a. a.0) (rows_of answers db))
+
+pub record IsBook (s : State) : Type 0 where
+  pub ready : IsReady s
+  pub answered : AreAnswers s.now.trees
+
+-- what tables keep true of their connection
+pub record Stands {S : Type 0} (g : Ghosts S) (h : Held S) : Type 0 where
+  pub autocommit : h.in_transaction ≡ false
+  pub book : is_sound g h → IsBook (state g h)
+
+pub always_sound : (h : Held MemStore) → is_sound over_memory h
+always_sound h = (memory_is_clean h, refl)
+
+-- what the first row of an answer says, for private clauses
+abbrev pub answer_of : List Row → Option (List ℕ)
+answer_of [] = None
+answer_of (found ∷ more) = Some (bytes (column found 0))

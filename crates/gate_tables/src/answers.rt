@@ -1,0 +1,71 @@
+ghost use Rattle.std.specs.Prelude.{◌≡◌, ◌∷◌, [], false, IsTrue, IfOk, OnOk};
+ghost use Rattle.std.specs.FinMap.{get};
+ghost use Rattle.gate_tables.specs.Contents.{answers_at};
+ghost use Rattle.gate_tables.specs.Database.{all_schema};
+ghost use Rattle.gate_tables.specs.Effects.{Adds, IsInside, IsReady, Leaves};
+ghost use Rattle.gate_tables.specs.Forms.{answers};
+ghost use Rattle.gate_tables.specs.Tables.{AreAnswers, answer_of};
+ghost use Rattle.sqlite.specs.Held.{state};
+ghost use Rattle.sqlite.specs.State.{HasCleanDisk, KeepsCommit};
+
+use crate::fault::TablesFault;
+use crate::statement::{run, select, text_at};
+use gate_text::Text;
+use sqlite::{Alter, Connection, Row, Transaction, params};
+
+// Adds an answer.
+pub(crate) fn put_answer<S: Alter>(
+    tx: &mut Transaction<'_, S>,
+    id: &str,
+    body: &str,
+) -> Result<(), TablesFault>
+    ensures same_reference { tx.new.conn.ghost_name ≡ tx.old.conn.ghost_name }
+    ensures added { HasCleanDisk (state S.Store tx.new.conn.now) → OnOk result (IsInside all_schema (state S.Store tx.old.conn.now)
+        → IsInside all_schema (state S.Store tx.new.conn.now) × Adds all_schema answers (id.now, body.now) (state S.Store tx.old.conn.now).now.trees (state S.Store tx.new.conn.now).now.trees) }
+    ensures kept { HasCleanDisk (state S.Store tx.new.conn.now) → KeepsCommit (state S.Store tx.old.conn.now) (state S.Store tx.new.conn.now) }
+    ensures clean { HasCleanDisk (state S.Store tx.new.conn.now) → HasCleanDisk (state S.Store tx.old.conn.now) }
+{
+    run(
+        tx,
+        "INSERT INTO answers (id, body) VALUES (?1, ?2)",
+        params![id, body],
+    )
+}
+
+// The rows that the database has of an identifier.
+fn ask<S: Alter>(conn: &mut Connection<S>, id: &str) -> Result<Vec<Row>, TablesFault>
+    requires mode { conn.old.in_transaction ≡ false }
+    ensures mode { conn.new.in_transaction ≡ false }
+    ensures found { HasCleanDisk (state S.Store conn.new) → IsReady (state S.Store conn.old) → AreAnswers (state S.Store conn.old).now.trees → IfOk result (λ rows. answer_of rows.items ≡ get (answers_at (state S.Store conn.old).now.trees) id.now) }
+    ensures left { HasCleanDisk (state S.Store conn.new) → IsReady (state S.Store conn.old) → Leaves (state S.Store conn.old) (state S.Store conn.new) }
+    ensures was { HasCleanDisk (state S.Store conn.new) → IsTrue (state S.Store conn.new).is_open → IsTrue (state S.Store conn.old).is_open }
+    ensures clean { HasCleanDisk (state S.Store conn.new) → HasCleanDisk (state S.Store conn.old) }
+{
+    select(conn, "SELECT body FROM answers WHERE id = ?1", params![id])
+}
+
+// The text of the first row, if there is a row.
+fn first_body(rows: &[Row]) -> Result<Option<Text>, TablesFault>
+    ensures value { IfOk result (λ answer. answer ≡ answer_of rows.now) }
+{
+    match rows.first() {
+        Some(row) => Ok(Some(text_at(row, 0)?)),
+        None => Ok(None),
+    }
+}
+
+// The answer under an identifier.
+pub(crate) fn find_answer<S: Alter>(
+    conn: &mut Connection<S>,
+    id: &str,
+) -> Result<Option<Text>, TablesFault>
+    requires mode { conn.old.in_transaction ≡ false }
+    ensures mode { conn.new.in_transaction ≡ false }
+    ensures found { HasCleanDisk (state S.Store conn.new) → IsReady (state S.Store conn.old) → AreAnswers (state S.Store conn.old).now.trees → IfOk result (λ answer. answer ≡ get (answers_at (state S.Store conn.old).now.trees) id.now) }
+    ensures left { HasCleanDisk (state S.Store conn.new) → IsReady (state S.Store conn.old) → Leaves (state S.Store conn.old) (state S.Store conn.new) }
+    ensures was { HasCleanDisk (state S.Store conn.new) → IsTrue (state S.Store conn.new).is_open → IsTrue (state S.Store conn.old).is_open }
+    ensures clean { HasCleanDisk (state S.Store conn.new) → HasCleanDisk (state S.Store conn.old) }
+{
+    let rows = ask(conn, id)?;
+    first_body(rows.as_slice())
+}

@@ -1,0 +1,80 @@
+ghost use Rattle.std.specs.Prelude.{◌≡◌, [], OnOk};
+ghost use Rattle.gate_tables.specs.Creation.{after_first};
+ghost use Rattle.gate_tables.specs.Database.{answers};
+ghost use Rattle.gate_tables.specs.Effects.{IsInside};
+ghost use Rattle.sqlite.specs.Held.{state};
+ghost use Rattle.sqlite.specs.State.{HasCleanDisk, KeepsCommit};
+
+use crate::fault::TablesFault;
+use crate::statement::run;
+use sqlite::{Alter, Transaction};
+
+fn create_first<S: Alter>(tx: &mut Transaction<'_, S>) -> Result<(), TablesFault>
+    ensures same_reference { tx.new.conn.ghost_name ≡ tx.old.conn.ghost_name }
+    ensures made { HasCleanDisk (state S.Store tx.new.conn.now) → OnOk result (IsInside (after_first 0) (state S.Store tx.old.conn.now)
+        → IsInside (after_first 4) (state S.Store tx.new.conn.now)) }
+    ensures kept { HasCleanDisk (state S.Store tx.new.conn.now) → KeepsCommit (state S.Store tx.old.conn.now) (state S.Store tx.new.conn.now) }
+    ensures clean { HasCleanDisk (state S.Store tx.new.conn.now) → HasCleanDisk (state S.Store tx.old.conn.now) }
+{
+    run(
+        tx,
+        "CREATE TABLE desk (one INTEGER NOT NULL, version INTEGER NOT NULL, next_batch INTEGER NOT NULL, clock INTEGER NOT NULL, base TEXT NOT NULL, timeout_sec INTEGER NOT NULL, required_approvals INTEGER NOT NULL, max_batch_size INTEGER NOT NULL, PRIMARY KEY (one)) STRICT",
+        &[],
+    )?;
+    run(
+        tx,
+        "CREATE TABLE people (name TEXT NOT NULL, role INTEGER NOT NULL, PRIMARY KEY (name)) STRICT",
+        &[],
+    )?;
+    run(
+        tx,
+        "CREATE TABLE changes (number INTEGER NOT NULL, author TEXT NOT NULL, head TEXT NOT NULL, phase INTEGER NOT NULL, priority INTEGER NOT NULL, approved INTEGER NOT NULL, last_command INTEGER NOT NULL, PRIMARY KEY (number)) STRICT",
+        &[],
+    )?;
+    run(
+        tx,
+        "CREATE TABLE marks (change_no INTEGER NOT NULL, kind INTEGER NOT NULL, word TEXT NOT NULL, place INTEGER NOT NULL, PRIMARY KEY (change_no, kind, word)) STRICT",
+        &[],
+    )
+}
+
+fn create_last<S: Alter>(tx: &mut Transaction<'_, S>) -> Result<(), TablesFault>
+    ensures same_reference { tx.new.conn.ghost_name ≡ tx.old.conn.ghost_name }
+    ensures made { HasCleanDisk (state S.Store tx.new.conn.now) → OnOk result (IsInside (after_first 4) (state S.Store tx.old.conn.now)
+        → IsInside (after_first 8) (state S.Store tx.new.conn.now) × ((state S.Store tx.new.conn.now).now.trees answers.tree ≡ [])) }
+    ensures kept { HasCleanDisk (state S.Store tx.new.conn.now) → KeepsCommit (state S.Store tx.old.conn.now) (state S.Store tx.new.conn.now) }
+    ensures clean { HasCleanDisk (state S.Store tx.new.conn.now) → HasCleanDisk (state S.Store tx.old.conn.now) }
+{
+    run(
+        tx,
+        "CREATE TABLE batches (number INTEGER NOT NULL, branch INTEGER NOT NULL, priority INTEGER NOT NULL, again INTEGER NOT NULL, phase INTEGER NOT NULL, since INTEGER NOT NULL, sha TEXT NOT NULL, PRIMARY KEY (number)) STRICT",
+        &[],
+    )?;
+    run(
+        tx,
+        "CREATE TABLE members (batch INTEGER NOT NULL, place INTEGER NOT NULL, change_no INTEGER NOT NULL, PRIMARY KEY (batch, place)) STRICT",
+        &[],
+    )?;
+    run(
+        tx,
+        "CREATE TABLE statuses (batch INTEGER NOT NULL, name TEXT NOT NULL, report INTEGER NOT NULL, PRIMARY KEY (batch, name)) STRICT",
+        &[],
+    )?;
+    run(
+        tx,
+        "CREATE TABLE answers (id TEXT NOT NULL, body TEXT NOT NULL, PRIMARY KEY (id)) STRICT",
+        &[],
+    )
+}
+
+// Makes the eight tables, in a database that has none.
+pub(crate) fn create<S: Alter>(tx: &mut Transaction<'_, S>) -> Result<(), TablesFault>
+    ensures same_reference { tx.new.conn.ghost_name ≡ tx.old.conn.ghost_name }
+    ensures made { HasCleanDisk (state S.Store tx.new.conn.now) → OnOk result (IsInside (after_first 0) (state S.Store tx.old.conn.now)
+        → IsInside (after_first 8) (state S.Store tx.new.conn.now) × ((state S.Store tx.new.conn.now).now.trees answers.tree ≡ [])) }
+    ensures kept { HasCleanDisk (state S.Store tx.new.conn.now) → KeepsCommit (state S.Store tx.old.conn.now) (state S.Store tx.new.conn.now) }
+    ensures clean { HasCleanDisk (state S.Store tx.new.conn.now) → HasCleanDisk (state S.Store tx.old.conn.now) }
+{
+    create_first(tx)?;
+    create_last(tx)
+}

@@ -1,0 +1,113 @@
+ghost use Rattle.std.specs.Prelude.{◌≡◌, ◌++◌, map, false, IsTrue, IfOk, OnOk, IsPermutation};
+ghost use Rattle.gate_tables.specs.Database.{all_schema};
+ghost use Rattle.gate_tables.specs.Effects.{RanInside, IsInside, AddsAll, Empties, Replaces, Leaves};
+ghost use Rattle.gate_tables.specs.Forms.{rows_of};
+ghost use Rattle.sqlite.specs.Held.{state};
+ghost use Rattle.sqlite.specs.State.{HasCleanDisk, KeepsCommit};
+
+use crate::fault::TablesFault;
+use crate::statement::{run, select};
+use gate_text::List;
+use sqlite::{Alter, Connection, Row, Transaction};
+use std::alloc::Global;
+
+// A row of one of the tables, with the statements on that table.
+pub(crate) trait TableRow: Sized + Drop {
+    ghost use Rattle.gate_tables.specs.Forms.{Form};
+    ghost use Rattle.gate_tables.specs.Known.{IsKnown};
+
+    // How the rows of the table are seen.
+    ghost form: { Form Self };
+
+    // The text that asks for all rows.
+    fn select_text() -> &'static str
+        ensures text { result.now ≡ form.select };
+
+    // The text that removes all rows.
+    fn clear_text() -> &'static str
+        ensures text { result.now ≡ form.clear };
+
+    // Adds the row.
+    fn put<S: Alter>(&self, tx: &mut Transaction<'_, S>) -> Result<(), TablesFault>
+        ensures same_reference { tx.new.conn.ghost_name ≡ tx.old.conn.ghost_name }
+        ensures ran { HasCleanDisk (state S.Store tx.new.conn.now) → OnOk result (RanInside form.insert (form.values self.now) (state S.Store tx.old.conn.now) (state S.Store tx.new.conn.now)) }
+        ensures kept { HasCleanDisk (state S.Store tx.new.conn.now) → KeepsCommit (state S.Store tx.old.conn.now) (state S.Store tx.new.conn.now) }
+        ensures clean { HasCleanDisk (state S.Store tx.new.conn.now) → HasCleanDisk (state S.Store tx.old.conn.now) };
+
+    // What a row of the answer says.
+    fn read(row: &Row) -> Result<Self, TablesFault>
+        ensures value { IfOk result (λ read. read ≡ form.read row.now) };
+
+    ghost known: { IsKnown form };
+}
+
+// Adds rows to their table.
+pub(crate) fn put_all<S: Alter, R: TableRow>(
+    tx: &mut Transaction<'_, S>,
+    rows: &[R],
+) -> Result<(), TablesFault>
+    ensures same_reference { tx.new.conn.ghost_name ≡ tx.old.conn.ghost_name }
+    ensures added { HasCleanDisk (state S.Store tx.new.conn.now) → OnOk result (IsInside all_schema (state S.Store tx.old.conn.now)
+        → IsInside all_schema (state S.Store tx.new.conn.now) × AddsAll all_schema R.form rows.now (state S.Store tx.old.conn.now).now.trees (state S.Store tx.new.conn.now).now.trees) }
+    ensures kept { HasCleanDisk (state S.Store tx.new.conn.now) → KeepsCommit (state S.Store tx.old.conn.now) (state S.Store tx.new.conn.now) }
+    ensures clean { HasCleanDisk (state S.Store tx.new.conn.now) → HasCleanDisk (state S.Store tx.old.conn.now) }
+{
+    for row in rows {
+        row.put(tx)?;
+    }
+    Ok(())
+}
+
+// Removes all rows of a table.
+pub(crate) fn clear<S: Alter, R: TableRow>(tx: &mut Transaction<'_, S>) -> Result<(), TablesFault>
+    ensures same_reference { tx.new.conn.ghost_name ≡ tx.old.conn.ghost_name }
+    ensures emptied { HasCleanDisk (state S.Store tx.new.conn.now) → OnOk result (IsInside all_schema (state S.Store tx.old.conn.now)
+        → IsInside all_schema (state S.Store tx.new.conn.now) × Empties all_schema R.form (state S.Store tx.old.conn.now).now.trees (state S.Store tx.new.conn.now).now.trees) }
+    ensures kept { HasCleanDisk (state S.Store tx.new.conn.now) → KeepsCommit (state S.Store tx.old.conn.now) (state S.Store tx.new.conn.now) }
+    ensures clean { HasCleanDisk (state S.Store tx.new.conn.now) → HasCleanDisk (state S.Store tx.old.conn.now) }
+{
+    run(tx, R::clear_text(), &[])
+}
+
+// Puts rows in place of those of their table.
+pub(crate) fn replace<S: Alter, R: TableRow>(
+    tx: &mut Transaction<'_, S>,
+    rows: &[R],
+) -> Result<(), TablesFault>
+    ensures same_reference { tx.new.conn.ghost_name ≡ tx.old.conn.ghost_name }
+    ensures replaced { HasCleanDisk (state S.Store tx.new.conn.now) → OnOk result (IsInside all_schema (state S.Store tx.old.conn.now)
+        → IsInside all_schema (state S.Store tx.new.conn.now) × Replaces all_schema R.form rows.now (state S.Store tx.old.conn.now).now.trees (state S.Store tx.new.conn.now).now.trees) }
+    ensures kept { HasCleanDisk (state S.Store tx.new.conn.now) → KeepsCommit (state S.Store tx.old.conn.now) (state S.Store tx.new.conn.now) }
+    ensures clean { HasCleanDisk (state S.Store tx.new.conn.now) → HasCleanDisk (state S.Store tx.old.conn.now) }
+{
+    clear::<S, R>(tx)?;
+    put_all(tx, rows)
+}
+
+// What the rows of an answer say.
+fn read_all<R: TableRow>(alloc: Global, rows: &[Row]) -> Result<List<R>, TablesFault>
+    ensures value { IfOk result (λ read. read ≡ map R.form.read rows.now) }
+{
+    let mut read = List::from(Vec::new(alloc));
+    for row in rows {
+        read.push(R::read(row)?)?;
+    }
+    Ok(read)
+}
+
+// All rows of a table.
+pub(crate) fn all<S: Alter, R: TableRow>(
+    alloc: Global,
+    conn: &mut Connection<S>,
+) -> Result<List<R>, TablesFault>
+    requires mode { conn.old.in_transaction ≡ false }
+    ensures mode { conn.new.in_transaction ≡ false }
+    ensures rows { HasCleanDisk (state S.Store conn.new) → (state S.Store conn.old).now.schema ≡ all_schema
+        → IfOk result (λ rows. IsPermutation (rows_of R.form (state S.Store conn.old).now.trees) rows) }
+    ensures left { HasCleanDisk (state S.Store conn.new) → (state S.Store conn.old).now.schema ≡ all_schema → Leaves (state S.Store conn.old) (state S.Store conn.new) }
+    ensures was { HasCleanDisk (state S.Store conn.new) → IsTrue (state S.Store conn.new).is_open → IsTrue (state S.Store conn.old).is_open }
+    ensures clean { HasCleanDisk (state S.Store conn.new) → HasCleanDisk (state S.Store conn.old) }
+{
+    let rows = select(conn, R::select_text(), &[])?;
+    read_all(alloc, rows.as_slice())
+}

@@ -1,0 +1,38 @@
+ghost use Rattle.gate_tables.specs.Forms as forms;
+ghost use Rattle.gate_tables.specs.Members as texts;
+
+use crate::fault::TablesFault;
+use crate::kind::TableRow;
+use crate::row::MemberRow;
+use crate::statement::run;
+use sqlite::{Alter, Row, Transaction, params};
+
+impl TableRow for MemberRow {
+    ghost form = { forms.members };
+
+    fn select_text() -> &'static str {
+        "SELECT batch, place, change_no FROM members"
+    }
+
+    fn clear_text() -> &'static str {
+        "DELETE FROM members"
+    }
+
+    fn put<S: Alter>(&self, tx: &mut Transaction<'_, S>) -> Result<(), TablesFault> {
+        run(
+            tx,
+            "INSERT INTO members (batch, place, change_no) VALUES (?1, ?2, ?3)",
+            params![&self.batch, &self.place, &self.change_no],
+        )
+    }
+
+    fn read(row: &Row) -> Result<MemberRow, TablesFault> {
+        Ok(MemberRow {
+            batch: row.get(0)?,
+            place: row.get(1)?,
+            change_no: row.get(2)?,
+        })
+    }
+
+    ghost known = { texts.known };
+}

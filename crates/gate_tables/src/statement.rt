@@ -1,0 +1,53 @@
+ghost use Rattle.std.specs.Prelude.{◌≡◌, false, IsTrue, IfOk, OnOk};
+ghost use Rattle.gate_tables.specs.Effects.{RanInside, Leaves};
+ghost use Rattle.sqlite.specs.Given.{IsPlain};
+ghost use Rattle.sqlite.specs.Held.{state};
+ghost use Rattle.sqlite.specs.Listing.{understood};
+ghost use Rattle.sqlite.specs.Order.{column};
+ghost use Rattle.sqlite.specs.State.{HasCleanDisk, KeepsCommit, Shown};
+ghost use Rattle.sqlite.specs.Values.{bound};
+ghost use Rattle.sqlite.specs.declared.types.Value.TheVariants.{Text as SqlText};
+
+use crate::fault::TablesFault;
+use gate_text::Text;
+use sqlite::types::ValueRef;
+use sqlite::{Alter, Connection, Row, Transaction};
+
+// Runs a statement that shows no rows.
+pub(crate) fn run<S: Alter>(
+    tx: &mut Transaction<'_, S>,
+    sql: &str,
+    params: &[ValueRef<'_>],
+) -> Result<(), TablesFault>
+    ensures same_reference { tx.new.conn.ghost_name ≡ tx.old.conn.ghost_name }
+    ensures ran { HasCleanDisk (state S.Store tx.new.conn.now) → OnOk result (RanInside sql.now (bound params.now) (state S.Store tx.old.conn.now) (state S.Store tx.new.conn.now)) }
+    ensures kept { HasCleanDisk (state S.Store tx.new.conn.now) → KeepsCommit (state S.Store tx.old.conn.now) (state S.Store tx.new.conn.now) }
+    ensures clean { HasCleanDisk (state S.Store tx.new.conn.now) → HasCleanDisk (state S.Store tx.old.conn.now) }
+{
+    tx.execute(sql, params)?;
+    Ok(())
+}
+
+// All rows that a query shows.
+pub(crate) fn select<S: Alter>(
+    conn: &mut Connection<S>,
+    sql: &str,
+    params: &[ValueRef<'_>],
+) -> Result<Vec<Row>, TablesFault>
+    requires mode { conn.old.in_transaction ≡ false }
+    ensures mode { conn.new.in_transaction ≡ false }
+    ensures shown { HasCleanDisk (state S.Store conn.new) → IfOk result (λ rows. Shown sql.now (bound params.now) (state S.Store conn.old) (state S.Store conn.new) rows.items) }
+    ensures left { HasCleanDisk (state S.Store conn.new) → IsPlain (understood (state S.Store conn.old).now.schema sql.now) → Leaves (state S.Store conn.old) (state S.Store conn.new) }
+    ensures was { HasCleanDisk (state S.Store conn.new) → IsTrue (state S.Store conn.new).is_open → IsTrue (state S.Store conn.old).is_open }
+    ensures clean { HasCleanDisk (state S.Store conn.new) → HasCleanDisk (state S.Store conn.old) }
+{
+    Ok(conn.query_all(sql, params)?)
+}
+
+// The text in a column.
+pub(crate) fn text_at(row: &Row, at: usize) -> Result<Text, TablesFault>
+    ensures text { IfOk result (λ text. column row.now at ≡ SqlText text) }
+{
+    let text: String = row.get(at)?;
+    Ok(Text::from(text))
+}

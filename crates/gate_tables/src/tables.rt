@@ -1,0 +1,113 @@
+ghost use Rattle.std.specs.Prelude.{◌≡◌, [], None, false, IfOk, IfErr, OnOk, OnErr};
+ghost use Rattle.std.specs.FinMap.{empty, get, insert};
+ghost use Rattle.gate_tables.specs.Contents.{AreSame};
+ghost use Rattle.gate_tables.specs.Database.{schema_of};
+ghost use Rattle.gate_tables.specs.Tables.{is_sound, rows_in, answers_in};
+ghost use Rattle.sqlite.specs.Held.{state};
+
+use crate::answers::find_answer;
+use crate::fault::TablesFault;
+use crate::read::read_rows;
+use crate::row::Rows;
+use crate::write::{make, write_all};
+use gate_text::Text;
+use sqlite::{Alter, Connection};
+use std::alloc::Global;
+use std::marker::Model;
+
+/// A connection in which no tables were made, with the reason.
+#[derive(Drop)]
+pub struct NotMade<S: Alter> {
+    /// `Memory` or `Store`.
+    pub fault: TablesFault,
+    /// The connection, with its database as it was.
+    pub connection: Connection<S>,
+}
+
+/// The tables of the records in a database. A contract sees them as what their connection holds.
+#[derive(Drop)]
+pub struct Tables<S: Alter> {
+    connection: Connection<S>,
+}
+
+impl<S: Alter> Model for Tables<S> {
+    ghost use Rattle.sqlite.specs.Held.{Held, held_code};
+    ghost use Rattle.gate_tables.specs.Tables.{Stands};
+
+    ghost Value = { Held S };
+
+    ghost coded = { held_code S.code };
+
+    ghost view = { λ t. t.connection };
+
+    ghost invariant = { λ t. Stands S.Store t.connection };
+}
+
+impl<S: Alter> Tables<S> {
+    /// Makes the tables with these rows and no answer, in a database that has no table, index or view. If it is refused, the
+    /// database is as it was, and the connection is handed back. `Store` if two rows of a table have one key, or if the database
+    /// fails, and `Memory` if there is no memory for it.
+    pub fn new(mut connection: Connection<S>, first: &Rows) -> Result<Tables<S>, NotMade<S>>
+        requires mode { connection.in_transaction ≡ false }
+        requires blank { (state S.Store connection).now.schema ≡ schema_of [] }
+        ensures rows { IfOk result (λ tables. is_sound S.Store tables → AreSame (rows_in S.Store tables) first.now) }
+        ensures answers { IfOk result (λ tables. is_sound S.Store tables → answers_in S.Store tables ≡ empty) }
+        ensures same { IfErr result (λ refused. is_sound S.Store refused.connection → (state S.Store refused.connection).now ≡ (state S.Store connection).now) }
+        ensures mode { IfErr result (λ refused. refused.connection.in_transaction ≡ false) }
+        ensures was { IfOk result (λ tables. is_sound S.Store tables → is_sound S.Store connection) }
+        ensures was_refused { IfErr result (λ refused. is_sound S.Store refused.connection → is_sound S.Store connection) }
+    {
+        // That no transaction is open says that the database is as it was committed.
+        if !connection.is_autocommit() {
+            return Err(NotMade {
+                fault: TablesFault::Store,
+                connection,
+            });
+        }
+        match make(&mut connection, first) {
+            Ok(()) => Ok(Tables { connection }),
+            Err(fault) => Err(NotMade { fault, connection }),
+        }
+    }
+
+    /// Hands back the connection as it is.
+    pub fn into_connection(self) -> Connection<S>
+        ensures value { result ≡ self }
+    {
+        let Tables { connection } = self;
+        connection
+    }
+
+    /// The rows of all tables but `answers`. It changes nothing. `Store` if the database fails, or if a row has values of
+    /// other kinds, and `Memory` if there is no memory for it.
+    pub fn read(&mut self, alloc: Global) -> Result<Rows, TablesFault>
+        ensures rows { is_sound S.Store self.new → IfOk result (AreSame (rows_in S.Store self.old)) }
+        ensures same { is_sound S.Store self.new → (rows_in S.Store self.new ≡ rows_in S.Store self.old) × (answers_in S.Store self.new ≡ answers_in S.Store self.old) }
+        ensures was { is_sound S.Store self.new → is_sound S.Store self.old }
+    {
+        read_rows(alloc, &mut self.connection)
+    }
+
+    /// The answer under an identifier, if there is one. It changes nothing. `Store` if the database fails, and `Memory` if
+    /// there is no memory for it.
+    pub fn answer(&mut self, id: &str) -> Result<Option<Text>, TablesFault>
+        ensures answer { is_sound S.Store self.new → IfOk result (λ answer. answer ≡ get (answers_in S.Store self.old) id.now) }
+        ensures same { is_sound S.Store self.new → (rows_in S.Store self.new ≡ rows_in S.Store self.old) × (answers_in S.Store self.new ≡ answers_in S.Store self.old) }
+        ensures was { is_sound S.Store self.new → is_sound S.Store self.old }
+    {
+        find_answer(&mut self.connection, id)
+    }
+
+    /// Puts these rows in place of all rows but the answers, and adds an answer under an identifier that has none, both or
+    /// neither: if it is refused, nothing changed. `Store` if two rows of a table have one key, or if the database fails, and
+    /// `Memory` if there is no memory for it.
+    pub fn write(&mut self, rows: &Rows, id: &str, body: &str) -> Result<(), TablesFault>
+        requires { is_sound S.Store self.old → get (answers_in S.Store self.old) id.now ≡ None }
+        ensures rows { is_sound S.Store self.new → OnOk result (AreSame (rows_in S.Store self.new) rows.now) }
+        ensures answers { is_sound S.Store self.new → OnOk result (answers_in S.Store self.new ≡ insert (answers_in S.Store self.old) id.now body.now) }
+        ensures same { is_sound S.Store self.new → OnErr result ((rows_in S.Store self.new ≡ rows_in S.Store self.old) × (answers_in S.Store self.new ≡ answers_in S.Store self.old)) }
+        ensures was { is_sound S.Store self.new → is_sound S.Store self.old }
+    {
+        write_all(&mut self.connection, rows, id, body)
+    }
+}
