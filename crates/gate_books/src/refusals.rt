@@ -3,6 +3,7 @@ ghost use Rattle.std.specs.Prelude.{◌≡◌, false, IfOk};
 use crate::fault::BooksFault;
 use crate::serving::served;
 use crate::tables::print_table;
+use gate_jobs::{JobFault, complaint, run};
 use gate_queue::{Fault, Gate};
 use gate_sql::{Refused, SqlBook, gate_of, rows_of};
 use gate_store::{Book, PlainBook};
@@ -12,15 +13,20 @@ use sqlite::{Connection, MemStore};
 use std::alloc::Global;
 use std::io::{self, Read, Write};
 
+// A delivery of one act.
+const LINE: &str = r#"{"id":"1","event":"role","person":"alice","role":"reviewer"}"#;
+
 /// Serves all lines, drops the answers, and prints what is answered to rows and to a database that no delivery makes: to the
-/// rows of the gate without those of one table, and to a database that has a table before there is a book.
+/// rows of the gate without those of one table, and to a database that has a table before there is a book. Of this, and of a gate
+/// whose batch numbers are used up, it prints the line with which the program would end.
 pub(crate) fn print_refusals<R: Read, W: Write>(
     alloc: Global,
     reader: &mut R,
     writer: &mut W,
 ) -> Result<(), BooksFault> {
     print_without_rows(alloc, reader, writer)?;
-    print_taken(alloc, writer)
+    print_taken(alloc, writer)?;
+    print_full(alloc, writer)
 }
 
 // Nothing has to be told of a batch that is tested, so the rows without its status are those of another gate. But no gate has
@@ -117,9 +123,29 @@ fn print_refused<W: Write>(writer: &mut W, refused: Refused<MemStore>) -> Result
         fault,
         mut connection,
     } = refused;
-    writeln!(writer, "over a table: {fault}")?;
+    writeln!(writer, "over a table: {}", complaint(JobFault::from(fault)))?;
     let sql = "SELECT name FROM sqlite_schema";
     print_table(&mut connection, writer, "the tables then", sql)
+}
+
+// Prints with which line lines end over a gate whose batch numbers are used up.
+fn print_full<W: Write>(alloc: Global, writer: &mut W) -> Result<(), BooksFault> {
+    let gate = Gate::starting_at(alloc, 8_999_999_999_999_997);
+    let mut line = LINE.as_bytes();
+    match run(
+        alloc,
+        PlainBook::new(alloc, gate),
+        &mut line,
+        &mut io::sink(),
+    ) {
+        Ok(_) => writeln!(writer, "over a full gate: no fault")?,
+        Err(fault) => writeln!(
+            writer,
+            "over a full gate: {}",
+            complaint(JobFault::from(fault))
+        )?,
+    }
+    Ok(())
 }
 
 // A database in memory that has a table, and no open transaction.

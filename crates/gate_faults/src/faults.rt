@@ -3,6 +3,7 @@ use gate_rules::Role;
 use gate_store::{Answer, Delivery, Event, Keeper, PlainBook};
 use gate_text::{ChangeNo, Commit, DeliveryId, Name, Text};
 use std::alloc::{AllocError, Global};
+use std::io::{self, Write};
 use std::process::Abort;
 
 type PlainKeeper = Keeper<PlainBook>;
@@ -13,8 +14,8 @@ const STORY: &str = "\
     settings => done; no change\n\
     base => done; no change\n\
     opened => done; priority 0, approved false, 0 delegates, 0 batches\n\
-    approval => done done done; priority 5, approved true, 1 delegates, 1 batches\n\
-    end => done done denied; priority 5, approved false, 2 delegates, 0 batches";
+    approval => done done done; priority 5, approved true, 6 delegates, 1 batches\n\
+    end => done done denied; priority 5, approved false, 7 delegates, 0 batches";
 
 fn check_text(rt: &impl Abort, line: &str, found: &str, due: &str) {
     assert_eq!(rt; found, due, "{line}");
@@ -52,7 +53,7 @@ fn event(alloc: Global, word: &str) -> Result<Event, AllocError> {
             author: name(alloc, "carol")?,
             head: commit()?,
         }),
-        "approval" => comment(alloc, "bors r+\nbors p=5\nbors d=zoe"),
+        "approval" => comment(alloc, "bors r+\nbors p=5\nbors d=uma,vic,wes,xia,yan,zoe"),
         _ => comment(alloc, "bors d=ann,zoe\nbors r-\nbors dance"),
     }
 }
@@ -131,18 +132,20 @@ fn check_shown(rt: &impl Abort, alloc: Global, keeper: &mut PlainKeeper, word: &
     check_text(rt, word, found.as_str(), due);
 }
 
-// Hands a delivery in, and once more after a fault, which has to leave everything as it was.
+// Hands a delivery in, and once more after a fault, which has to leave everything as it was. Which one met a fault is written.
 fn handed_in(
     rt: &impl Abort,
     alloc: Global,
     keeper: &mut PlainKeeper,
     word: &str,
     delivery: &Delivery,
+    faults: &mut impl Write,
 ) -> Answer {
     let before = shown_again(rt, alloc, keeper);
     match keeper.deliver(alloc, delivery) {
         Ok(answer) => answer,
-        Err(_) => {
+        Err(fault) => {
+            writeln!(faults, "met by {word}: {fault}").expect(rt, "standard output");
             check_shown(rt, alloc, keeper, word, before.as_str());
             keeper
                 .deliver(alloc, delivery)
@@ -152,9 +155,15 @@ fn handed_in(
 }
 
 // The verdicts of the answer to a line. (What a function lets go at its end is dear to prove; `drop` is not.)
-fn answered(rt: &impl Abort, alloc: Global, keeper: &mut PlainKeeper, word: &str) -> String {
+fn answered(
+    rt: &impl Abort,
+    alloc: Global,
+    keeper: &mut PlainKeeper,
+    word: &str,
+    faults: &mut impl Write,
+) -> String {
     let delivery = delivery_again(rt, alloc, word);
-    let answer = handed_in(rt, alloc, keeper, word, &delivery);
+    let answer = handed_in(rt, alloc, keeper, word, &delivery, faults);
     drop(delivery);
     let words = verdicts_again(rt, alloc, &answer);
     drop(answer);
@@ -162,19 +171,25 @@ fn answered(rt: &impl Abort, alloc: Global, keeper: &mut PlainKeeper, word: &str
 }
 
 // A line of the story is answered so, and leads there; and handed in again, it is answered the same and changes nothing.
-fn check_line(rt: &impl Abort, alloc: Global, keeper: &mut PlainKeeper, line: &str) {
+fn check_line(
+    rt: &impl Abort,
+    alloc: Global,
+    keeper: &mut PlainKeeper,
+    line: &str,
+    faults: &mut impl Write,
+) {
     let (word, due) = line.split_once(" => ").expect(rt, "a line");
     let (due_verdicts, due_standing) = due.split_once("; ").expect(rt, "a line");
     for _ in 0..2 {
-        let found = answered(rt, alloc, keeper, word);
+        let found = answered(rt, alloc, keeper, word, faults);
         check_text(rt, word, found.as_str(), due_verdicts);
         check_shown(rt, alloc, keeper, word, due_standing);
     }
 }
 
-fn check_story(rt: &impl Abort, alloc: Global, keeper: &mut PlainKeeper) {
+fn check_story(rt: &impl Abort, alloc: Global, keeper: &mut PlainKeeper, faults: &mut impl Write) {
     for line in STORY.lines() {
-        check_line(rt, alloc, keeper, line);
+        check_line(rt, alloc, keeper, line, faults);
     }
 }
 
@@ -182,6 +197,6 @@ fn check_story(rt: &impl Abort, alloc: Global, keeper: &mut PlainKeeper) {
 fn a_fault_undoes_its_delivery(rt: HostRuntime) {
     let alloc = rt.alloc();
     let mut keeper = Keeper::new(PlainBook::new(alloc, Gate::new(alloc)));
-    check_story(&rt, alloc, &mut keeper);
+    check_story(&rt, alloc, &mut keeper, &mut io::writer(&rt));
     drop(keeper);
 }

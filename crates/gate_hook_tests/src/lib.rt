@@ -1,7 +1,7 @@
 //! Tests of gate_store, gate_hook and gate_jobs, by the calls that these offer: answers that are read back from their text, a keeper
-//! whose numbers are used up, readers and writers that give pieces or fail, texts that no line is answered, the jobs that words ask
-//! for, how the program ends, and two connections. What a line of input or a request can show stands in `rows/`, and so does what a
-//! keeper answers over each book.
+//! whose numbers are used up, readers and writers that give pieces or fail, requests in one piece, texts that no line is answered, the
+//! jobs that words ask for, how the program ends, and two connections. What a line of input or a request shows of the program stands
+//! in `rows/`, and so does what a keeper answers over each book.
 #![tactic(auto)]
 
 #[cfg(test)]

@@ -16,6 +16,55 @@ const RESPONSE: &str = concat!(
     "[{\"orders\":[],\"verdict\":\"done\"}]\n",
 );
 
+const CUT_SHORT: &str =
+    "POST /deliveries HTTP/1.1\r\nHost: here\r\nContent-Length: 10\r\n\r\n123456789";
+
+const BAD_REQUEST: &str =
+    "HTTP/1.1 400 Bad Request\r\nContent-Length: 0\r\nConnection: close\r\n\r\n";
+
+const WITHOUT_LENGTH: &str = "POST /deliveries HTTP/1.1\r\nHost: here\r\n\r\n";
+
+const LENGTH_REQUIRED: &str =
+    "HTTP/1.1 411 Length Required\r\nContent-Length: 0\r\nConnection: close\r\n\r\n";
+
+const TOO_LONG: &str = "POST /deliveries HTTP/1.1\r\nHost: here\r\nContent-Length: 65537\r\n\r\n";
+
+const TOO_LARGE: &str =
+    "HTTP/1.1 413 Payload Too Large\r\nContent-Length: 0\r\nConnection: close\r\n\r\n";
+
+const POST_ALONE: &str =
+    "HTTP/1.1 405 Method Not Allowed\r\nContent-Length: 0\r\nAllow: POST\r\nConnection: close\r\n\r\n";
+
+const GET_ALONE: &str =
+    "HTTP/1.1 405 Method Not Allowed\r\nContent-Length: 0\r\nAllow: GET\r\nConnection: close\r\n\r\n";
+
+fn check_answer(rt: &impl Abort, alloc: Global, input: &str, output: &str) {
+    check_runs(rt, alloc, &[request(input, output)]);
+}
+
+// A request without a body to a bot of its own.
+fn check_line(rt: &impl Abort, alloc: Global, line: &str, output: &str) {
+    let input = format!(in alloc; "{line} HTTP/1.1\r\nHost: here\r\n\r\n").expect(rt, "memory");
+    check_answer(rt, alloc, input.as_str(), output);
+}
+
+// Each check of a request refuses one, and what passes them all is answered. `rows/requests.http` has more, for the program.
+#[test]
+fn requests_in_one_piece(rt: HostRuntime) {
+    let alloc = rt.alloc();
+    check_answer(&rt, alloc, REQUEST, RESPONSE);
+    check_answer(&rt, alloc, CUT_SHORT, BAD_REQUEST);
+    check_answer(&rt, alloc, WITHOUT_LENGTH, LENGTH_REQUIRED);
+    check_answer(&rt, alloc, TOO_LONG, TOO_LARGE);
+    check_line(&rt, alloc, "GET /deliveries", POST_ALONE);
+    check_line(&rt, alloc, "GET /queue", EMPTY_QUEUE);
+    check_line(&rt, alloc, "GET /queue/", NOT_FOUND);
+    check_line(&rt, alloc, "GET /changes/0", NOT_FOUND);
+    check_line(&rt, alloc, "GET /changes/7", NOT_FOUND);
+    check_line(&rt, alloc, "POST /changes/0", NOT_FOUND);
+    check_line(&rt, alloc, "POST /changes/7", GET_ALONE);
+}
+
 // A request in pieces is answered as one in one piece, and nothing is asked for behind its last byte.
 #[test]
 fn pieces_of_a_request(rt: HostRuntime) {

@@ -198,7 +198,7 @@ fn full_gates(rt: HostRuntime) {
     let alloc = rt.alloc();
     let lines =
         "role alice reviewer|base 0|opened 1 carol a|1 alice bors r+|settings|pushed 1 a|conflict 1|status d ci error|\
-        refused 1|tick 5";
+        refused 1|tick 5|closed 1|labeled 1 hold|unlabeled 1 hold|review 1 mia a yes|staged 1 d";
     for line in lines.split('|') {
         check_last_number(&rt, alloc, line);
     }

@@ -30,13 +30,17 @@ const EMPTY: &str = "\
     clock 0\n\
     \x20          batch branch  state     prio changes\n";
 
-// A change that is approved, its batch, and what lands it.
-const APPROVED: &str =
-    "role alice reviewer; settings status = [\"ci\"]; base 0; opened 1 carol a; 1 alice bors r+";
+// A change of three is approved, and what then orders its batch to land.
+const APPROVED: &str = concat!(
+    "role alice reviewer; role mia member; settings status = [\"ci\", \"lint\"]\nblock_labels = [\"hold\"]; base 0; ",
+    "opened 1 carol a; opened 2 carol b; opened 3 dave c; 1 alice bors r+",
+);
 
-const TO_LAND: &str =
-    "role alice reviewer; settings status = [\"ci\"]; base 0; opened 1 carol a; 1 alice bors r+; \
-    tick 100; staged 1 d; status d ci success";
+const TO_LAND: &str = concat!(
+    "role alice reviewer; role mia member; settings status = [\"ci\", \"lint\"]\nblock_labels = [\"hold\"]; base 0; ",
+    "opened 1 carol a; opened 2 carol b; opened 3 dave c; 1 alice bors r+; ",
+    "tick 100; staged 1 d; status d ci success; status d lint success",
+);
 
 const ONE_LANDS: &str = "\
     base 0000000000000000000000000000000000000000\n\
