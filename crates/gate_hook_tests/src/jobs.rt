@@ -1,4 +1,5 @@
 use crate::checks::{check_that, check_words};
+use crate::requests::{POST_ALONE, REQUEST, RESPONSE};
 use gate_hook::HookFault;
 use gate_jobs::{Ending, Job, JobFault, WordsFault, complaint, read_words, serve, status};
 use gate_queue::{Fault, Gate};
@@ -92,17 +93,7 @@ fn statuses_and_words(rt: HostRuntime) {
     check_fault(&rt, JobFault::File, "gate: File");
 }
 
-const POST: &str = "POST /deliveries HTTP/1.1\r\nHost: here\r\nContent-Length: 61\r\n\r\n\
-{\"id\":\"d1\",\"event\":\"role\",\"person\":\"alice\",\"role\":\"reviewer\"}";
-
-const ANSWER: &str =
-    "HTTP/1.1 200 OK\r\nContent-Type: application/json\r\nContent-Length: 33\r\nConnection: close\r\n\r\n\
-[{\"orders\":[],\"verdict\":\"done\"}]\n";
-
 const GET: &str = "GET /deliveries HTTP/1.1\r\nHost: here\r\n\r\n";
-
-const REFUSAL: &str =
-    "HTTP/1.1 405 Method Not Allowed\r\nContent-Length: 0\r\nAllow: POST\r\nConnection: close\r\n\r\n";
 
 // A connection to a listener, with a request sent.
 fn client<R: Net<Stream = TcpStream> + Abort>(
@@ -135,9 +126,9 @@ fn serve_two(rt: &impl Abort, alloc: Global, listener: &TcpListener) {
 #[test]
 fn serves_two_connections(rt: HostRuntime) {
     let listener = TcpListener::bind(&rt, ("127.0.0.1", 0)).expect(&rt, "a listener");
-    let first = client(&rt, &listener, POST);
+    let first = client(&rt, &listener, REQUEST);
     let second = client(&rt, &listener, GET);
     serve_two(&rt, rt.alloc(), &listener);
-    check_answer(&rt, rt.alloc(), first, ANSWER);
-    check_answer(&rt, rt.alloc(), second, REFUSAL);
+    check_answer(&rt, rt.alloc(), first, RESPONSE);
+    check_answer(&rt, rt.alloc(), second, POST_ALONE);
 }

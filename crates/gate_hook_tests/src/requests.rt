@@ -6,12 +6,12 @@ use std::alloc::Global;
 use std::process::Abort;
 
 // The request that the format shows.
-const REQUEST: &str = concat!(
+pub(crate) const REQUEST: &str = concat!(
     "POST /deliveries HTTP/1.1\r\nHost: here\r\nContent-Length: 61\r\n\r\n",
     r#"{"id":"d1","event":"role","person":"alice","role":"reviewer"}"#,
 );
 
-const RESPONSE: &str = concat!(
+pub(crate) const RESPONSE: &str = concat!(
     "HTTP/1.1 200 OK\r\nContent-Type: application/json\r\nContent-Length: 33\r\nConnection: close\r\n\r\n",
     "[{\"orders\":[],\"verdict\":\"done\"}]\n",
 );
@@ -32,7 +32,7 @@ const TOO_LONG: &str = "POST /deliveries HTTP/1.1\r\nHost: here\r\nContent-Lengt
 const TOO_LARGE: &str =
     "HTTP/1.1 413 Payload Too Large\r\nContent-Length: 0\r\nConnection: close\r\n\r\n";
 
-const POST_ALONE: &str =
+pub(crate) const POST_ALONE: &str =
     "HTTP/1.1 405 Method Not Allowed\r\nContent-Length: 0\r\nAllow: POST\r\nConnection: close\r\n\r\n";
 
 const GET_ALONE: &str =
