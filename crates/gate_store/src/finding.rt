@@ -36,28 +36,20 @@ fn number_in(value: Option<&Value>) -> Result<u64, AnswerFault>
 fn items_in(value: Option<&Value>) -> Result<&[Value], AnswerFault>
     ensures { Finds (items_now result) (found.items_in (seen value.entry)) }
 {
-    match value.and_then(Value::as_array) {
-        Some(values) => Ok(values.as_slice()),
-        None => Err(AnswerFault::NotAnswer),
-    }
+    let values = value.and_then(Value::as_array).ok_or(AnswerFault::NotAnswer)?;
+    Ok(values.as_slice())
 }
 
 fn count_in(value: Option<&Value>) -> Result<u32, AnswerFault>
     ensures { Finds result (found.count_in (seen value.entry)) }
 {
-    match u32::try_from(number_in(value)?) {
-        Ok(count) => Ok(count),
-        Err(_) => Err(AnswerFault::NotAnswer),
-    }
+    u32::try_from(number_in(value)?).map_err(|_| AnswerFault::NotAnswer)
 }
 
 fn refusal_in(value: Option<&Value>) -> Result<u8, AnswerFault>
     ensures { Finds result (found.refusal_in (seen value.entry)) }
 {
-    match u8::try_from(number_in(value)?) {
-        Ok(refusal) => Ok(refusal),
-        Err(_) => Err(AnswerFault::NotAnswer),
-    }
+    u8::try_from(number_in(value)?).map_err(|_| AnswerFault::NotAnswer)
 }
 
 fn change_in(value: Option<&Value>) -> Result<ChangeNo, AnswerFault>
@@ -135,10 +127,8 @@ fn not_permitted_in(detail: Option<&Value>) -> Result<Rule, AnswerFault>
     ensures value { Finds result (found.not_permitted_in (seen detail.entry)) }
     ensures good { IfOk result IsRule }
 {
-    match level_called(text_in(detail)?) {
-        Some(level) => Ok(Rule::NotPermitted(level)),
-        None => Err(AnswerFault::NotAnswer),
-    }
+    let level = level_called(text_in(detail)?).ok_or(AnswerFault::NotAnswer)?;
+    Ok(Rule::NotPermitted(level))
 }
 
 fn blocked_in(alloc: Global, detail: Option<&Value>) -> Result<Rule, AnswerFault>
@@ -162,10 +152,7 @@ fn too_few_in(detail: Option<&Value>) -> Result<Rule, AnswerFault>
     ensures value { Finds result (found.too_few_in (seen detail.entry)) }
     ensures good { IfOk result IsRule }
 {
-    match detail {
-        Some(pair) => counts_in(pair),
-        None => Err(AnswerFault::NotAnswer),
-    }
+    counts_in(detail.ok_or(AnswerFault::NotAnswer)?)
 }
 
 fn bad_settings_in(detail: Option<&Value>) -> Result<Rule, AnswerFault>

@@ -6,10 +6,11 @@
 --     Limits        what everything keeps that a comment says
 --     Settings      what the text of a `bors.toml` says, or why it is refused
 -- For the code and the crates above: Reading, the grammar's one reading as a function from bytes; Steps, steps in order;
--- Finite, maps and sets of the code as finite maps and sets; Same, equal settings.
+-- Finite, maps and sets of the code as finite maps and sets; LastWhere, the last item that passes a test; Same, equal settings.
 pub mod Arguments
 pub mod Finite
 pub mod Grammar
+pub mod LastWhere
 pub mod Limits
 pub mod Reading
 pub mod Same

@@ -1,7 +1,6 @@
 -- Spaces in a text. The one byte that counts as a space is 32.
-use Rattle.std.specs.Prelude.{ℕ, suc, ◌==◌, ◌&&◌, List, [], ◌∷◌, length, Option, None, if◌then◌else◌}
-use Rattle.std.specs.Bool.{then_some}
-use Rattle.std.specs.Option.{option_map, option_or}
+use Rattle.std.specs.Prelude.{ℕ, ◌==◌, ◌&&◌, List, [], ◌∷◌, length, Option, if◌then◌else◌}
+use Rattle.gate_text.specs.LastWhere.{last_where}
 
 abbrev pub trim_start : List ℕ → List ℕ
 trim_start [] = []
@@ -16,5 +15,4 @@ trim bs = trim_end (trim_start bs)
 
 -- the place of the last space
 abbrev pub last_space : List ℕ → Option ℕ
-last_space [] = None
-last_space (b ∷ bs) = option_or (option_map suc (last_space bs)) (then_some (b == 32) 0)
+last_space bs = last_where (λ b. b == 32) bs

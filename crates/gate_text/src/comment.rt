@@ -88,8 +88,8 @@ pub fn read_comment(alloc: Global, text: &str) -> Result<Vec<Spoken>, AllocError
     spoken_lines(alloc, text)
 }
 
-/// The law of comments: each text has exactly one reading.
+/// The law of comments: each text has exactly one reading, and it is the one by which the machine acts.
 pub fn one_reading()
-    ensures { (text : List ℕ) → (spoken : List Spoken) × CommentSays text spoken
-        × ((others : List Spoken) → CommentSays text others → others ≡ spoken) }
+    ensures said { (text : List ℕ) → CommentSays text (reading.comment_says text) }
+    ensures only { (text : List ℕ) (others : List Spoken) → CommentSays text others → others ≡ reading.comment_says text }
 {}

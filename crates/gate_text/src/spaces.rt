@@ -35,11 +35,5 @@ pub(crate) fn last_space(text: &[u8]) -> Option<usize>
     ensures value { result ≡ spaces.last_space text.now }
     ensures within { IfSome result (λ place. place < length text.now) }
 {
-    let mut last = None;
-    for (place, byte) in text.iter().enumerate() {
-        if *byte == b' ' {
-            last = Some(place);
-        }
-    }
-    last
+    text.iter().rposition(|byte| *byte == b' ')
 }

@@ -65,13 +65,10 @@ fn put_mark(alloc: Global, desk: &mut Desk, mark: &MarkRow) -> Result<(), Tables
         return Ok(());
     }
     let number = change_no(mark.change_no)?;
-    match desk.alter(
+    desk.alter(
         number,
         |change| put_word(alloc, change, mark.kind, &mark.word),
-    ) {
-        Some(done) => done,
-        None => Err(TablesFault::Store),
-    }
+    ).ok_or(TablesFault::Store)?
 }
 
 fn put_word(alloc: Global, change: &mut Change, kind: i64, word: &Text) -> Result<(), TablesFault> {

@@ -29,10 +29,8 @@ fn number_at(table: &Table, key: Key, least: u32, most: u32) -> Result<Option<u3
     let Some(value) = value_at(table, key) else {
         return Ok(None);
     };
-    match number_in(value, least, most) {
-        Some(number) => Ok(Some(number)),
-        None => Err(SettingsFault::BadKey(key)),
-    }
+    let number = number_in(value, least, most).ok_or(SettingsFault::BadKey(key))?;
+    Ok(Some(number))
 }
 
 // The labels, which may be absent.
@@ -42,20 +40,15 @@ fn labels_at(alloc: Global, table: &Table) -> Result<Option<Labels>, SettingsFau
     let Some(value) = value_at(table, Key::BlockLabels) else {
         return Ok(None);
     };
-    match labels_in(alloc, value)? {
-        Some(labels) => Ok(Some(labels)),
-        None => Err(SettingsFault::BadKey(Key::BlockLabels)),
-    }
+    let labels = labels_in(alloc, value)?.ok_or(SettingsFault::BadKey(Key::BlockLabels))?;
+    Ok(Some(labels))
 }
 
 // The names of the statuses.
 fn statuses_at(alloc: Global, value: &Value) -> Result<Contexts, SettingsFault>
     ensures { Gives result (ok_or (statuses_in (view value.now)) (SettingsFault.BadKey Key.Status)) }
 {
-    match statuses_in(alloc, value)? {
-        Some(status) => Ok(status),
-        None => Err(SettingsFault::BadKey(Key::Status)),
-    }
+    statuses_in(alloc, value)?.ok_or(SettingsFault::BadKey(Key::Status))
 }
 
 // The settings of a table.
