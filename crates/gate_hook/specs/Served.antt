@@ -3,7 +3,7 @@ use Rattle.std.specs.Prelude.{◌≡◌, ◌⊎◌, ℕ, ◌<◌, true, false, �
 use Rattle.std.specs.Io.KnownBytes.{Appends}
 use Rattle.gate_queue.specs.declared.fault.Fault.{Fault}
 use Rattle.gate_queue.specs.declared.fault.Fault.TheVariants.{Memory, Store, Full}
-use Rattle.gate_queue.specs.declared.state.State.{State}
+use Rattle.gate_state.specs.declared.state.State.{State}
 use Rattle.gate_report.specs.Change.{change_text_of}
 use Rattle.gate_report.specs.Queue.{queue_text_of}
 use Rattle.gate_store.specs.Answers.{answer_text_of}

@@ -19,20 +19,20 @@ use Rattle.gate_rules.specs.View.{DeskView, without_approval, look}
 use Rattle.gate_rules.specs.declared.change.Change.{Change}
 use Rattle.gate_rules.specs.declared.change.Repeat.TheVariants as repeat
 use Rattle.gate_rules.specs.declared.rule.Rule.TheVariants.{UnknownChange, NotPermitted, NotOpen, Landing, NoSettings, NoBase, AlreadyApproved, AlreadyTrying, AlreadyOpen}
-use Rattle.gate_queue.specs.Counts.{occurs, inside, in_landing, held, held_by, of_any_priority}
+use Rattle.gate_state.specs.Counts.{occurs, inside, in_landing, held, held_by, of_any_priority}
 use Rattle.gate_queue.specs.Following.{with, without, without_any, has_head, is_ended, Leaves, ActByAct, LawOfTheQueue}
-use Rattle.gate_queue.specs.Lanes.{has_changes, is_landing, loses, back, back_uses, only, left, taken_out, taken_out_uses}
-use Rattle.gate_queue.specs.Machine.{broken, denial, meaning, done, unless_denied, missing, effect, altered, approved_by, with_try, without_try, with_priority, opened, pushed, moved_to, closed, unless_against, labeled, with_label, without_label, reviewed, with_review, approved_on, priority_on, size_on, trying_on, all_but, followed, tried_by, approval_followed, followed_on, ends_approval, with_delegates, with_author_as_delegate, without_delegates}
-use Rattle.gate_queue.specs.Queue as specs
-use Rattle.gate_queue.specs.State.{IsChange, IsWaiting, Marks, marks_on, IsBranch, IsState}
+use Rattle.gate_state.specs.Lanes.{has_changes, is_landing, loses, back, back_uses, only, left, taken_out, taken_out_uses}
+use Rattle.gate_queue.specs.Machine.{broken, denial, meaning, done, unless_denied, missing, effect, altered, approved_by, with_try, without_try, with_priority, opened, pushed, moved_to, closed, unless_against, labeled, with_label, without_label, reviewed, with_review, size_on, all_but, followed, tried_by, approval_followed, followed_on, ends_approval, with_delegates, with_author_as_delegate, without_delegates}
+use Rattle.gate_state.specs.State.{approved_on, priority_on, trying_on, IsChange, IsWaiting, Marks, marks_on, IsBranch, IsState}
+use Rattle.gate_state.specs.Queue as specs
 use Rattle.gate_queue.specs.declared.act.Act.{Act}
 use Rattle.gate_queue.specs.declared.act.Act.TheVariants.{Spoken, Opened, Pushed, Closed, Labeled, Unlabeled, Review}
-use Rattle.gate_queue.specs.declared.batch.Batch.{Batch}
-use Rattle.gate_queue.specs.declared.batch.Branch.{Branch}
-use Rattle.gate_queue.specs.declared.batch.Branch.TheVariants.{Staging, Trying}
-use Rattle.gate_queue.specs.declared.lane.Lane.{Lane}
-use Rattle.gate_queue.specs.declared.queue.Queue.{Queue}
-use Rattle.gate_queue.specs.declared.state.State.{State}
+use Rattle.gate_state.specs.declared.batch.Batch.{Batch}
+use Rattle.gate_state.specs.declared.batch.Branch.{Branch}
+use Rattle.gate_state.specs.declared.batch.Branch.TheVariants.{Staging, Trying}
+use Rattle.gate_state.specs.declared.lane.Lane.{Lane}
+use Rattle.gate_state.specs.declared.queue.Queue.{Queue}
+use Rattle.gate_state.specs.declared.state.State.{State}
 use Rattle.gate_queue.proofs.Changes.{altered_look, opened_at}
 use Rattle.gate_queue.proofs.Fitness.{passed}
 use Rattle.gate_queue.proofs.Meaning.{retry_means}

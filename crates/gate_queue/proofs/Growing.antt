@@ -3,27 +3,28 @@ use Rattle.std.proofs.Common.{◌≤◌, ◌+◌, ◌&&◌, ℕ, ℤ, leb, ltb, 
 use Rattle.std.proofs.lemmas.Bool.Decides.{nat_tests}
 use Rattle.gate_text.specs.Settings.{SettingsView, settings_of}
 use Rattle.gate_text.specs.declared.settings.fault.SettingsFault.{SettingsFault}
-use Rattle.gate_rules.specs.View.{DeskView, with_clock}
-use Rattle.gate_queue.specs.Counts.{uses}
-use Rattle.gate_queue.specs.Lanes.{joins, has_changes, has_several, back_uses, stops_running, running_back_uses, loses, only, taken_out_uses, restarted_uses, requeued_uses, failed_uses}
-use Rattle.gate_queue.specs.Machine.{trying_on, followed, tried_by, all_but, quiet, then_next, with_desk, with_queue, about, under, accepted, are_present, failing, try_ended, is_required, has_passed, has_staged, to_land, if_passed, goes_on, told_of, told_staging, try_if_passed, try_goes_on, try_told_of, told_trying, told, sent_back, tries_left, lands_with, has_overdue, timed_out, try_timed_out, ended_on_time, starting, all_starting, ordered_on, given_up, done}
-use Rattle.gate_queue.specs.Queue as specs
-use Rattle.gate_queue.specs.Service.{OnlyNew}
+use Rattle.gate_rules.specs.View.{DeskView, with_clock, is_required}
+use Rattle.gate_state.specs.Counts.{uses}
+use Rattle.gate_state.specs.Lanes.{joins, has_changes, has_several, back_uses, stops_running, running_back_uses, loses, only, taken_out_uses, restarted_uses, requeued_uses, failed_uses}
+use Rattle.gate_state.specs.State.{trying_on}
+use Rattle.gate_queue.specs.Machine.{followed, tried_by, all_but, quiet, then_next, with_desk, with_queue, about, under, accepted, are_present, failing, try_ended, has_passed, has_staged, to_land, if_passed, goes_on, told_of, told_staging, try_if_passed, try_goes_on, try_told_of, told_trying, told, sent_back, tries_left, lands_with, has_overdue, timed_out, try_timed_out, ended_on_time, starting, all_starting, ordered_on, given_up, done}
+use Rattle.gate_state.specs.Queue as specs
+use Rattle.gate_state.specs.Service.{OnlyNew}
 use Rattle.gate_queue.specs.declared.act.Act.{Act}
 use Rattle.gate_queue.specs.declared.act.Act.TheVariants.{Spoken, Role, Settings, Base, Opened, Pushed, Closed, Labeled, Unlabeled, Review, Staged, Conflict, Status, Refused, Tick}
 use Rattle.gate_queue.specs.declared.act.StatusState.{StatusState}
 use Rattle.gate_queue.specs.declared.act.StatusState.TheVariants.{Success, Failure, Error, Pending}
-use Rattle.gate_queue.specs.declared.batch.Batch.{Batch}
-use Rattle.gate_queue.specs.declared.batch.Branch.{Branch}
-use Rattle.gate_queue.specs.declared.batch.Branch.TheVariants.{Staging, Trying}
-use Rattle.gate_queue.specs.declared.batch.Report.{Report}
-use Rattle.gate_queue.specs.declared.batch.Report.TheVariants as report
-use Rattle.gate_queue.specs.declared.lane.Lane.{Lane}
-use Rattle.gate_queue.specs.declared.queue.Queue.{Queue}
+use Rattle.gate_state.specs.declared.batch.Batch.{Batch}
+use Rattle.gate_state.specs.declared.batch.Branch.{Branch}
+use Rattle.gate_state.specs.declared.batch.Branch.TheVariants.{Staging, Trying}
+use Rattle.gate_state.specs.declared.batch.Report.{Report}
+use Rattle.gate_state.specs.declared.batch.Report.TheVariants as report
+use Rattle.gate_state.specs.declared.lane.Lane.{Lane}
+use Rattle.gate_state.specs.declared.queue.Queue.{Queue}
 use Rattle.gate_queue.specs.declared.reply.Why.TheVariants as why
-use Rattle.gate_queue.specs.declared.state.Outcome.{Outcome}
-use Rattle.gate_queue.specs.declared.state.State.{State}
-use Rattle.gate_queue.proofs.Numbers.{enqueue_new, try_new, take_out_new, restart_new, requeue_new, fail_new, start_new, stage_new, report_new, land_new, drop_new}
+use Rattle.gate_queue.specs.declared.outcome.Outcome.{Outcome}
+use Rattle.gate_state.specs.declared.state.State.{State}
+use Rattle.gate_state.specs.Lemmas.Numbers.{enqueue_new, try_new, take_out_new, restart_new, requeue_new, fail_new, start_new, stage_new, report_new, land_new, drop_new}
 
 -- how many batches wait under a number
 abbrev pub waits : ℕ → Queue → ℕ

@@ -17,47 +17,46 @@ use Rattle.gate_text.specs.Same.{same_settings-is}
 use Rattle.gate_text.specs.Settings.{SettingsView, settings_of, same_settings}
 use Rattle.gate_text.specs.declared.settings.fault.SettingsFault.{SettingsFault}
 use Rattle.gate_rules.specs.Rules.{Look, is_open_phase}
-use Rattle.gate_rules.specs.View.{DeskView, empty_desk, with_clock, look}
+use Rattle.gate_rules.specs.View.{DeskView, empty_desk, with_clock, look, is_required}
 use Rattle.gate_rules.specs.declared.change.Change.{Change}
 use Rattle.gate_rules.specs.declared.role.Role.TheVariants.{Nobody}
 use Rattle.gate_rules.specs.declared.rule.Rule.{Rule}
 use Rattle.gate_rules.specs.declared.rule.Rule.TheVariants.{ClockBack, NoSuchBatch}
-use Rattle.gate_queue.specs.Acts.{IsMoment}
-use Rattle.gate_queue.specs.Counts.{occurs, in_landing, held, held_by, of_any_priority, uses}
+use Rattle.gate_state.specs.State.{IsMoment, approved_on, landing_on, trying_on, priority_on, IsState}
+use Rattle.gate_state.specs.Counts.{occurs, in_landing, held, held_by, of_any_priority, uses}
 use Rattle.gate_queue.specs.History.{Entry, Event, did, gave, given, ends_why, happened, events_of, last_of, said_on, author_back, head_back, settings_back, phase_back, labels_back, reviews_back, approval_said, standing_back, approvers_back, landing_back, trying_back, approvers_on, change_of, change_back, look_back, stages, keeps_order, keeps_staged, state_said, base_back, IsStandingAt, IsTriedAt, AreRightHeads, IsRightOrder, Legal, StateTells, EntryTells, entry_of, orders_in, denied_by}
-use Rattle.gate_queue.specs.Lanes as lanes
-use Rattle.gate_queue.specs.Lanes.{batches_of, is_landing}
-use Rattle.gate_queue.specs.Machine.{broken, denial, meaning, acted, missing, on_either, has_ordered, is_ordered, has_staged, is_staged_with, empty_state, answered, approved_on, landing_on, trying_on, priority_on, quiet, then_next, about, with_desk, with_queue, effect, notices, are_present, under, accepted, lone, lone_notices, failing, try_ended, given_up, ordered_on, is_required, has_passed, goes_on, told_of, told_staging, try_if_passed, try_goes_on, try_told_of, told_trying, told, lands_with, sent_back, has_overdue, timed_out, try_timed_out, ended_on_time, head_on, first_order, starting, all_starting, done, reply_to, unless_denied, after}
-use Rattle.gate_queue.specs.Queue as specs
-use Rattle.gate_queue.specs.Queue.{lane_of}
-use Rattle.gate_queue.specs.Service.{IsAlone}
-use Rattle.gate_queue.specs.State.{IsState}
+use Rattle.gate_state.specs.Lanes as lanes
+use Rattle.gate_state.specs.Lanes.{batches_of, is_landing}
+use Rattle.gate_queue.specs.Machine.{broken, denial, meaning, acted, missing, on_either, has_ordered, is_ordered, has_staged, is_staged_with, empty_state, answered, quiet, then_next, about, with_desk, with_queue, effect, notices, are_present, under, accepted, lone, lone_notices, failing, try_ended, given_up, ordered_on, has_passed, goes_on, told_of, told_staging, try_if_passed, try_goes_on, try_told_of, told_trying, told, lands_with, sent_back, has_overdue, timed_out, try_timed_out, ended_on_time, head_on, first_order, starting, all_starting, done, reply_to, unless_denied, after}
+use Rattle.gate_state.specs.Queue as specs
+use Rattle.gate_state.specs.Queue.{lane_of}
+use Rattle.gate_state.specs.Service.{IsAlone}
 use Rattle.gate_queue.specs.declared.act.Act.{Act}
 use Rattle.gate_queue.specs.declared.act.Act.TheVariants.{Spoken, Role, Settings, Base, Opened, Pushed, Closed, Labeled, Unlabeled, Review, Staged, Conflict, Status, Refused, Tick}
 use Rattle.gate_queue.specs.declared.act.StatusState.{StatusState}
 use Rattle.gate_queue.specs.declared.act.StatusState.TheVariants.{Success, Failure, Error, Pending}
-use Rattle.gate_queue.specs.declared.batch.Batch.{Batch}
-use Rattle.gate_queue.specs.declared.batch.Branch.{Branch}
-use Rattle.gate_queue.specs.declared.batch.Branch.TheVariants.{Staging, Trying}
-use Rattle.gate_queue.specs.declared.batch.Report.{Report}
-use Rattle.gate_queue.specs.declared.batch.Report.TheVariants as report
-use Rattle.gate_queue.specs.declared.batch.Stage.{Stage as StageOf}
-use Rattle.gate_queue.specs.declared.batch.Stage.TheVariants as stage
-use Rattle.gate_queue.specs.declared.lane.Lane.{Lane}
+use Rattle.gate_state.specs.declared.batch.Batch.{Batch}
+use Rattle.gate_state.specs.declared.batch.Branch.{Branch}
+use Rattle.gate_state.specs.declared.batch.Branch.TheVariants.{Staging, Trying}
+use Rattle.gate_state.specs.declared.batch.Report.{Report}
+use Rattle.gate_state.specs.declared.batch.Report.TheVariants as report
+use Rattle.gate_state.specs.declared.batch.Stage.{Stage as StageOf}
+use Rattle.gate_state.specs.declared.batch.Stage.TheVariants as stage
+use Rattle.gate_state.specs.declared.lane.Lane.{Lane}
 use Rattle.gate_queue.specs.declared.reply.Order.{Order}
 use Rattle.gate_queue.specs.declared.reply.Order.TheVariants.{Stage, Land, Notice}
 use Rattle.gate_queue.specs.declared.reply.Reply.{Reply}
 use Rattle.gate_queue.specs.declared.reply.Reply.TheVariants.{Denied}
 use Rattle.gate_queue.specs.declared.reply.Why.{Why}
 use Rattle.gate_queue.specs.declared.reply.Why.TheVariants as why
-use Rattle.gate_queue.specs.declared.state.Outcome.{Outcome}
-use Rattle.gate_queue.specs.declared.state.State.{State}
+use Rattle.gate_queue.specs.declared.outcome.Outcome.{Outcome}
+use Rattle.gate_state.specs.declared.state.State.{State}
 use Rattle.gate_queue.proofs.After.{standing_fit}
 use Rattle.gate_queue.proofs.Doing.{about_are, accepted_are, fact_kept, clock_kept, done_kept}
 use Rattle.gate_queue.proofs.Fitness.{opened_so, passed, unless_so}
 use Rattle.gate_queue.proofs.Meaning.{meaning_allowed, meaning_right}
 use Rattle.gate_queue.proofs.Growing.{waits}
-use Rattle.gate_queue.proofs.Numbers.{has_number}
+use Rattle.gate_state.specs.Lemmas.Numbers.{has_number}
 use Rattle.gate_queue.proofs.States.{Holds, clock_holds, ended_on_time_holds, starting_holds, still_clock, queued_held, tried_held}
 use Rattle.gate_queue.proofs.Steps.{Kept, AreNotices, IsNext, stage_on, given-append, other_number, first_used, first_kind, first_based, still_runs, tries_left_staging, starting_kept, ended_on_time_kept}
 use Rattle.gate_queue.proofs.Tested.{Tests, TestsAt, IsAt, Elsewhere, EndNone, stage_tests, other_tests, staged_tests, unasked, elsewhere_told}

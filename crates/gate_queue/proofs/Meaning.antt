@@ -16,13 +16,13 @@ use Rattle.gate_rules.specs.declared.rule.Rule.TheVariants.{UnknownChange, NotPe
 use Rattle.gate_queue.specs.Acts.{ActKeepsLimits}
 use Rattle.gate_queue.specs.History.{Event, IsRightOrder}
 use Rattle.gate_queue.specs.Machine.{broken, missing, denial, repeated, meaning, done, unless_denied, after}
-use Rattle.gate_queue.specs.State.{IsChange, RepeatKeepsLimits, IsState}
+use Rattle.gate_state.specs.State.{IsChange, RepeatKeepsLimits, IsState}
 use Rattle.gate_queue.specs.declared.act.Act.{Act}
 use Rattle.gate_queue.specs.declared.act.Act.TheVariants.{Spoken, Role, Settings, Base, Opened, Pushed, Closed, Labeled, Unlabeled, Review, Staged, Conflict, Status, Refused, Tick}
-use Rattle.gate_queue.specs.declared.queue.Queue.{Queue}
+use Rattle.gate_state.specs.declared.queue.Queue.{Queue}
 use Rattle.gate_queue.specs.declared.reply.Order.{Order}
 use Rattle.gate_queue.specs.declared.reply.Order.TheVariants.{Stage, Land, Notice}
-use Rattle.gate_queue.specs.declared.state.State.{State}
+use Rattle.gate_state.specs.declared.state.State.{State}
 use Rattle.gate_queue.proofs.Wording.{none_both}
 
 -- An act means itself, but for a `retry`.

@@ -15,39 +15,39 @@ use Rattle.gate_text.specs.Finite.{get-mapped}
 use Rattle.gate_text.specs.Settings.{SettingsView, settings_of}
 use Rattle.gate_text.specs.declared.settings.fault.SettingsFault.{SettingsFault}
 use Rattle.gate_rules.specs.Rules.{Look, is_blocked, has_too_few_reviews}
-use Rattle.gate_rules.specs.View.{DeskView, with_base, with_clock, without_approval, look}
+use Rattle.gate_rules.specs.View.{DeskView, with_base, with_clock, without_approval, look, is_required}
 use Rattle.gate_rules.specs.declared.change.Change.{Change}
 use Rattle.gate_rules.specs.declared.rule.Rule.{Rule}
 use Rattle.gate_rules.specs.declared.rule.Rule.TheVariants.{ClockBack}
-use Rattle.gate_queue.specs.Acts.{ActKeepsLimits, IsMoment}
-use Rattle.gate_queue.specs.Counts.{occurs, held, held_by, in_landing, of_any_priority}
-use Rattle.gate_queue.specs.Lanes as lanes
-use Rattle.gate_queue.specs.Lanes.{empty_lane, is_landing}
-use Rattle.gate_queue.specs.Machine.{empty_state, broken, denial, meaning, missing, has_ordered, is_ordered, has_staged, is_staged_with, effect, all_altered, without_try, closed, with_label, without_label, with_review, approved_on, landing_on, priority_on, trying_on, quiet, then_next, with_desk, with_queue, about, with_settled, settled, loses_approval, are_present, with_new_settings, under, accepted, lone, lone_altered, failing, is_required, has_passed, with_landing, to_land, if_passed, goes_on, told_of, told_staging, told_trying, try_told_of, try_goes_on, try_if_passed, try_ended, told, given_up, landed, released, released_at, released_on, sent_back, is_landing_with, lands_with, tries_left, rebased, is_overdue, has_overdue, timed_out, try_timed_out, ended_on_time, starting, done, unless_denied, after}
-use Rattle.gate_queue.specs.Queue as specs
-use Rattle.gate_queue.specs.Service.{IsInOrder, QueueIsInOrder, IsAlone, AreAlone}
-use Rattle.gate_queue.specs.State.{IsChange, IsDesk, Marks, IsRunning, IsBranch, IsQueue, IsState, marks_on}
+use Rattle.gate_queue.specs.Acts.{ActKeepsLimits}
+use Rattle.gate_state.specs.State.{IsMoment, approved_on, landing_on, priority_on, trying_on, IsChange, IsDesk, Marks, IsRunning, IsBranch, IsQueue, IsState, marks_on}
+use Rattle.gate_state.specs.Counts.{occurs, held, held_by, in_landing, of_any_priority}
+use Rattle.gate_state.specs.Lanes as lanes
+use Rattle.gate_state.specs.Lanes.{empty_lane, is_landing}
+use Rattle.gate_queue.specs.Machine.{empty_state, broken, denial, meaning, missing, has_ordered, is_ordered, has_staged, is_staged_with, effect, all_altered, without_try, closed, with_label, without_label, with_review, quiet, then_next, with_desk, with_queue, about, with_settled, settled, loses_approval, are_present, with_new_settings, under, accepted, lone, lone_altered, failing, has_passed, with_landing, to_land, if_passed, goes_on, told_of, told_staging, told_trying, try_told_of, try_goes_on, try_if_passed, try_ended, told, given_up, landed, released, released_at, released_on, sent_back, is_landing_with, lands_with, tries_left, rebased, is_overdue, has_overdue, timed_out, try_timed_out, ended_on_time, starting, done, unless_denied, after}
+use Rattle.gate_state.specs.Queue as specs
+use Rattle.gate_state.specs.Service.{IsInOrder, QueueIsInOrder, IsAlone, AreAlone}
 use Rattle.gate_queue.specs.declared.act.Act.{Act}
 use Rattle.gate_queue.specs.declared.act.Act.TheVariants.{Spoken, Role, Settings, Base, Opened, Pushed, Closed, Labeled, Unlabeled, Review, Staged as StagedAct, Conflict, Status, Refused, Tick}
 use Rattle.gate_queue.specs.declared.act.StatusState.{StatusState}
 use Rattle.gate_queue.specs.declared.act.StatusState.TheVariants.{Success, Failure, Error, Pending}
-use Rattle.gate_queue.specs.declared.batch.Batch.{Batch}
-use Rattle.gate_queue.specs.declared.batch.Branch.{Branch}
-use Rattle.gate_queue.specs.declared.batch.Branch.TheVariants.{Staging, Trying}
-use Rattle.gate_queue.specs.declared.batch.Report.{Report}
-use Rattle.gate_queue.specs.declared.batch.Report.TheVariants as report
-use Rattle.gate_queue.specs.declared.batch.Stage.{Stage}
-use Rattle.gate_queue.specs.declared.batch.Stage.TheVariants.{Waiting, Ordered, Staged, Landing}
-use Rattle.gate_queue.specs.declared.lane.Lane.{Lane}
-use Rattle.gate_queue.specs.declared.queue.Queue.{Queue}
+use Rattle.gate_state.specs.declared.batch.Batch.{Batch}
+use Rattle.gate_state.specs.declared.batch.Branch.{Branch}
+use Rattle.gate_state.specs.declared.batch.Branch.TheVariants.{Staging, Trying}
+use Rattle.gate_state.specs.declared.batch.Report.{Report}
+use Rattle.gate_state.specs.declared.batch.Report.TheVariants as report
+use Rattle.gate_state.specs.declared.batch.Stage.{Stage}
+use Rattle.gate_state.specs.declared.batch.Stage.TheVariants.{Waiting, Ordered, Staged, Landing}
+use Rattle.gate_state.specs.declared.lane.Lane.{Lane}
+use Rattle.gate_state.specs.declared.queue.Queue.{Queue}
 use Rattle.gate_queue.specs.declared.reply.Why.{Why}
 use Rattle.gate_queue.specs.declared.reply.Why.TheVariants as why
-use Rattle.gate_queue.specs.declared.state.State.{State}
+use Rattle.gate_state.specs.declared.state.State.{State}
 use Rattle.gate_queue.proofs.Changes.{all_look, lone_rest, lone_same, lone_ends}
 use Rattle.gate_queue.proofs.Fitness.{passed}
 use Rattle.gate_queue.proofs.Growing.{queue_grows}
-use Rattle.gate_queue.proofs.Alone.{singles_law}
-use Rattle.gate_queue.proofs.Apart.{taken_out_order, restarted_order, requeued_order, failed_order, started_order, staged_order, reported_order, landing_order, dropped_order}
+use Rattle.gate_state.specs.Lemmas.Alone.{singles_law}
+use Rattle.gate_state.specs.Lemmas.Apart.{taken_out_order, restarted_order, requeued_order, failed_order, started_order, staged_order, reported_order, landing_order, dropped_order}
 use Rattle.gate_queue.proofs.Keeping.{OnlyAt, lands, none_landing, some_there, none_there, on_time, follow_keeps, taken_out_keeps, restarted_keeps, requeued_keeps, later_keeps, started_keeps, staged_keeps, reported_keeps, landing_keeps, failed_keeps}
 use Rattle.gate_queue.proofs.Limits.{lone_keeps, all_keep, ended_keeps, untried_keeps, marked_keeps, released_keeps, effect_keeps, settings_keep, base_keeps, clock_keeps, role_keeps, empty_is_desk}
 use Rattle.gate_queue.proofs.Meaning.{meaning_allowed, meaning_limits}

@@ -10,41 +10,41 @@ use Rattle.std.specs.Option.{option_flatten, option_map, option_map_or, option_o
 use Rattle.gate_text.specs.Settings.{SettingsView}
 use Rattle.gate_text.specs.declared.settings.fault.SettingsFault.{SettingsFault}
 use Rattle.gate_rules.specs.Rules.{Look}
-use Rattle.gate_rules.specs.View.{DeskView, look}
+use Rattle.gate_rules.specs.View.{DeskView, look, is_required}
 use Rattle.gate_rules.specs.declared.change.Change.{Change}
-use Rattle.gate_queue.specs.Counts.{held, held_by, of_any_priority, uses}
+use Rattle.gate_state.specs.Counts.{held, held_by, of_any_priority, uses}
 use Rattle.gate_queue.specs.History.{Event, did, gave, given, last_of, landing_said, author_back, change_of, names_change, batches_back, landing_with, is_order, is_stage_of, is_land_of, stages, landings, ends_why, tells_of_try, look_back}
-use Rattle.gate_queue.specs.Lanes as lanes
-use Rattle.gate_queue.specs.Lanes.{batches_of, is_landing, ordered_at, back, only, left, loses, stops_running, with_report, reported_on, staged_at, to_landing, to_land as lanes_to_land, taken_out, restarted, failed}
-use Rattle.gate_queue.specs.Machine.{broken, approved_on, trying_on, priority_on, size_on, all_but, followed, approval_followed, followed_on, quiet, then_next, are_present, under, accepted, lone, lone_notices, failing, try_ended, is_required, has_passed, has_staged, to_land, land_order, if_passed, goes_on, told_of, told_staging, try_if_passed, try_goes_on, try_told_of, told_trying, told, tries_left, head_on, first_order, starting, all_starting, with_queue, has_overdue, timed_out, try_timed_out, ended_on_time}
-use Rattle.gate_queue.specs.Queue as specs
-use Rattle.gate_queue.specs.Queue.{lane_of}
-use Rattle.gate_queue.specs.State.{IsWaiting}
+use Rattle.gate_state.specs.Lanes as lanes
+use Rattle.gate_state.specs.Lanes.{batches_of, is_landing, ordered_at, back, only, left, loses, stops_running, with_report, reported_on, staged_at, to_landing, to_land as lanes_to_land, taken_out, restarted, failed}
+use Rattle.gate_queue.specs.Machine.{broken, size_on, all_but, followed, approval_followed, followed_on, quiet, then_next, are_present, under, accepted, lone, lone_notices, failing, try_ended, has_passed, has_staged, to_land, land_order, if_passed, goes_on, told_of, told_staging, try_if_passed, try_goes_on, try_told_of, told_trying, told, tries_left, head_on, first_order, starting, all_starting, with_queue, has_overdue, timed_out, try_timed_out, ended_on_time}
+use Rattle.gate_state.specs.State.{approved_on, trying_on, priority_on, IsWaiting}
+use Rattle.gate_state.specs.Queue as specs
+use Rattle.gate_state.specs.Queue.{lane_of}
 use Rattle.gate_queue.specs.declared.act.Act.{Act}
 use Rattle.gate_queue.specs.declared.act.StatusState.{StatusState}
 use Rattle.gate_queue.specs.declared.act.StatusState.TheVariants.{Success, Failure, Error, Pending}
-use Rattle.gate_queue.specs.declared.batch.Batch.{Batch}
-use Rattle.gate_queue.specs.declared.batch.Branch.{Branch}
-use Rattle.gate_queue.specs.declared.batch.Branch.TheVariants.{Staging, Trying}
-use Rattle.gate_queue.specs.declared.batch.Report.{Report}
-use Rattle.gate_queue.specs.declared.batch.Report.TheVariants as report
-use Rattle.gate_queue.specs.declared.batch.Stage.{Stage as StageOf}
-use Rattle.gate_queue.specs.declared.batch.Stage.TheVariants as stage
-use Rattle.gate_queue.specs.declared.lane.Lane.{Lane}
-use Rattle.gate_queue.specs.declared.queue.Queue.{Queue}
+use Rattle.gate_state.specs.declared.batch.Batch.{Batch}
+use Rattle.gate_state.specs.declared.batch.Branch.{Branch}
+use Rattle.gate_state.specs.declared.batch.Branch.TheVariants.{Staging, Trying}
+use Rattle.gate_state.specs.declared.batch.Report.{Report}
+use Rattle.gate_state.specs.declared.batch.Report.TheVariants as report
+use Rattle.gate_state.specs.declared.batch.Stage.{Stage as StageOf}
+use Rattle.gate_state.specs.declared.batch.Stage.TheVariants as stage
+use Rattle.gate_state.specs.declared.lane.Lane.{Lane}
+use Rattle.gate_state.specs.declared.queue.Queue.{Queue}
 use Rattle.gate_queue.specs.declared.reply.Head.{Head}
 use Rattle.gate_queue.specs.declared.reply.Order.{Order}
 use Rattle.gate_queue.specs.declared.reply.Order.TheVariants.{Stage, Land, Notice}
 use Rattle.gate_queue.specs.declared.reply.Why.{Why}
 use Rattle.gate_queue.specs.declared.reply.Why.TheVariants as why
-use Rattle.gate_queue.specs.declared.state.Outcome.{Outcome}
-use Rattle.gate_queue.specs.declared.state.State.{State}
+use Rattle.gate_queue.specs.declared.outcome.Outcome.{Outcome}
+use Rattle.gate_state.specs.declared.state.State.{State}
 use Rattle.gate_queue.proofs.Acting.{AreMild, failing_look, try_ended_look, starting_look, land_look}
 use Rattle.gate_queue.proofs.After.{order_elsewhere}
 use Rattle.gate_queue.proofs.Growing.{waits, Grows, same_grows, failed_grows, started_grows, reported_grows, dropped_grows}
 use Rattle.gate_queue.proofs.Keeping.{lands, some_there, tried_by_staging}
 use Rattle.gate_queue.proofs.Landing.{Lands, Members, list_any_skip, commit_of, landing_of, none_lands, named_heads, staged_named}
-use Rattle.gate_queue.proofs.Numbers.{has_number, all_uses}
+use Rattle.gate_state.specs.Lemmas.Numbers.{has_number, all_uses}
 use Rattle.gate_queue.proofs.States.{Holds, ready, tried_ready, running_ready, queued_held, tried_held, staged_so, overdue_so, reported_holds, starting_holds}
 use Rattle.gate_queue.proofs.Unseen.{Unseen, order_unseen, still_unseen}
 

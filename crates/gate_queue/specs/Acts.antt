@@ -1,9 +1,10 @@
 -- WHAT AN ACT IS ABOUT, and the limits that it keeps.
-use Rattle.std.specs.Prelude.{ℕ, ◌==◌, ◌≤◌, false, ⊤, Option, Some, None, if◌then◌else◌}
+use Rattle.std.specs.Prelude.{ℕ, ◌==◌, false, ⊤, Option, Some, None, if◌then◌else◌}
 use Rattle.std.specs.Option.{option_map_or}
 use Rattle.gate_text.specs.Limits.{IsPriority, AreNames}
 use Rattle.gate_text.specs.declared.command.Command.TheVariants.{ApproveFor, Priority}
 use Rattle.gate_text.specs.declared.command.Spoken.TheVariants.{Known}
+use Rattle.gate_state.specs.State.{IsMoment}
 use Rattle.gate_queue.specs.declared.act.Act.{Act}
 use Rattle.gate_queue.specs.declared.act.Act.TheVariants.{Spoken, Role, Settings, Base, Opened, Pushed, Closed, Labeled, Unlabeled, Review, Staged, Conflict, Status, Refused, Tick}
 
@@ -28,10 +29,6 @@ subject (Tick now) = None
 -- the act, if it is about this change
 abbrev pub on : ℕ → Act → Option Act
 on change act = if option_map_or (λ other. change == other) (subject act) false then Some act else None
-
--- a reading of the clock
-abbrev pub IsMoment : ℕ → Type 0
-IsMoment moment = moment ≤ 9_000_000_000_000_000
 
 -- A priority is from -9999 to 9999, an `r=` lists one or more names, no two the same, and a reading of the clock is not above
 -- its limit. What comments and deliveries are read as keeps that.

@@ -6,11 +6,11 @@ use Rattle.std.specs.Option.{option_map_or}
 use Rattle.std.specs.Ordering.{int_eq}
 use Rattle.std.specs.Str.{bytes_eq}
 use Rattle.gate_queue.specs.Vocabulary.{Ping, Approve, ApproveFor, Withdraw, Priority, Try, TryCancel, DelegateAuthor, DelegateTo, DelegateNone, Retry, last_command, look, Known, Change, State, Act, Spoken, Opened, Pushed, Closed, Labeled, Unlabeled, Review}
-use Rattle.gate_queue.specs.Machine.{denial, repeated, after, approved_on, priority_on, size_on, all_but, ends_approval, labeled, reviewed}
-use Rattle.gate_queue.specs.Queue.{enqueued, tried, taken_out}
-use Rattle.gate_queue.specs.State.{IsState}
-use Rattle.gate_queue.specs.declared.batch.Branch.TheVariants.{Staging, Trying}
-use Rattle.gate_queue.specs.declared.queue.Queue.{Queue}
+use Rattle.gate_queue.specs.Machine.{denial, repeated, after, size_on, all_but, ends_approval, labeled, reviewed}
+use Rattle.gate_state.specs.State.{approved_on, priority_on, IsState}
+use Rattle.gate_state.specs.Queue.{enqueued, tried, taken_out}
+use Rattle.gate_state.specs.declared.batch.Branch.TheVariants.{Staging, Trying}
+use Rattle.gate_state.specs.declared.queue.Queue.{Queue}
 
 -- the queue with a change under its priority, without it, and without it on either branch
 abbrev pub with : State → ℕ → Queue

@@ -11,11 +11,11 @@ use Rattle.gate_queue.specs.Vocabulary.{SettingsView, settings_of, same_settings
 use Rattle.gate_rules.specs.declared.change.Phase.TheVariants as phase
 use Rattle.gate_rules.specs.declared.change.Repeat.TheVariants as repeat
 use Rattle.gate_queue.specs.Acts.{on}
-use Rattle.gate_queue.specs.Counts.{held, in_landing, of_any_priority}
+use Rattle.gate_state.specs.Counts.{held, in_landing, of_any_priority}
 use Rattle.gate_queue.specs.Machine.{IsEmpty, broken, missing, meaning, Step}
-use Rattle.gate_queue.specs.State.{IsState}
-use Rattle.gate_queue.specs.declared.batch.Branch.{Branch}
-use Rattle.gate_queue.specs.declared.batch.Branch.TheVariants.{Staging, Trying}
+use Rattle.gate_state.specs.State.{IsState}
+use Rattle.gate_state.specs.declared.batch.Branch.{Branch}
+use Rattle.gate_state.specs.declared.batch.Branch.TheVariants.{Staging, Trying}
 use Rattle.gate_queue.specs.declared.reply.Head.{Head}
 use Rattle.gate_queue.specs.declared.reply.Why.TheVariants as why
 

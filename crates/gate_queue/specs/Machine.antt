@@ -9,22 +9,24 @@ use Rattle.std.specs.List.{fold, filter_map, list_all, list_any}
 use Rattle.std.specs.Option.{option_map, option_map_or, option_and_then, option_or}
 use Rattle.std.specs.Ordering.{int_eq, nat_cmp}
 use Rattle.std.specs.Str.{bytes_eq}
-use Rattle.gate_queue.specs.Vocabulary.{SettingsView, settings_of, fault_number, same_settings, Command, Ping, Approve, ApproveFor, Withdraw, Priority, Try, TryCancel, DelegateAuthor, DelegateTo, DelegateNone, Retry, Known, Unknown, SettingsFault, Look, asks, last_command, is_known, is_open, is_landed, is_member, is_blocked, has_too_few_reviews, first_failing, DeskView, empty_desk, with_role, with_change, with_settings, with_base, with_clock, with_ended, numbers_where, ended_if, without_approval, look, Change, Repeat, Nobody, Rule, UnknownChange, NotOpen, AlreadyOpen, ChangeLanded, StaleHead, NotMember, OwnChange, BadSettings, ClockBack, NoSuchBatch, SameAsBase, Act, Spoken, Role, Settings, Base, Opened, Pushed, Closed, Labeled, Unlabeled, Review, Staged, Conflict, Status, Refused, Tick, StatusState, Success, Failure, Error, Pending, Order, Stage, Land, Notice, Reply, Done, Denied, Why, State, Outcome}
+use Rattle.gate_queue.specs.Vocabulary.{SettingsView, settings_of, fault_number, same_settings, Command, Ping, Approve, ApproveFor, Withdraw, Priority, Try, TryCancel, DelegateAuthor, DelegateTo, DelegateNone, Retry, Known, Unknown, SettingsFault, Look, asks, last_command, is_known, is_open, is_landed, is_member, is_blocked, has_too_few_reviews, first_failing, DeskView, empty_desk, with_role, with_change, with_settings, with_base, with_clock, with_ended, numbers_where, ended_if, without_approval, is_required, look, Change, Repeat, Nobody, Rule, UnknownChange, NotOpen, AlreadyOpen, ChangeLanded, StaleHead, NotMember, OwnChange, BadSettings, ClockBack, NoSuchBatch, SameAsBase, Act, Spoken, Role, Settings, Base, Opened, Pushed, Closed, Labeled, Unlabeled, Review, Staged, Conflict, Status, Refused, Tick, StatusState, Success, Failure, Error, Pending, Order, Stage, Land, Notice, Reply, Done, Denied, Why, State, Outcome}
 use Rattle.gate_rules.specs.Rules as rules
 use Rattle.gate_rules.specs.declared.change.Phase.TheVariants as phase
 use Rattle.gate_rules.specs.declared.change.Repeat.TheVariants as repeat
 use Rattle.gate_queue.specs.Acts.{subject}
-use Rattle.gate_queue.specs.Lanes as lanes
-use Rattle.gate_queue.specs.Queue.{empty_queue, lane_of, enqueued, tried, taken_out, restarted, requeued, staged, failed, started, reported, landing, dropped}
-use Rattle.gate_queue.specs.declared.batch.Batch.{Batch}
-use Rattle.gate_queue.specs.declared.batch.Branch.{Branch}
-use Rattle.gate_queue.specs.declared.batch.Branch.TheVariants.{Staging, Trying}
-use Rattle.gate_queue.specs.declared.batch.Report.{Report}
-use Rattle.gate_queue.specs.declared.batch.Report.TheVariants as report
-use Rattle.gate_queue.specs.declared.batch.Stage.{Stage as StageOf}
-use Rattle.gate_queue.specs.declared.batch.Stage.TheVariants as stage
-use Rattle.gate_queue.specs.declared.lane.Lane.{Lane}
-use Rattle.gate_queue.specs.declared.queue.Queue.{Queue}
+use Rattle.gate_state.specs.Lanes as lanes
+use Rattle.gate_state.specs.Lanes.{has_succeeded}
+use Rattle.gate_state.specs.Queue.{empty_queue, lane_of, enqueued, tried, taken_out, restarted, requeued, staged, failed, started, reported, landing, dropped}
+use Rattle.gate_state.specs.State.{approved_on, priority_on, trying_on}
+use Rattle.gate_state.specs.declared.batch.Batch.{Batch}
+use Rattle.gate_state.specs.declared.batch.Branch.{Branch}
+use Rattle.gate_state.specs.declared.batch.Branch.TheVariants.{Staging, Trying}
+use Rattle.gate_state.specs.declared.batch.Report.{Report}
+use Rattle.gate_state.specs.declared.batch.Report.TheVariants as report
+use Rattle.gate_state.specs.declared.batch.Stage.{Stage as StageOf}
+use Rattle.gate_state.specs.declared.batch.Stage.TheVariants as stage
+use Rattle.gate_state.specs.declared.lane.Lane.{Lane}
+use Rattle.gate_state.specs.declared.queue.Queue.{Queue}
 use Rattle.gate_queue.specs.declared.reply.Head.{Head}
 use Rattle.gate_queue.specs.declared.reply.Why.TheVariants as why
 
@@ -298,18 +300,6 @@ notices desk act = []
 
 -- THE QUEUE FOLLOWS what an act does to one change: it sees whether the change was approved and is, and its priority; and whether
 -- it was tried and is.
-abbrev pub approved_on : DeskView → ℕ → Bool
-approved_on desk change = rules.is_approved (look desk) change
-
-abbrev pub landing_on : DeskView → ℕ → Bool
-landing_on desk change = rules.is_landing (look desk) change
-
-abbrev pub trying_on : DeskView → ℕ → Bool
-trying_on desk change = rules.is_trying (look desk) change
-
-abbrev pub priority_on : DeskView → ℕ → ℤ
-priority_on desk change = option_map_or (λ (c : Change). c.priority) (finite.get desk.changes change) (pos 0)
-
 abbrev pub size_on : DeskView → Option ℕ
 size_on desk = option_and_then (λ (settings : SettingsView). settings.max_batch_size) desk.settings
 
@@ -409,16 +399,6 @@ try_ended why s = record {
 -- A STATUS of a commit that is tested: one that isn't required does nothing. One that has failed fails the batch. Another
 -- takes the place of the last report of that name; and if all required names now report a success, the batch is to land, or
 -- the try has passed. If a batch of each branch was staged with the commit, that on `Staging` comes first.
-abbrev pub is_required : Option SettingsView → List ℕ → Bool
-is_required settings name = option_map_or (λ (s : SettingsView). list_any (bytes_eq name) s.status) settings false
-
-abbrev pub is_success : Report → Bool
-is_success report.Success = true
-is_success report.Pending = false
-
-abbrev pub has_succeeded : FinMap (slice_cmp nat_cmp) Report → List ℕ → Bool
-has_succeeded reports name = option_map_or is_success (finite.get reports name) false
-
 abbrev pub has_passed : Option SettingsView → StageOf → Bool
 has_passed settings stage.Waiting = false
 has_passed settings (stage.Ordered since) = false

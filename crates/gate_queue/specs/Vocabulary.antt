@@ -8,7 +8,7 @@ pub use Rattle.gate_text.specs.declared.command.Spoken.TheVariants.{Known, Unkno
 pub use Rattle.gate_text.specs.declared.settings.fault.SettingsFault.{SettingsFault}
 -- people, changes, the desk, the rules
 pub use Rattle.gate_rules.specs.Rules.{Look, Texts, asks, last_command, is_known, is_open, is_landed, is_member, is_blocked, has_too_few_reviews, is_fit, first_failing}
-pub use Rattle.gate_rules.specs.View.{DeskView, empty_desk, with_role, role_on, with_change, with_settings, with_base, with_clock, with_ended, numbers_where, ended_if, without_approval, look}
+pub use Rattle.gate_rules.specs.View.{DeskView, empty_desk, with_role, role_on, with_change, with_settings, with_base, with_clock, with_ended, numbers_where, ended_if, without_approval, is_required, look}
 pub use Rattle.gate_rules.specs.declared.change.Change.{Change}
 pub use Rattle.gate_rules.specs.declared.change.Phase.{Phase}
 pub use Rattle.gate_rules.specs.declared.change.Repeat.{Repeat}
@@ -27,5 +27,5 @@ pub use Rattle.gate_queue.specs.declared.reply.Reply.{Reply}
 pub use Rattle.gate_queue.specs.declared.reply.Reply.TheVariants.{Done, Denied}
 pub use Rattle.gate_queue.specs.declared.reply.Why.{Why}
 -- states
-pub use Rattle.gate_queue.specs.declared.state.State.{State}
-pub use Rattle.gate_queue.specs.declared.state.Outcome.{Outcome}
+pub use Rattle.gate_state.specs.declared.state.State.{State}
+pub use Rattle.gate_queue.specs.declared.outcome.Outcome.{Outcome}

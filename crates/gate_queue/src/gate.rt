@@ -2,24 +2,21 @@ ghost use Rattle.std.specs.Prelude.{◌≡◌, ◌↔◌, ◌⊎◌, ◌<◌, �
 ghost use Rattle.std.specs.FinMap as map;
 ghost use Rattle.std.specs.Option.{option_copied};
 ghost use Rattle.gate_rules.specs.declared.rule.Rule.{Rule};
-ghost use Rattle.gate_queue.specs.Acts.{ActKeepsLimits, IsMoment};
+ghost use Rattle.gate_queue.specs.Acts.{ActKeepsLimits};
+ghost use Rattle.gate_state.specs.State.{IsMoment, IsState};
 ghost use Rattle.gate_queue.specs.History.{Entry, Legal, EntryTells, entry_of};
 ghost use Rattle.gate_queue.specs.Machine.{DeskTakesNoMemory, QueueTakesNoMemory, RefusalMayWantMemory, Step, denial, empty_state};
-ghost use Rattle.gate_queue.specs.Queue as queue_specs;
-ghost use Rattle.gate_queue.specs.Service.{QueueIsInOrder};
-ghost use Rattle.gate_queue.specs.State.{IsState};
+ghost use Rattle.gate_state.specs.Queue as queue_specs;
+ghost use Rattle.gate_state.specs.Service.{QueueIsInOrder};
 ghost use Rattle.gate_queue.specs.declared.reply.Reply.TheVariants.{Denied};
 
 use crate::act::Act;
-use crate::batch::Batch;
-use crate::checking::fits;
 use crate::fault::Fault;
 use crate::judging::rule_of;
-use crate::queue::Queue;
 use crate::reply::Reply;
-use crate::state::State;
 use crate::stepping::step;
 use gate_rules::{Change, Desk, Rule};
+use gate_state::{Batch, Queue, State};
 use gate_text::ChangeNo;
 use std::alloc::{AllocError, Global};
 use std::marker::Model;
@@ -33,8 +30,8 @@ pub struct Gate {
 impl Model for Gate {
     ghost use Rattle.std.specs.Coded.{codes};
     ghost use Rattle.gate_text.specs.Finite.{finite_codes};
-    ghost use Rattle.gate_queue.specs.declared.state.State.{State};
-    ghost use Rattle.gate_queue.specs.State.{IsState};
+    ghost use Rattle.gate_state.specs.declared.state.State.{State};
+    ghost use Rattle.gate_state.specs.State.{IsState};
 
     ghost Value = { State };
 
@@ -79,7 +76,7 @@ impl Gate {
         // It refuses only what is no state.
         ensures refused { result ≡ None → IsState state → ⊥ }
     {
-        if fits(&state) {
+        if state.fits() {
             Some(Gate { state })
         } else {
             None

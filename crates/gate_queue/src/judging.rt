@@ -7,11 +7,8 @@ ghost use Rattle.gate_queue.specs.Machine.{RefusalMayWantMemory, DeskTakesNoMemo
 ghost use Rattle.gate_queue.specs.declared.act.Act.TheVariants as act;
 
 use crate::act::Act;
-use crate::batch::Stage;
-use crate::lane::Lane;
-use crate::queue::Queue;
-use crate::waiting::is_landing;
 use gate_rules::{Desk, Rule};
+use gate_state::{Lane, Queue, Stage};
 use gate_text::{ChangeNo, Commit, Name, SettingsFault, Text, read_settings};
 use std::alloc::{AllocError, Global};
 
@@ -120,7 +117,7 @@ fn has_landing(lane: &Lane, number: u64) -> bool
     ensures { result ≡ machine.has_landing number lane.now }
 {
     match &lane.running {
-        Some(batch) => number == batch.number && is_landing(batch),
+        Some(batch) => number == batch.number && batch.is_landing(),
         None => false,
     }
 }

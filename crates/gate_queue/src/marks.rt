@@ -2,14 +2,13 @@ ghost use Rattle.std.specs.Prelude.{◌≡◌, ◌≤◌, ◌<◌, ◌&&◌, not
 ghost use Rattle.std.proofs.Math.Bool.{beq};
 ghost use Rattle.std.specs.Ordering.{int_eq};
 ghost use Rattle.gate_queue.specs.Machine as machine;
-ghost use Rattle.gate_queue.specs.Machine.{approved_on, followed, needs_no_move, priority_on, tried_by, trying_on};
-ghost use Rattle.gate_queue.specs.Queue as queue_specs;
-ghost use Rattle.gate_queue.specs.declared.batch.Branch.TheVariants.{Staging};
+ghost use Rattle.gate_state.specs.State.{approved_on, priority_on, trying_on};
+ghost use Rattle.gate_queue.specs.Machine.{followed, needs_no_move, tried_by};
+ghost use Rattle.gate_state.specs.Queue as queue_specs;
+ghost use Rattle.gate_state.specs.declared.batch.Branch.TheVariants.{Staging};
 
-use crate::batch::Branch;
-use crate::choice::AllBut;
-use crate::queue::Queue;
 use gate_rules::Desk;
+use gate_state::{AllBut, Branch, Queue};
 use gate_text::ChangeNo;
 use std::alloc::{AllocError, Global};
 

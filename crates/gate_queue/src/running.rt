@@ -1,19 +1,19 @@
 ghost use Rattle.std.specs.Prelude.{◌≡◌, ◌≤◌, [], true, false, is_none, IfOk, IfSome, IsOk};
 ghost use Rattle.std.specs.List.{list_all};
+ghost use Rattle.gate_rules.specs.View.{is_required};
+ghost use Rattle.gate_state.specs.Lanes.{has_succeeded};
+ghost use Rattle.gate_state.specs.Queue as queue_specs;
+ghost use Rattle.gate_state.specs.declared.batch.Branch.TheVariants.{Staging};
 ghost use Rattle.gate_queue.specs.Machine as machine;
-ghost use Rattle.gate_queue.specs.Queue as queue_specs;
-ghost use Rattle.gate_queue.specs.declared.batch.Branch.TheVariants.{Staging};
 
 use crate::act::StatusState;
-use crate::batch::{Batch, Branch, Report, Reports, Stage};
 use crate::changing;
 use crate::changing::{no_orders, one_notice, one_order};
-use crate::choice::Approved;
 use crate::judging::has_staged;
+use crate::outcome::{Outcome, quiet, with_first};
 use crate::reply::{Order, Orders, Why};
-use crate::state::{Outcome, State, quiet, with_first};
-use crate::waiting::has_several;
 use gate_rules::Desk;
+use gate_state::{Approved, Batch, Branch, Report, Reports, Stage, State};
 use gate_text::{ChangeNo, Commit, Context};
 use std::alloc::{AllocError, Global};
 
@@ -22,7 +22,7 @@ fn lone(running: &Option<Batch>) -> Option<ChangeNo>
     ensures { result ≡ machine.lone running.now }
 {
     match running {
-        Some(batch) if !has_several(batch) => batch.changes.as_slice().first().copied(),
+        Some(batch) if !batch.has_several() => batch.changes.as_slice().first().copied(),
         _ => None,
     }
 }
@@ -80,9 +80,9 @@ pub fn take_status(
 ) -> Result<Outcome, AllocError>
     requires { state.queue.next ≤ 8_999_999_999_999_996 }
     ensures value { IfOk result (λ outcome. outcome ≡ machine.told commit name.now said state) }
-    ensures no_memory { machine.is_required state.desk.settings name.now ≡ false → IsOk result }
+    ensures no_memory { is_required state.desk.settings name.now ≡ false → IsOk result }
 {
-    if is_required(&state.desk, name) {
+    if state.desk.is_required(name) {
         tell_both(state, alloc, commit, name, said)
     } else {
         Ok(quiet(state, alloc))
@@ -148,15 +148,6 @@ fn tell_trying(
     }
 }
 
-pub(crate) fn is_required(desk: &Desk, name: &Context) -> bool
-    ensures { result ≡ machine.is_required desk.now.settings name.now }
-{
-    match desk.settings() {
-        Some(settings) => settings.status().contains(name),
-        None => false,
-    }
-}
-
 // Keeps a report of the running batch on `Staging`, and has it land if all required statuses have succeeded.
 fn keep_report(
     state: State,
@@ -200,7 +191,7 @@ fn has_passed(desk: &Desk, stage: &Stage) -> bool
 
 // Whether the last report of each of these names is a success.
 fn have_succeeded(reports: &Reports, names: &[Context]) -> bool
-    ensures { result ≡ list_all (machine.has_succeeded reports.now) names.now }
+    ensures { result ≡ list_all (has_succeeded reports.now) names.now }
 {
     for name in names {
         if !reports.has_succeeded(name) {

@@ -3,15 +3,14 @@ ghost use Rattle.std.specs.List.{filter_map};
 ghost use Rattle.gate_rules.specs.View.{with_clock};
 ghost use Rattle.gate_queue.specs.Machine as machine;
 ghost use Rattle.gate_queue.specs.Machine.{IsIdle};
-ghost use Rattle.gate_queue.specs.Queue.{lane_of};
+ghost use Rattle.gate_state.specs.Queue.{lane_of};
 
-use crate::batch::{Batch, Branch, Stage};
 use crate::changing::{no_orders, one_order};
-use crate::lane::Lane;
 use crate::reply::{Head, Heads, Order, Orders, Why};
 use crate::running::{end_try, give_up};
-use crate::state::{Outcome, State, quiet, with_first};
+use crate::outcome::{Outcome, quiet, with_first};
 use gate_rules::Desk;
+use gate_state::{Batch, Branch, Lane, Stage, State};
 use gate_text::ChangeNo;
 use std::alloc::{AllocError, Global};
 

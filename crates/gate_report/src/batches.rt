@@ -1,7 +1,7 @@
 ghost use Rattle.std.specs.Prelude.{◌≡◌, ◌++◌, IfOk, OnOk, decimal};
 ghost use Rattle.std.specs.Fmt.{signed_decimal};
 ghost use Rattle.std.specs.String.{string_bytes};
-ghost use Rattle.gate_queue.specs.Lanes as lanes;
+ghost use Rattle.gate_state.specs.Lanes as lanes;
 ghost use Rattle.gate_report.specs.Columns as columns;
 ghost use Rattle.gate_report.specs.Queue as queue;
 

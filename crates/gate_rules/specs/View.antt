@@ -1,10 +1,12 @@
 -- THE DESK as finite maps, what each setter does to it, and how the rules see it.
-use Rattle.std.specs.Prelude.{◌≡◌, ℕ, Bool, true, List, [], ◌∷◌, Option, Some, None, IfSome, if◌then◌else◌}
+use Rattle.std.specs.Prelude.{◌≡◌, ℕ, Bool, true, false, List, [], ◌∷◌, Option, Some, None, IfSome, if◌then◌else◌}
 use Rattle.std.specs.Ordering.{nat_cmp}
 use Rattle.std.specs.Cmp.Lexicographic.{slice_cmp}
 use Rattle.std.specs.FinMap as map
 use Rattle.std.specs.FinMap.{FinMap}
-use Rattle.std.specs.Option.{unwrap_or}
+use Rattle.std.specs.List.{list_any}
+use Rattle.std.specs.Option.{option_map_or, unwrap_or}
+use Rattle.std.specs.Str.{bytes_eq}
 use Rattle.gate_text.specs.Settings.{SettingsView}
 use Rattle.gate_rules.specs.declared.change.Change.{Change}
 use Rattle.gate_rules.specs.declared.role.Role.{Role}
@@ -47,6 +49,10 @@ with_base desk base = record desk { base = Some base }
 
 abbrev pub with_clock : DeskView → ℕ → DeskView
 with_clock desk now = record desk { clock = now }
+
+-- whether the settings require a status of this name
+abbrev pub is_required : Option SettingsView → List ℕ → Bool
+is_required settings name = option_map_or (λ (s : SettingsView). list_any (bytes_eq name) s.status) settings false
 
 -- THE CHANGES THAT MEET A CONDITION
 abbrev pub without_approval : Change → Change

@@ -7,7 +7,7 @@ ghost use Rattle.std.specs.Map.{keys_of};
 ghost use Rattle.std.specs.Ordering.{nat_cmp};
 ghost use Rattle.gate_rules.specs.Rules as rules;
 ghost use Rattle.gate_rules.specs.View as view;
-ghost use Rattle.gate_rules.specs.View.{Alters, AreMembers, empty_desk, with_role, with_change, with_settings, with_base, with_clock, with_ended, numbers_where, role_on, look};
+ghost use Rattle.gate_rules.specs.View.{Alters, AreMembers, empty_desk, with_role, with_change, with_settings, with_base, with_clock, with_ended, numbers_where, is_required, role_on, look};
 ghost use Rattle.gate_rules.specs.declared.role.Role.TheVariants.{Nobody};
 
 mod rows;
@@ -15,7 +15,7 @@ mod rows;
 use crate::change::{Change, Repeat};
 use crate::condition::Condition;
 use crate::role::{Level, Role};
-use gate_text::{ChangeNo, Command, Commit, Name, Settings, copy_map};
+use gate_text::{ChangeNo, Command, Commit, Context, Name, Settings, copy_map};
 use std::alloc::{AllocError, Global};
 use std::collections::BTreeMap;
 use std::marker::Model;
@@ -112,6 +112,16 @@ impl Desk {
         ensures value { option_copied result ≡ self.now.settings }
     {
         self.settings.as_ref()
+    }
+
+    /// Whether the settings require a status of this name. Without settings none is.
+    pub fn is_required(&self, name: &Context) -> bool
+        ensures value { result ≡ is_required self.now.settings name.now }
+    {
+        match &self.settings {
+            Some(settings) => settings.status().contains(name),
+            None => false,
+        }
     }
 
     /// The base that was set last, if one was: the commit that the main branch stands at.

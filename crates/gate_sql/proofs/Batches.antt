@@ -6,14 +6,14 @@ use Rattle.std.specs.FinMap as finite
 use Rattle.std.specs.FinMap.{FinMap, nat_cmp-IsAntisymmetric, slice_cmp-IsAntisymmetric}
 use Rattle.std.specs.List.{filter, flat_map, list_all}
 use Rattle.std.specs.Ordering.{int_eq, nat_cmp}
-use Rattle.gate_queue.specs.Checks.{all_pairs, has_other_number, have_other_numbers}
-use Rattle.gate_queue.specs.declared.batch.Batch.{Batch}
-use Rattle.gate_queue.specs.declared.batch.Branch.{Branch}
-use Rattle.gate_queue.specs.declared.batch.Branch.TheVariants.{Staging, Trying}
-use Rattle.gate_queue.specs.declared.batch.Report.{Report}
-use Rattle.gate_queue.specs.declared.batch.Report.TheVariants.{Success, Pending}
-use Rattle.gate_queue.specs.declared.batch.Stage.{Stage}
-use Rattle.gate_queue.specs.declared.batch.Stage.TheVariants as stage
+use Rattle.gate_state.specs.Checks.{all_pairs, has_other_number, have_other_numbers}
+use Rattle.gate_state.specs.declared.batch.Batch.{Batch}
+use Rattle.gate_state.specs.declared.batch.Branch.{Branch}
+use Rattle.gate_state.specs.declared.batch.Branch.TheVariants.{Staging, Trying}
+use Rattle.gate_state.specs.declared.batch.Report.{Report}
+use Rattle.gate_state.specs.declared.batch.Report.TheVariants.{Success, Pending}
+use Rattle.gate_state.specs.declared.batch.Stage.{Stage}
+use Rattle.gate_state.specs.declared.batch.Stage.TheVariants as stage
 use Rattle.gate_sql.specs.Decoding.{batch_in, branch_in, changes_in, report_in, reports_in, stage_in}
 use Rattle.gate_sql.specs.Encoding.{batch_row, branch_number, flag, member_row, members_of, placed, report_number, reports_of, sha_of, since_of, stage_number, status_row, statuses_of}
 use Rattle.gate_tables.specs.declared.row.MemberRow.{MemberRow}

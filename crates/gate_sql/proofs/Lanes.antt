@@ -11,13 +11,13 @@ use Rattle.std.specs.Ordering.{int_cmp, int_eq, is_lt, ordering_then}
 use Rattle.std.specs.declared.cmp.Ordering.{Ordering}
 use Rattle.std.specs.declared.cmp.Ordering.TheVariants.{Less, Equal, Greater}
 use Rattle.gate_rules.specs.View.{DeskView}
-use Rattle.gate_queue.specs.Checks.{all_pairs, fits_running, fits_underway, fits_waiting, is_branch, is_waiting}
-use Rattle.gate_queue.specs.Lanes.{batches_of, goes_before, has_changes}
-use Rattle.gate_queue.specs.declared.batch.Batch.{Batch}
-use Rattle.gate_queue.specs.declared.batch.Branch.{Branch}
-use Rattle.gate_queue.specs.declared.batch.Branch.TheVariants.{Staging, Trying}
-use Rattle.gate_queue.specs.declared.batch.Stage.{Stage}
-use Rattle.gate_queue.specs.declared.batch.Stage.TheVariants as stage
+use Rattle.gate_state.specs.Checks.{all_pairs, fits_running, fits_underway, fits_waiting, is_branch, is_waiting}
+use Rattle.gate_state.specs.Lanes.{batches_of, goes_before, has_changes}
+use Rattle.gate_state.specs.declared.batch.Batch.{Batch}
+use Rattle.gate_state.specs.declared.batch.Branch.{Branch}
+use Rattle.gate_state.specs.declared.batch.Branch.TheVariants.{Staging, Trying}
+use Rattle.gate_state.specs.declared.batch.Stage.{Stage}
+use Rattle.gate_state.specs.declared.batch.Stage.TheVariants as stage
 use Rattle.gate_sql.specs.Decoding.{batch_in, first, in_order, is_on, lane_in, service_key}
 use Rattle.gate_sql.specs.Encoding.{batch_row, branch_number, flag, stage_number}
 use Rattle.gate_tables.specs.declared.row.BatchRow.{BatchRow}

@@ -4,16 +4,16 @@ use Rattle.std.proofs.lemmas.Bool.Decides.{nat_tests}
 use Rattle.std.proofs.lemmas.List.Sums.{sum_by-cons}
 use Rattle.std.specs.List.{All}
 use Rattle.gate_text.specs.Settings.{SettingsView}
-use Rattle.gate_queue.specs.Counts.{uses}
-use Rattle.gate_queue.specs.Lanes.{batches_of}
-use Rattle.gate_queue.specs.Service.{IsInOrder}
-use Rattle.gate_queue.specs.State.{IsBranch, IsRunning, IsState, IsUnderway, IsWaiting, Marks}
-use Rattle.gate_queue.specs.declared.batch.Batch.{Batch}
-use Rattle.gate_queue.specs.declared.batch.Branch.{Branch}
-use Rattle.gate_queue.specs.declared.batch.Stage.{Stage}
-use Rattle.gate_queue.specs.declared.batch.Stage.TheVariants.{Waiting, Ordered, Staged, Landing}
-use Rattle.gate_queue.specs.declared.lane.Lane.{Lane}
-use Rattle.gate_queue.specs.declared.state.State.{State}
+use Rattle.gate_state.specs.Counts.{uses}
+use Rattle.gate_state.specs.Lanes.{batches_of}
+use Rattle.gate_state.specs.Service.{IsInOrder}
+use Rattle.gate_state.specs.State.{IsBranch, IsRunning, IsState, IsUnderway, IsWaiting, Marks}
+use Rattle.gate_state.specs.declared.batch.Batch.{Batch}
+use Rattle.gate_state.specs.declared.batch.Branch.{Branch}
+use Rattle.gate_state.specs.declared.batch.Stage.{Stage}
+use Rattle.gate_state.specs.declared.batch.Stage.TheVariants.{Waiting, Ordered, Staged, Landing}
+use Rattle.gate_state.specs.declared.lane.Lane.{Lane}
+use Rattle.gate_state.specs.declared.state.State.{State}
 use Rattle.gate_sql.specs.Limits.{BatchKeepsLimits, LaneKeepsLimits, StageKeepsLimits}
 
 abbrev once : ℕ → Batch → ℕ

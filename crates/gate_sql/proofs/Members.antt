@@ -4,11 +4,11 @@ use Rattle.std.specs.Cmp.{first_so, second_so, unsigned_Decides}
 use Rattle.std.specs.List.{flat_map, list_all, list_any}
 use Rattle.std.specs.Ordering.{int_eq}
 use Rattle.gate_rules.specs.declared.change.Change.{Change}
-use Rattle.gate_queue.specs.Checks.{are_apart, are_held, belong_to, belongs, belongs_to, fit_places, is_held, is_in, is_inside, landing_changes}
-use Rattle.gate_queue.specs.Lanes.{batches_of}
-use Rattle.gate_queue.specs.State.{Marks}
-use Rattle.gate_queue.specs.declared.batch.Batch.{Batch}
-use Rattle.gate_queue.specs.declared.lane.Lane.{Lane}
+use Rattle.gate_state.specs.Checks.{are_apart, are_held, belong_to, belongs, belongs_to, fit_places, is_held, is_in, is_inside, landing_changes}
+use Rattle.gate_state.specs.Lanes.{batches_of}
+use Rattle.gate_state.specs.State.{Marks}
+use Rattle.gate_state.specs.declared.batch.Batch.{Batch}
+use Rattle.gate_state.specs.declared.lane.Lane.{Lane}
 use Rattle.gate_sql.specs.Decoding.{is_member}
 use Rattle.gate_sql.specs.Encoding.{batch_row, from_place, member_row, members_of, placed}
 use Rattle.gate_tables.specs.declared.row.BatchRow.{BatchRow}

@@ -20,17 +20,16 @@ use Rattle.gate_rules.specs.declared.change.Repeat.{Repeat}
 use Rattle.gate_rules.specs.declared.change.Repeat.TheVariants as repeat
 use Rattle.gate_rules.specs.declared.role.Role.{Role}
 use Rattle.gate_rules.specs.declared.role.Role.TheVariants.{Nobody, Member, Reviewer}
-use Rattle.gate_queue.specs.Checks.{all_pairs, are_alone, fit_numbers, fit_places, fit_stages, fits, fits_desk, fits_lane, fits_next, fits_order, fits_queue, fits_running, fits_waiting, has_one, has_other_number, have_other_numbers, is_in, is_waiting, landing_changes}
-use Rattle.gate_queue.specs.Lanes.{batches_of, goes_before, is_landing}
-use Rattle.gate_queue.specs.Machine.{landing_on, trying_on}
-use Rattle.gate_queue.specs.State.{marks_on}
-use Rattle.gate_queue.specs.declared.batch.Batch.{Batch}
-use Rattle.gate_queue.specs.declared.batch.Branch.{Branch}
-use Rattle.gate_queue.specs.declared.batch.Branch.TheVariants.{Staging, Trying}
-use Rattle.gate_queue.specs.declared.batch.Stage.{Stage}
-use Rattle.gate_queue.specs.declared.batch.Stage.TheVariants as stage
-use Rattle.gate_queue.specs.declared.lane.Lane.{Lane}
-use Rattle.gate_queue.specs.declared.state.State.{State}
+use Rattle.gate_state.specs.Checks.{all_pairs, are_alone, fit_numbers, fit_places, fit_stages, fits, fits_desk, fits_lane, fits_next, fits_order, fits_queue, fits_running, fits_waiting, has_one, has_other_number, have_other_numbers, is_in, is_waiting, landing_changes}
+use Rattle.gate_state.specs.Lanes.{batches_of, goes_before, is_landing}
+use Rattle.gate_state.specs.State.{landing_on, trying_on, marks_on}
+use Rattle.gate_state.specs.declared.batch.Batch.{Batch}
+use Rattle.gate_state.specs.declared.batch.Branch.{Branch}
+use Rattle.gate_state.specs.declared.batch.Branch.TheVariants.{Staging, Trying}
+use Rattle.gate_state.specs.declared.batch.Stage.{Stage}
+use Rattle.gate_state.specs.declared.batch.Stage.TheVariants as stage
+use Rattle.gate_state.specs.declared.lane.Lane.{Lane}
+use Rattle.gate_state.specs.declared.state.State.{State}
 use Rattle.gate_tables.specs.Contents.{AreSame}
 use Rattle.gate_sql.specs.Decoding.{batch_in, change_in, desk_in, first, is_member, is_on, lane_in, last_in, list_in, phase_in, role_in, settings_in, state_by, state_in}
 use Rattle.gate_sql.specs.Encoding.{flag, approvals_of, size_of, timeout_of, batch_row, branch_number, change_row, desk_row, last_number, marks_of, members_of, names_of, person_row, phase_number, role_number, rows_of, settings_marks, stage_number, statuses_of}

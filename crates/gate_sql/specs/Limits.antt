@@ -1,10 +1,10 @@
 -- WHAT THE NUMBERS OF A BATCH KEEP in every state, so that the database can take them.
 use Rattle.std.specs.Prelude.{◌≤◌, ⊤, IfSome}
 use Rattle.std.specs.List.{All}
-use Rattle.gate_queue.specs.declared.batch.Batch.{Batch}
-use Rattle.gate_queue.specs.declared.batch.Stage.{Stage}
-use Rattle.gate_queue.specs.declared.batch.Stage.TheVariants.{Waiting, Ordered, Staged, Landing}
-use Rattle.gate_queue.specs.declared.lane.Lane.{Lane}
+use Rattle.gate_state.specs.declared.batch.Batch.{Batch}
+use Rattle.gate_state.specs.declared.batch.Stage.{Stage}
+use Rattle.gate_state.specs.declared.batch.Stage.TheVariants.{Waiting, Ordered, Staged, Landing}
+use Rattle.gate_state.specs.declared.lane.Lane.{Lane}
 
 abbrev pub StageKeepsLimits : Stage → Type 0
 StageKeepsLimits Waiting = ⊤

@@ -3,8 +3,8 @@ use Rattle.std.specs.Prelude.{◌≡◌, true, Ok, IfSome}
 use Rattle.gate_text.specs.Settings.{are_settings}
 use Rattle.gate_text.specs.SmallTexts.{commit_of}
 use Rattle.gate_rules.specs.View.{DeskView}
-use Rattle.gate_queue.specs.State.{IsState}
-use Rattle.gate_queue.specs.declared.state.State.{State}
+use Rattle.gate_state.specs.State.{IsState}
+use Rattle.gate_state.specs.declared.state.State.{State}
 use Rattle.gate_tables.specs.Contents.{AreSame}
 use Rattle.gate_sql.specs.Decoding.{state_in}
 use Rattle.gate_sql.specs.Encoding.{rows_of}

@@ -5,7 +5,7 @@ use Rattle.std.proofs.lemmas.List.Elements.{All-head, All-tail}
 use Rattle.serde_json.specs.Data.{Data}
 use Rattle.serde_json.specs.View.{items_of}
 use Rattle.gate_rules.specs.declared.role.Level.TheVariants.{Anyone, Member, MemberOrDelegate, ReviewerOrDelegate, Reviewer}
-use Rattle.gate_queue.specs.declared.batch.Branch.TheVariants.{Staging, Trying}
+use Rattle.gate_state.specs.declared.batch.Branch.TheVariants.{Staging, Trying}
 use Rattle.gate_store.specs.Answers.{head_data, order_data, reply_data, answer_data}
 use Rattle.gate_store.specs.Found.{below, each_in, head_in, order_in, reply_in, answer_in}
 use Rattle.gate_store.specs.Limits.{IsHead, IsOrder, IsReply, IsAnswer}

@@ -11,7 +11,7 @@ use Rattle.gate_queue.specs.declared.reply.Order.{Order}
 use Rattle.gate_queue.specs.declared.reply.Order.TheVariants.{Stage, Land, Notice}
 use Rattle.gate_queue.specs.declared.reply.Reply.{Reply}
 use Rattle.gate_queue.specs.declared.reply.Reply.TheVariants.{Done, Denied}
-use Rattle.gate_queue.specs.declared.state.State.{State}
+use Rattle.gate_state.specs.declared.state.State.{State}
 use Rattle.gate_store.specs.Headline.{ActsByRule, Each, Headline, HistoryTells, IsAnswered, IsReady, IsRight, LandsRightly, Tells, acts_of_all, entry_for, failing, first_in, history_after}
 use Rattle.gate_store.specs.Run.{NoneMeetsFull, Records, after_all, after_deliveries, after_delivery, answer_to, answers_to, meets_full, new_acts}
 use Rattle.gate_store.specs.declared.delivery.Delivery.{Delivery}

@@ -6,8 +6,8 @@ use Rattle.serde_json.specs.Written.{compact_text}
 use Rattle.gate_rules.specs.Words.{number_of, word_of, level_word_of}
 use Rattle.gate_rules.specs.declared.rule.Rule.{Rule}
 use Rattle.gate_rules.specs.declared.rule.Rule.TheVariants.{UnknownChange, NotACommand, NotPermitted, NotOpen, NothingToRetry, Landing, NoSettings, NoBase, AlreadyApproved, NotApproved, AlreadyTrying, NotTrying, Blocked, TooFewReviews, AlreadyOpen, ChangeLanded, StaleHead, NotMember, OwnChange, BadSettings, ClockBack, NoSuchBatch, SameAsBase}
-use Rattle.gate_queue.specs.declared.batch.Branch.{Branch}
-use Rattle.gate_queue.specs.declared.batch.Branch.TheVariants.{Staging, Trying}
+use Rattle.gate_state.specs.declared.batch.Branch.{Branch}
+use Rattle.gate_state.specs.declared.batch.Branch.TheVariants.{Staging, Trying}
 use Rattle.gate_queue.specs.declared.reply.Head.{Head}
 use Rattle.gate_queue.specs.declared.reply.Order.{Order}
 use Rattle.gate_queue.specs.declared.reply.Order.TheVariants.{Stage, Land, Notice}

@@ -15,7 +15,7 @@ use Rattle.gate_queue.specs.declared.reply.Order.{Order}
 use Rattle.gate_queue.specs.declared.reply.Order.TheVariants.{Stage, Land, Notice}
 use Rattle.gate_queue.specs.declared.reply.Reply.{Reply}
 use Rattle.gate_queue.specs.declared.reply.Reply.TheVariants.{Done, Denied}
-use Rattle.gate_queue.specs.declared.state.State.{State}
+use Rattle.gate_state.specs.declared.state.State.{State}
 use Rattle.gate_store.specs.Run.{Records, kept_under, is_known, acts_in, replies_to, after_all}
 use Rattle.gate_store.specs.declared.delivery.Delivery.{Delivery}
 

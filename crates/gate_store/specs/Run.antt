@@ -10,7 +10,7 @@ use Rattle.gate_queue.specs.declared.act.Act.{Act}
 use Rattle.gate_queue.specs.declared.fault.Fault.{Fault}
 use Rattle.gate_queue.specs.declared.fault.Fault.TheVariants.{Memory, Store, Full}
 use Rattle.gate_queue.specs.declared.reply.Reply.{Reply}
-use Rattle.gate_queue.specs.declared.state.State.{State}
+use Rattle.gate_state.specs.declared.state.State.{State}
 use Rattle.gate_store.specs.Acts.{acts_of_event}
 use Rattle.gate_store.specs.declared.delivery.Delivery.{Delivery}
 

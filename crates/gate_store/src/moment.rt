@@ -1,5 +1,5 @@
 ghost use Rattle.std.specs.Prelude.{◌≡◌};
-ghost use Rattle.gate_queue.specs.Acts.{IsMoment};
+ghost use Rattle.gate_state.specs.State.{IsMoment};
 
 use std::marker::Model;
 
@@ -11,7 +11,7 @@ pub struct Moment {
 
 impl Model for Moment {
     ghost use Rattle.std.specs.Prelude.{ℕ};
-    ghost use Rattle.gate_queue.specs.Acts.{IsMoment};
+    ghost use Rattle.gate_state.specs.State.{IsMoment};
 
     ghost Value = { ℕ };
 

@@ -1,5 +1,5 @@
 -- What it is that the statements on a table are understood. For private clauses.
-use Rattle.std.specs.Prelude.{◌≡◌, ℕ, pos, negsuc, false, List, [], ◌∷◌, slice_get, Some, None}
+use Rattle.std.specs.Prelude.{◌≡◌, ℕ, pos, negsuc, false, List, [], ◌∷◌, slice_get, Some, None, length, ◌/◌, ◌++◌, Ok}
 use Rattle.gate_tables.specs.Database.{Layout, all_schema, table_of, columns_of}
 use Rattle.gate_tables.specs.Forms.{Form}
 use Rattle.sqlite.proofs.Callers.{IsPlain, command_of, statement_of}
@@ -19,7 +19,6 @@ use Rattle.sqlite.specs.Source.TheVariants.{Values}
 use Rattle.sqlite.specs.Term.{Term, lit, col, eval_all}
 use Rattle.sqlite.specs.declared.types.Value.TheVariants.{Int}
 use Rattle.sqlite_schema.specs.declared.program.Program.{Program}
-use Rattle.std.specs.Prelude.{length, ◌/◌, ◌++◌, Ok}
 
 -- the query of some terms over the rows of a tree that pass a test
 abbrev pub picked : ℕ → List Term → List Term → Query

@@ -24,11 +24,17 @@ module _ {X : Type 0} (test : X → Bool) where
   last_where-behind [] x rest passes none = rw (none, passes) refl
   last_where-behind (y ∷ front) x rest passes none = rw (last_where-behind front x rest passes none) refl
 
-  pub last_where-at : (default : X) (xs : List X) (place : ℕ) → place < length xs → test (get_or xs place default) ≡ true
+  -- the same by places: the item at one passes, and those behind it don't
+  found_at : (default : X) (xs : List X) (place : ℕ) → place < length xs → test (get_or xs place default) ≡ true
       → ((k : ℕ) → place + 1 ≤ k → k < length xs → test (get_or xs k default) ≡ false) → last_where test xs ≡ Some place
-  last_where-at default xs place within passes none =
+  found_at default xs place within passes none =
       let rest = drop (place + 1) xs in
       let cut : xs ≡ take place xs ++ get_or xs place default ∷ rest = sym (take-append-drop place xs) ∙ ap (λ back. take place xs ++ back) (drop_more xs place default within) in
       let others : All Fails rest = All-from_get_or Fails rest default (λ k inside. subst Fails (sym (get_or-drop (place + 1) xs k default)) (none (place + 1 + k) (omega arith) (omega (arith, length-drop (place + 1) xs)))) in
       let least : min place (length xs) ≡ place = omega arith in
       ap (last_where test) cut ∙ last_where-behind (take place xs) _ rest passes (last_where-none rest others) ∙ ap Some (length-take place xs ∙ least)
+
+  pub last_where-at : (xs : List X) (place : ℕ) → place < length xs → ((default : X) → test (get_or xs place default) ≡ true)
+      → ((k : ℕ) → place + 1 ≤ k → k < length xs → (default : X) → test (get_or xs k default) ≡ false) → last_where test xs ≡ Some place
+  last_where-at [] place within passes none = absurd (omega (arith, within))
+  last_where-at (x ∷ xs) place within passes none = found_at x (x ∷ xs) place within (passes x) (λ k after inside. none k after inside x)

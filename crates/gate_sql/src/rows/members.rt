@@ -1,7 +1,7 @@
 ghost use Rattle.std.specs.Prelude.{◌≡◌, ◌++◌, IfOk, OnOk};
 ghost use Rattle.std.specs.List.{All, flat_map};
-ghost use Rattle.gate_queue.specs.Lanes.{batches_of};
-ghost use Rattle.gate_queue.specs.Queue as queue_specs;
+ghost use Rattle.gate_state.specs.Lanes.{batches_of};
+ghost use Rattle.gate_state.specs.Queue as queue_specs;
 ghost use Rattle.gate_sql.specs.Encoding as encoding;
 ghost use Rattle.gate_sql.specs.Limits.{BatchKeepsLimits, LaneKeepsLimits};
 

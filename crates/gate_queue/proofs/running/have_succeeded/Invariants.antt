@@ -1,6 +1,6 @@
 use Rattle.std.proofs.Common.{◌≡◌, true, take}
 use Rattle.std.specs.List.{list_all}
-use Rattle.gate_queue.specs.Machine.{has_succeeded}
+use Rattle.gate_state.specs.Lanes.{has_succeeded}
 use Rattle.gate_queue.proofs.running.have_succeeded.Given as goal
 
 abbrev pub invariant-loop-name : goal.invariant-loop-name

@@ -1,6 +1,6 @@
 use Rattle.std.proofs.Common.{subst, sym}
-use Rattle.gate_queue.specs.State.{IsState}
-use Rattle.gate_queue.specs.declared.state.State.{State}
+use Rattle.gate_state.specs.State.{IsState}
+use Rattle.gate_state.specs.declared.state.State.{State}
 use Rattle.gate_sql.proofs.Limits.{staging_keeps, trying_keeps}
 use Rattle.gate_sql.proofs.rows.rows_of.Goals as goal
 

@@ -8,5 +8,5 @@ returns-clause-value c =
     let text = c.args.text.now in
     elim c.rposition.result as (λ found. c.rposition.result ≡ found → found ≡ last_space text) [
       | None ↦ λ is. sym (last_where-none _ text (search rules))
-      | Some place ↦ λ is. sym (last_where-at _ 0 text place (search rules) (search rules) (search rules))
+      | Some place ↦ λ is. sym (last_where-at _ text place (search rules) (λ default. search rules) (λ k after inside default. search rules))
     ] refl

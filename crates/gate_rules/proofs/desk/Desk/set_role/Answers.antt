@@ -4,9 +4,8 @@ use Rattle.std.specs.FinMap as map
 use Rattle.std.specs.FinMap.{slice_cmp-IsAntisymmetric, nat_cmp-IsAntisymmetric}
 use Rattle.gate_text.specs.Finite.{inserted, removed}
 use Rattle.gate_rules.specs.Rules.{is_member}
-use Rattle.gate_rules.specs.View.{DeskView, with_role}
+use Rattle.gate_rules.specs.View.{DeskView, with_role, AreMembers}
 use Rattle.gate_rules.specs.declared.role.Role.{Role}
-use Rattle.gate_rules.specs.View.{AreMembers}
 use Rattle.gate_rules.proofs.Members.{members-insert, members-remove}
 use Rattle.gate_rules.proofs.desk.Desk.set_role.Goals as goal
 

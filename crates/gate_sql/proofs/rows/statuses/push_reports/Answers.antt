@@ -1,7 +1,7 @@
 use Rattle.std.proofs.Common.{◌≡◌, ◌++◌, List, ℕ, OnOk, map, subst}
 use Rattle.std.specs.Cmp.Lexicographic.{nat_list_cmp_total}
 use Rattle.std.specs.FinSet.{slice_cmp-IsAntisymmetric, nat_cmp-IsAntisymmetric}
-use Rattle.gate_queue.specs.declared.batch.Report.{Report}
+use Rattle.gate_state.specs.declared.batch.Report.{Report}
 use Rattle.gate_sql.specs.Encoding.{status_row}
 use Rattle.gate_sql.proofs.Entries.{entries_are}
 use Rattle.gate_sql.proofs.rows.statuses.push_reports.Goals as goal

@@ -1,5 +1,4 @@
-use Rattle.std.proofs.Common.{◌≡◌, ◌++◌, List, ℕ, pos, OnOk, map, subst}
-use Rattle.std.proofs.Common.{to_z-of_z}
+use Rattle.std.proofs.Common.{◌≡◌, ◌++◌, List, ℕ, pos, OnOk, map, subst, to_z-of_z}
 use Rattle.gate_sql.specs.Encoding.{mark}
 use Rattle.gate_sql.proofs.Entries.{words_are}
 use Rattle.gate_sql.proofs.rows.marks.words.push_set.Goals as goal

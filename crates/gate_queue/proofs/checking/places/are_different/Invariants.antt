@@ -1,9 +1,0 @@
-use Rattle.std.proofs.Common.{◌≡◌, length}
-use Rattle.gate_queue.specs.Checks.{all_pairs, is_other_change}
-use Rattle.gate_queue.proofs.checking.places.are_different.Given as goal
-
-abbrev pub invariant-changes : goal.invariant-changes
-invariant-changes l = all_pairs is_other_change l.rest ≡ all_pairs is_other_change l.fn.changes
-
-abbrev pub decreases-changes : goal.decreases-changes
-decreases-changes l = length l.rest

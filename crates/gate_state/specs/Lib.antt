@@ -1,0 +1,15 @@
+-- What the contracts of this crate cite. For a reader, in this order:
+--     State      what every state keeps
+--     Lanes      the batches of a branch in order of service, and what is done to them
+--     Queue      the batches of both branches, and the next number
+--     Counts     how often a change or a number is in batches
+--     Service    the order of service over a whole list
+--     Checks     what every state keeps as tests, for a state whose parts come from elsewhere
+-- For proofs of this crate and of those above: Lemmas, the laws of service and of changes, proved.
+pub mod Checks
+pub mod Counts
+pub mod Lanes
+pub mod Lemmas
+pub mod Queue
+pub mod Service
+pub mod State
