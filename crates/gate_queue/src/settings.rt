@@ -7,8 +7,8 @@ ghost use Rattle.gate_state.specs.declared.batch.Branch.TheVariants.{Staging, Tr
 ghost use Rattle.gate_queue.specs.declared.reply.Order.TheVariants.{Notice};
 ghost use Rattle.gate_queue.specs.declared.reply.Why.TheVariants as why;
 
-use crate::reply::{Order, Orders, Why};
 use crate::outcome::{Outcome, quiet};
+use crate::reply::{Order, Orders, Why};
 use gate_rules::{Change, Condition, Desk, has_too_few_reviews, is_blocked};
 use gate_state::{Approved, Branch, Queue, State};
 use gate_text::{ChangeNo, Settings, SettingsFault, Text, read_settings};

@@ -6,7 +6,7 @@ ghost use Rattle.gate_report.specs.Columns as columns;
 ghost use Rattle.gate_report.specs.Queue as queue;
 
 use crate::columns::{left, right};
-use gate_queue::{Batch, Branch, Lane, Stage};
+use gate_state::{Batch, Branch, Lane, Stage};
 use gate_text::ChangeNo;
 use std::alloc::{AllocError, Global};
 

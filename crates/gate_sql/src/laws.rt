@@ -5,7 +5,8 @@ ghost use Rattle.gate_sql.specs.Encoding.{rows_of};
 ghost use Rattle.gate_sql.specs.Standing.{KeepsLimits, LawOfRows};
 ghost use Rattle.gate_tables.specs.declared.row.Rows.{Rows};
 
-use gate_queue::{Gate, law_of_checks};
+use gate_queue::Gate;
+use gate_state::law_of_checks;
 
 /// The law of rows: rows stand for at most one state. The rows of a state, in any order, are read as that state.
 pub fn law_of_rows()

@@ -17,7 +17,8 @@ use crate::reading::desk::desk_in;
 use crate::reading::words::natural;
 use crate::rows::rows_of;
 use crate::sorting::{are_same, in_order};
-use gate_queue::{Fault, Gate, State};
+use gate_queue::{Fault, Gate};
+use gate_state::State;
 use gate_tables::{Rows, TablesFault};
 use std::alloc::{AllocError, Global};
 

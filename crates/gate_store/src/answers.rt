@@ -9,8 +9,9 @@ ghost use Rattle.gate_store.specs.Limits.{IsRule, IsHead, IsOrder, IsReply, IsAn
 ghost use Rattle.gate_queue.specs.declared.reply.Order.TheVariants.{Notice};
 ghost use Rattle.gate_queue.specs.declared.reply.Reply.TheVariants.{Denied};
 
-use gate_queue::{Branch, Head, Order, Reply, Why};
+use gate_queue::{Head, Order, Reply, Why};
 use gate_rules::Rule;
+use gate_state::Branch;
 use gate_text::{ChangeNo, List};
 use serde_json::{Value, json};
 use std::alloc::{AllocError, Global};

@@ -7,8 +7,9 @@ ghost use Rattle.gate_store.specs.Limits.{IsChange, IsCommit, IsPlain, IsBatch, 
 
 use crate::answers::Answer;
 use crate::reading::AnswerFault;
-use gate_queue::{Branch, Head, Heads, Order, Orders, Reply, Why};
+use gate_queue::{Head, Heads, Order, Orders, Reply, Why};
 use gate_rules::{Level, Rule};
+use gate_state::Branch;
 use gate_text::{ChangeNo, Commit, Context, Label, TextFault, unless_bad};
 use serde_json::Value;
 use std::alloc::Global;

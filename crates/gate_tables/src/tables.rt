@@ -102,7 +102,7 @@ impl<S: Alter> Tables<S> {
     /// neither: if it is refused, nothing changed. `Store` if two rows of a table have one key, or if the database fails, and
     /// `Memory` if there is no memory for it.
     pub fn write(&mut self, rows: &Rows, id: &str, body: &str) -> Result<(), TablesFault>
-        requires { is_sound S.Store self.old → get (answers_in S.Store self.old) id.now ≡ None }
+        requires free { is_sound S.Store self.old → get (answers_in S.Store self.old) id.now ≡ None }
         ensures rows { is_sound S.Store self.new → OnOk result (AreSame (rows_in S.Store self.new) rows.now) }
         ensures answers { is_sound S.Store self.new → OnOk result (answers_in S.Store self.new ≡ insert (answers_in S.Store self.old) id.now body.now) }
         ensures same { is_sound S.Store self.new → OnErr result ((rows_in S.Store self.new ≡ rows_in S.Store self.old) × (answers_in S.Store self.new ≡ answers_in S.Store self.old)) }

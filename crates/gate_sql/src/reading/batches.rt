@@ -1,6 +1,6 @@
 use crate::reading::words::{change_no, commit, context, natural, priority};
-use gate_queue::{Batch, Branch, Changes, Lane, Queue, Report, Reports, Stage};
 use gate_rules::Desk;
+use gate_state::{Batch, Branch, Changes, Lane, Queue, Report, Reports, Stage};
 use gate_tables::{BatchRow, MemberRow, Rows, StatusRow, TablesFault};
 use gate_text::{ChangeNo, Context};
 use std::alloc::{AllocError, Global};

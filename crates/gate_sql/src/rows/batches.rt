@@ -6,7 +6,7 @@ ghost use Rattle.gate_sql.specs.Encoding as encoding;
 ghost use Rattle.gate_sql.specs.Limits.{BatchKeepsLimits, LaneKeepsLimits, StageKeepsLimits};
 
 use crate::rows::numbers::{branch_number, flag, integer, stage_number};
-use gate_queue::{Batch, Lane, Queue, Stage};
+use gate_state::{Batch, Lane, Queue, Stage};
 use gate_tables::BatchRow;
 use gate_text::{List, Text};
 use std::alloc::{AllocError, Global};

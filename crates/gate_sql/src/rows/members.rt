@@ -6,7 +6,7 @@ ghost use Rattle.gate_sql.specs.Encoding as encoding;
 ghost use Rattle.gate_sql.specs.Limits.{BatchKeepsLimits, LaneKeepsLimits};
 
 use crate::rows::numbers::{integer, place_number};
-use gate_queue::{Batch, Lane, Queue};
+use gate_state::{Batch, Lane, Queue};
 use gate_tables::MemberRow;
 use gate_text::List;
 use std::alloc::{AllocError, Global};

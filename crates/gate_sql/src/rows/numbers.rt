@@ -1,8 +1,8 @@
 ghost use Rattle.std.specs.Prelude.{◌≡◌, ◌≤◌, IfOk, pos};
 ghost use Rattle.gate_sql.specs.Encoding as encoding;
 
-use gate_queue::{Branch, Report, Stage};
 use gate_rules::{Phase, Repeat, Role};
+use gate_state::{Branch, Report, Stage};
 use std::alloc::AllocError;
 
 /// A number that a state keeps, as the database takes it.

@@ -11,7 +11,7 @@ ghost use Rattle.gate_sql.specs.Encoding as encoding;
 ghost use Rattle.gate_sql.specs.Limits.{BatchKeepsLimits, LaneKeepsLimits};
 
 use crate::rows::numbers::{integer, report_number};
-use gate_queue::{Batch, Lane, Queue, Report, Reports, Stage};
+use gate_state::{Batch, Lane, Queue, Report, Reports, Stage};
 use gate_tables::StatusRow;
 use gate_text::{Context, List, Text};
 use std::alloc::{AllocError, Global};

@@ -11,6 +11,6 @@ returns-then-is_required-clause-value c =
     let name = c.args.name.now in
     let said = c.args.said in
     let both : Outcome = then_next (told_staging commit name said s) (told_trying commit name said) in
-    let required : is_required s.desk.settings name ≡ true = sym c.is_required.ensures ∙ c.if-is_required.true in
+    let required : is_required s.desk.settings name ≡ true = sym c.is_required.ensures.value ∙ c.if-is_required.true in
     let same : both ≡ told commit name said s = sym (ap (λ (b : Bool). if b then both else quiet s) required) in
     subst (λ (o : Outcome). IfOk c.tell_both.result (λ outcome. outcome ≡ o)) same c.tell_both.ensures

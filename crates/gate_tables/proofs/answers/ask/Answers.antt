@@ -1,6 +1,6 @@
 use Rattle.std.proofs.Common.{sym, subst}
 use Rattle.gate_tables.proofs.Finding.{find_text, find_plain, finds}
-use Rattle.gate_tables.proofs.Results.{if_ok}
+use Rattle.std.proofs.lemmas.Result.{IfOk-weaker}
 use Rattle.sqlite.proofs.Callers.{IsPlain}
 use Rattle.sqlite.specs.Held.{state}
 use Rattle.sqlite.specs.Listing.{understood}
@@ -10,7 +10,7 @@ pub returns-clause-found : goal.returns-clause-found
 returns-clause-found g c clean ready answered =
     let old = state g.S.Store c.args.conn.now in
     let new = state g.S.Store c.select.new.conn in
-    if_ok c.select.result (λ rows shown. finds old new c.args.id.now rows.items ready answered (rw (c.params-to_sql.ensures) at shown)) (c.select.ensures.shown clean)
+    IfOk-weaker c.select.result _ _ (λ rows shown. finds old new c.args.id.now rows.items ready answered (rw (c.params-to_sql.ensures) at shown)) (c.select.ensures.shown clean)
 
 pub returns-clause-left : goal.returns-clause-left
 returns-clause-left g c clean ready = c.select.ensures.left clean (subst (λ s. IsPlain (understood s find_text)) (sym ready.schema_is) find_plain)

@@ -1,5 +1,5 @@
 use Rattle.gate_tables.proofs.Creating.{creates}
-use Rattle.gate_tables.proofs.Results.{on_ok}
+use Rattle.std.proofs.lemmas.Result.{on_ok_weaker}
 use Rattle.gate_tables.specs.Creation as creation
 use Rattle.gate_tables.specs.Creation.{after_first}
 use Rattle.gate_tables.specs.Database as database
@@ -16,7 +16,7 @@ returns-clause-made g c clean =
     let third = c.run-4.ensures.clean clean in
     let second = c.run-3.ensures.clean third in
     let first = c.run-2.ensures.clean second in
-    on_ok c.run-4.result (λ last inside.
+    on_ok_weaker c.run-4.result (λ last inside.
     let i1 = creates (after_first 0) database.desk (after_first 1) creation.desk_text creation.desk s0 s1 inside (c.in_ok-run.ensures.ran first) in
     let i2 = creates (after_first 1) database.people (after_first 2) creation.people_text creation.people s1 s2 i1.0 (c.in_ok-run-2.ensures.ran second) in
     let i3 = creates (after_first 2) database.changes (after_first 3) creation.changes_text creation.changes s2 s3 i2.0 (c.in_ok-run-3.ensures.ran third) in

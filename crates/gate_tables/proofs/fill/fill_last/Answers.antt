@@ -1,6 +1,6 @@
 use Rattle.std.proofs.Common.{subst}
 use Rattle.gate_tables.proofs.Filling.{Step, fills_last}
-use Rattle.gate_tables.proofs.Results.{on_ok}
+use Rattle.std.proofs.lemmas.Result.{on_ok_weaker}
 use Rattle.gate_tables.specs.Forms as forms
 use Rattle.sqlite.specs.Held.{state}
 use Rattle.gate_tables.proofs.fill.fill_last.Goals as goal
@@ -14,7 +14,7 @@ returns-clause-filled g c clean =
     let s3 = state g.S.Store c.replace-3.new.tx.conn.now in
     let second = c.replace-3.ensures.clean clean in
     let first = c.replace-2.ensures.clean second in
-    on_ok c.replace-3.result (λ last. fills_last rows s0 s1 s2 s3
+    on_ok_weaker c.replace-3.result (λ last. fills_last rows s0 s1 s2 s3
     (subst (λ xs. Step forms.batches xs s0 s1) c.as_slice.ensures.value (c.in_ok-replace.ensures.replaced first))
     (subst (λ xs. Step forms.members xs s1 s2) c.as_slice-2.ensures.value (c.in_ok-replace-2.ensures.replaced second))
     (subst (λ xs. Step forms.statuses xs s2 s3) c.as_slice-3.ensures.value last)) (c.replace-3.ensures.replaced clean)

@@ -1,5 +1,5 @@
 use Rattle.std.proofs.Common.{[], map, IsPermutation, ap, sym, subst, ◌∙◌}
-use Rattle.gate_tables.proofs.Results.{if_ok}
+use Rattle.std.proofs.lemmas.Result.{IfOk-weaker}
 use Rattle.gate_tables.proofs.Selecting.{reads_all}
 use Rattle.gate_tables.specs.Database.{all_schema}
 use Rattle.gate_tables.specs.Forms.{rows_of}
@@ -18,7 +18,7 @@ returns-clause-rows g c clean has =
     let asked = c.select_text.ensures.text in
     let shown = subst (λ t. Shown t [] old new c.in_ok-rows.rows.items) asked (c.in_ok-rows.ensures.shown clean) in
     let rows = reads_all form known old new c.in_ok-rows.rows.items has shown in
-    if_ok c.read_all.result (λ read is. subst (λ rs. IsPermutation (rows_of form old.now.trees) rs) (ap (map form.read) (sym c.as_slice.ensures.value) ∙ sym is) rows) c.read_all.ensures.value
+    IfOk-weaker c.read_all.result _ _ (λ read is. subst (λ rs. IsPermutation (rows_of form old.now.trees) rs) (ap (map form.read) (sym c.as_slice.ensures.value) ∙ sym is) rows) c.read_all.ensures.value
 
 pub returns-in_err-rows-clause-left : goal.returns-in_err-rows-clause-left
 returns-in_err-rows-clause-left g c clean has =
