@@ -31,8 +31,8 @@ pub use fault::Fault;
 pub use gate::{Gate, empty_history_is_legal};
 pub use lane::{Batches, Lane};
 pub use laws::{
-    law_of_changes, law_of_checks, law_of_histories, law_of_service, law_of_sets, law_of_since,
-    law_of_states, law_of_tests, law_of_the_last, law_of_the_queue,
+    law_of_changes, law_of_checks, law_of_entries, law_of_histories, law_of_service, law_of_sets,
+    law_of_since, law_of_states, law_of_tests, law_of_the_last, law_of_the_queue,
 };
 pub use queue::Queue;
 pub use reply::{Head, Heads, Order, Orders, Reply, Why};
