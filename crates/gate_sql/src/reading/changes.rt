@@ -68,7 +68,8 @@ fn put_mark(alloc: Global, desk: &mut Desk, mark: &MarkRow) -> Result<(), Tables
     desk.alter(
         number,
         |change| put_word(alloc, change, mark.kind, &mark.word),
-    ).ok_or(TablesFault::Store)?
+    )
+    .ok_or(TablesFault::Store)?
 }
 
 fn put_word(alloc: Global, change: &mut Change, kind: i64, word: &Text) -> Result<(), TablesFault> {
