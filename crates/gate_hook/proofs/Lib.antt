@@ -5,6 +5,7 @@ pub mod Fields
 pub mod Kept
 pub mod NoHead
 pub mod Numerals
+pub mod OnLines
 pub mod OneWish
 pub mod Parts
 pub mod Progress

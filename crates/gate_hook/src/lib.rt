@@ -20,7 +20,7 @@ mod target;
 pub use errors::error_text;
 pub use fault::HookFault;
 pub use field::Field;
-pub use laws::law_of_requests;
+pub use laws::{law_of_lines, law_of_requests};
 pub use lines::serve_lines;
 pub use reading::{DeliveryFault, read_delivery};
 pub use requests::{Served, serve_one};

@@ -1,16 +1,23 @@
--- What every list of deliveries tells of which none meets a full gate, by the law of entries alone.
+-- What every list of deliveries tells of which none meets a full gate, by the law of entries and that of comments.
 use Rattle.std.proofs.Common.{◌≡◌, ◌≤◌, ℕ, nat_lt, Bool, true, false, not, ◌||◌, ◌&&◌, cond, List, [], ◌∷◌, ◌++◌, refl, ◌∙◌, ap, subst, arith}
 use Rattle.std.proofs.lemmas.Bool.Decides.{nat_tests}
-use Rattle.std.proofs.lemmas.List.Elements.{All-head, All-tail}
+use Rattle.std.proofs.lemmas.List.Elements.{All-nil, All-append, All-head, All-tail}
 use Rattle.std.specs.List.{All}
+use Rattle.gate_text.specs.Limits.{KeepsLimits}
+use Rattle.gate_text.specs.Reading.{comment_says}
 use Rattle.gate_state.specs.declared.state.State.{State}
 use Rattle.gate_queue.specs.Acts.{ActKeepsLimits}
 use Rattle.gate_queue.specs.History.{Entry, Legal, LawOfEntries}
 use Rattle.gate_queue.specs.Machine.{after}
 use Rattle.gate_queue.specs.declared.act.Act.{Act}
-use Rattle.gate_store.specs.Headline.{Each, KeepLimits, LawOfHeadlines, LawOfTelling, Tells, acts_of_all, entry_for, first_in}
+use Rattle.gate_queue.specs.declared.act.Act.TheVariants as act
+use Rattle.gate_store.specs.Acts.{EventKeepsLimits, acts_of_event}
+use Rattle.gate_store.specs.Headline.{Each, KeepLimits, LawOfHeadlines, LawOfTelling, Tells, acts_of_all, entry_for, first_in, firsts, or_same}
 use Rattle.gate_store.specs.Run.{NoneMeetsFull, Records, acts_in, acts_meet_full, after_all, after_deliveries, after_delivery, is_full, is_known, meets_full, new_acts}
 use Rattle.gate_store.specs.declared.delivery.Delivery.{Delivery}
+use Rattle.gate_store.specs.declared.delivery.Event.{Event}
+use Rattle.gate_store.specs.declared.delivery.Event.TheVariants.{Comment, Role, Settings, Base, Opened, Pushed, Closed, Labeled, Unlabeled, Review, Staged, Conflict, Status, Refused, Tick}
+use Rattle.gate_store.proofs.ActLimits.{all_keep, one_keeps}
 use Rattle.gate_store.proofs.Firsts.{first_step, one_state}
 use Rattle.gate_store.proofs.Runs.{TellAll, headline_so, tells_is}
 
@@ -39,6 +46,40 @@ all_room records (delivery ∷ deliveries) (room, none) =
     ap (acts_meet_full records.state) (first_step records delivery deliveries)
     ∙ still_room records.state (new_acts records delivery) others (new_room records delivery room) later
 
+-- EACH ACT KEEPS ITS LIMITS, if all that comments say does.
+module _ (limits : (text : List ℕ) → All KeepsLimits (comment_says text)) where
+  event_keeps : (event : Event) → EventKeepsLimits event → All ActKeepsLimits (acts_of_event event)
+  event_keeps (Comment change person text) keeps = all_keep change person (comment_says text) (limits text)
+  event_keeps (Role person role) keeps = one_keeps (act.Role person role) keeps
+  event_keeps (Settings text) keeps = one_keeps (act.Settings text) keeps
+  event_keeps (Base commit) keeps = one_keeps (act.Base commit) keeps
+  event_keeps (Opened change author head) keeps = one_keeps (act.Opened change author head) keeps
+  event_keeps (Pushed change head) keeps = one_keeps (act.Pushed change head) keeps
+  event_keeps (Closed change) keeps = one_keeps (act.Closed change) keeps
+  event_keeps (Labeled change label) keeps = one_keeps (act.Labeled change label) keeps
+  event_keeps (Unlabeled change label) keeps = one_keeps (act.Unlabeled change label) keeps
+  event_keeps (Review change person head approves) keeps = one_keeps (act.Review change person head approves) keeps
+  event_keeps (Staged batch commit) keeps = one_keeps (act.Staged batch commit) keeps
+  event_keeps (Conflict batch) keeps = one_keeps (act.Conflict batch) keeps
+  event_keeps (Status commit name state) keeps = one_keeps (act.Status commit name state) keeps
+  event_keeps (Refused batch) keeps = one_keeps (act.Refused batch) keeps
+  event_keeps (Tick now) keeps = one_keeps (act.Tick now) keeps
+
+  firsts_keep : (known : List ℕ → Bool) (deliveries : List Delivery) → KeepLimits deliveries → All ActKeepsLimits (acts_of_all (firsts known deliveries))
+  firsts_keep known [] keep = All-nil ActKeepsLimits
+  firsts_keep known (delivery ∷ deliveries) keep = by (known delivery.id) (firsts_keep known deliveries later) (firsts_keep (or_same delivery.id known) deliveries later) where
+    keeps : Delivery → Type 0
+    keeps other = EventKeepsLimits other.event
+
+    later : KeepLimits deliveries
+    later = All-tail keeps delivery deliveries keep
+
+    by : (repeated : Bool) → All ActKeepsLimits (acts_of_all (firsts known deliveries)) → All ActKeepsLimits (acts_of_all (firsts (or_same delivery.id known) deliveries))
+        → All ActKeepsLimits (acts_of_all (cond repeated (firsts known deliveries) (delivery ∷ firsts (or_same delivery.id known) deliveries)))
+    by true same next = same
+    by false same next =
+        All-append ActKeepsLimits (acts_in delivery) (acts_of_all (firsts (or_same delivery.id known) deliveries)) (event_keeps delivery.event (All-head keeps delivery deliveries keep)) next
+
 -- EACH ACT TELLS.
 room_for : (n : ℕ) → nat_lt 8_999_999_999_999_996 n ≡ false → n ≤ 8_999_999_999_999_996
 room_for n room = grind (arith, nat_tests)
@@ -51,11 +92,14 @@ module _ (entries : LawOfEntries) where
       let now : Tells history s act = entries history s act legal (room_for s.queue.next rooms.0) (All-head ActKeepsLimits act acts keep) in
       (now, each_tells (entry_for s act ∷ history) (after s act) acts now.legal rooms.1 (All-tail ActKeepsLimits act acts keep))
 
-  all_tell : (old : Records) (deliveries : List Delivery) → KeepLimits old deliveries → NoneMeetsFull old deliveries → TellAll old deliveries
-  all_tell old deliveries keep none history legal = each_tells history old.state (acts_of_all (first_in old deliveries)) legal (all_room old deliveries none) keep
+  -- THE LIMITS of what comments say
+  module _ (limits : (text : List ℕ) → All KeepsLimits (comment_says text)) where
+    all_tell : (old : Records) (deliveries : List Delivery) → KeepLimits deliveries → NoneMeetsFull old deliveries → TellAll old deliveries
+    all_tell old deliveries keep none history legal =
+        each_tells history old.state (acts_of_all (first_in old deliveries)) legal (all_room old deliveries none) (firsts_keep limits (is_known old) deliveries keep)
 
-  pub headline_law : LawOfHeadlines
-  headline_law old deliveries keep none = headline_so old deliveries (all_tell old deliveries keep none)
+    pub headline_law : LawOfHeadlines
+    headline_law old deliveries keep none = headline_so old deliveries (all_tell old deliveries keep none)
 
-  pub telling_law : LawOfTelling
-  telling_law old deliveries keep none = tells_is old (after_deliveries old deliveries) deliveries refl (all_tell old deliveries keep none)
+    pub telling_law : LawOfTelling
+    telling_law old deliveries keep none = tells_is old (after_deliveries old deliveries) deliveries refl (all_tell old deliveries keep none)

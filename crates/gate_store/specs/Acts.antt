@@ -1,6 +1,7 @@
 -- THE ACTS OF AN EVENT.
-use Rattle.std.specs.Prelude.{ℕ, List, [], ◌∷◌, map}
+use Rattle.std.specs.Prelude.{ℕ, ⊤, List, [], ◌∷◌, map}
 use Rattle.gate_text.specs.Reading.{comment_says}
+use Rattle.gate_state.specs.State.{IsMoment}
 use Rattle.gate_queue.specs.declared.act.Act.{Act}
 use Rattle.gate_queue.specs.declared.act.Act.TheVariants as act
 use Rattle.gate_store.specs.declared.delivery.Event.{Event}
@@ -27,3 +28,8 @@ acts_of_event (Conflict batch) = act.Conflict batch ∷ []
 acts_of_event (Status commit name state) = act.Status commit name state ∷ []
 acts_of_event (Refused batch) = act.Refused batch ∷ []
 acts_of_event (Tick now) = act.Tick now ∷ []
+
+-- what every value of the type is made so: a reading of the clock is within its limit
+abbrev pub EventKeepsLimits : Event → Type 0
+EventKeepsLimits (Tick now) = IsMoment now
+EventKeepsLimits _ = ⊤

@@ -92,4 +92,7 @@ pub fn read_comment(alloc: Global, text: &str) -> Result<Vec<Spoken>, AllocError
 pub fn one_reading()
     ensures said { (text : List ℕ) → CommentSays text (reading.comment_says text) }
     ensures only { (text : List ℕ) (others : List Spoken) → CommentSays text others → others ≡ reading.comment_says text }
+
+    // What it says keeps its limits.
+    ensures limits { (text : List ℕ) → All KeepsLimits (reading.comment_says text) }
 {}
