@@ -22,6 +22,7 @@ use Rattle.gate_rules.specs.declared.change.Change.{Change}
 use Rattle.gate_rules.specs.declared.role.Role.TheVariants.{Nobody}
 use Rattle.gate_rules.specs.declared.rule.Rule.{Rule}
 use Rattle.gate_rules.specs.declared.rule.Rule.TheVariants.{ClockBack, NoSuchBatch}
+use Rattle.gate_queue.specs.Acts.{ActKeepsLimits}
 use Rattle.gate_state.specs.State.{IsMoment, approved_on, landing_on, trying_on, priority_on, IsState}
 use Rattle.gate_state.specs.Counts.{occurs, in_landing, held, held_by, of_any_priority, uses}
 use Rattle.gate_queue.specs.History.{Entry, Event, did, gave, given, ends_why, happened, events_of, last_of, said_on, author_back, head_back, settings_back, phase_back, labels_back, reviews_back, approval_said, standing_back, approvers_back, landing_back, trying_back, approvers_on, change_of, change_back, look_back, stages, keeps_order, keeps_staged, state_said, base_back, IsStandingAt, IsTriedAt, AreRightHeads, IsRightOrder, Legal, StateTells, EntryTells, entry_of, orders_in, denied_by}
@@ -57,7 +58,7 @@ use Rattle.gate_queue.proofs.Fitness.{opened_so, passed, unless_so}
 use Rattle.gate_queue.proofs.Meaning.{meaning_allowed, meaning_right}
 use Rattle.gate_queue.proofs.Growing.{waits}
 use Rattle.gate_state.specs.Lemmas.Numbers.{has_number}
-use Rattle.gate_queue.proofs.States.{Holds, clock_holds, ended_on_time_holds, starting_holds, still_clock, queued_held, tried_held}
+use Rattle.gate_queue.proofs.States.{Holds, clock_holds, ended_on_time_holds, starting_holds, still_clock, still_state, queued_held, tried_held}
 use Rattle.gate_queue.proofs.Steps.{Kept, AreNotices, IsNext, stage_on, given-append, other_number, first_used, first_kind, first_based, still_runs, tries_left_staging, starting_kept, ended_on_time_kept}
 use Rattle.gate_queue.proofs.Tested.{Tests, TestsAt, IsAt, Elsewhere, EndNone, stage_tests, other_tests, staged_tests, unasked, elsewhere_told}
 use Rattle.gate_queue.proofs.Testing.{standing_approved, stands_all, report_of, followed_runs, notices_tests, act_tests, restarted_tests, failed_tests, requeued_tests, goes_on_tests, goes_on_right}
@@ -733,3 +734,7 @@ tells history old act is legal =
       once : (b : Bool) (staged waiting : ℕ) → staged + waiting ≤ (if b then 1 else 0) → staged ≤ 1
       once true staged waiting few = omega (arith, few)
       once false staged waiting few = omega (arith, few)
+
+pub entries_law : (history : List Entry) (old : State) (act : Act) → Legal history old → old.queue.next ≤ 8_999_999_999_999_996 → ActKeepsLimits act
+    → EntryTells history old (entry_of act (reply_to old act)) (after old act)
+entries_law history old act legal room limits = tells history old act (still_state old (legal_state history old legal) room act limits) legal

@@ -10,9 +10,9 @@ use Rattle.std.specs.Str.{bytes_eq}
 use Rattle.gate_queue.specs.Vocabulary.{SettingsView, settings_of, same_settings, Approve, ApproveFor, Withdraw, Priority, Try, TryCancel, DelegateAuthor, DelegateTo, DelegateNone, Known, Look, Texts, is_fit, DeskView, role_on, Change, Phase, Repeat, Nobody, RoleOf, Rule, Act, Spoken, Role, Settings, Base, Opened, Pushed, Closed, Labeled, Unlabeled, Review, Staged, Status, Refused, Tick, StatusState, Success, Failure, Error, Pending, Order, Stage, Land, Notice, Reply, Done, Denied, Why, State}
 use Rattle.gate_rules.specs.declared.change.Phase.TheVariants as phase
 use Rattle.gate_rules.specs.declared.change.Repeat.TheVariants as repeat
-use Rattle.gate_queue.specs.Acts.{on}
+use Rattle.gate_queue.specs.Acts.{on, ActKeepsLimits}
 use Rattle.gate_state.specs.Counts.{held, in_landing, of_any_priority}
-use Rattle.gate_queue.specs.Machine.{IsEmpty, broken, missing, meaning, Step}
+use Rattle.gate_queue.specs.Machine.{IsEmpty, broken, missing, meaning, reply_to, after, Step}
 use Rattle.gate_state.specs.State.{IsState}
 use Rattle.gate_state.specs.declared.batch.Branch.{Branch}
 use Rattle.gate_state.specs.declared.batch.Branch.TheVariants.{Staging, Trying}
@@ -598,3 +598,8 @@ pub record EntryTells (history : List Entry) (old : State) (entry : Entry) (new 
 
 abbrev pub entry_of : Act → Reply → Entry
 entry_of act reply = record { act = act; reply = reply }
+
+-- EACH STEP TELLS IT: after every legal history, one more act that keeps its limits, if the next number leaves room for it.
+abbrev pub LawOfEntries : Type 0
+LawOfEntries = (history : List Entry) (old : State) (act : Act) → Legal history old → old.queue.next ≤ 8_999_999_999_999_996 → ActKeepsLimits act
+    → EntryTells history old (entry_of act (reply_to old act)) (after old act)

@@ -1,5 +1,5 @@
 ghost use Rattle.gate_queue.specs.Following.{LawOfTheQueue};
-ghost use Rattle.gate_queue.specs.History.{LawOfHistories};
+ghost use Rattle.gate_queue.specs.History.{LawOfEntries, LawOfHistories};
 ghost use Rattle.gate_queue.specs.States.{LawOfStates};
 ghost use Rattle.gate_queue.specs.Words.{LawOfSince, LawOfTheLast, LawOfSets, LawOfTests};
 
@@ -45,4 +45,10 @@ pub fn law_of_tests()
 /// `Staging` if it stands or is landing, in one on `Trying` if it is tried, and else in none.
 pub fn law_of_histories()
     ensures { LawOfHistories }
+{}
+
+/// The law of entries: after every legal history, an act that keeps its limits adds an entry that tells all that the clause
+/// `history` of `Gate::act` says of one, if the next number leaves room for the act.
+pub fn law_of_entries()
+    ensures { LawOfEntries }
 {}

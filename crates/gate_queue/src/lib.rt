@@ -22,8 +22,8 @@ pub use act::{Act, StatusState};
 pub use fault::Fault;
 pub use gate::{Gate, empty_history_is_legal};
 pub use laws::{
-    law_of_histories, law_of_sets, law_of_since, law_of_states, law_of_tests, law_of_the_last,
-    law_of_the_queue,
+    law_of_entries, law_of_histories, law_of_sets, law_of_since, law_of_states, law_of_tests,
+    law_of_the_last, law_of_the_queue,
 };
 pub use reply::{Head, Heads, Order, Orders, Reply, Why};
 pub use settings::LosesApproval;

@@ -30,7 +30,7 @@ known_after records delivery = λ i id. at id i where
   at id = ap is_some (kept_so records delivery id) ∙ some_or (bytes_eq id delivery.id) (replies_to records.state (acts_in delivery)) (kept_under records id)
 
 -- ONE DELIVERY, and then others
-first_step : (records : Records) (delivery : Delivery) (deliveries : List Delivery)
+pub first_step : (records : Records) (delivery : Delivery) (deliveries : List Delivery)
     → acts_of_all (first_in records (delivery ∷ deliveries)) ≡ new_acts records delivery ++ acts_of_all (first_in (after_delivery records delivery) deliveries)
 first_step records delivery deliveries = by (is_known records delivery.id) where
   by : (known : Bool) → acts_of_all (cond known (first_in records deliveries) (delivery ∷ firsts (or_same delivery.id (is_known records)) deliveries))
@@ -53,7 +53,7 @@ acts_push records (first ∷ deliveries) delivery =
     ∙ ap (λ (acts : List Act). acts ++ new_acts (after_deliveries next deliveries) delivery) (sym (first_step records first deliveries))
 
 -- THE STATE after deliveries
-one_state : (records : Records) (delivery : Delivery) → (after_delivery records delivery).state ≡ after_all records.state (new_acts records delivery)
+pub one_state : (records : Records) (delivery : Delivery) → (after_delivery records delivery).state ≡ after_all records.state (new_acts records delivery)
 one_state records delivery = by (is_known records delivery.id) where
   by : (known : Bool) → (cond known records (stepped records delivery)).state ≡ after_all records.state (cond known [] (acts_in delivery))
   by true = refl

@@ -1,5 +1,6 @@
 pub mod ActLimits
 pub mod Again
+pub mod Deliveries
 pub mod Depths
 pub mod Firsts
 pub mod Items

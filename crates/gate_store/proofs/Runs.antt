@@ -56,7 +56,7 @@ lands_so history s act tells = All-weaker (IsRightOrder now act) (IsRight now) r
 abbrev pub TellAll : Records → List Delivery → Type 0
 TellAll old deliveries = (history : List Entry) → Legal history old.state → Each Tells history old.state (acts_of_all (first_in old deliveries))
 
-headline_so : (old : Records) (deliveries : List Delivery) → TellAll old deliveries → Headline old deliveries (answers_to old deliveries) (after_deliveries old deliveries)
+pub headline_so : (old : Records) (deliveries : List Delivery) → TellAll old deliveries → Headline old deliveries (answers_to old deliveries) (after_deliveries old deliveries)
 headline_so old deliveries tell = record {
   answered = answered_kept old deliveries;
   run = run_kept old deliveries;

@@ -7,6 +7,7 @@ use Rattle.std.specs.List.{All, flat_map}
 use Rattle.std.specs.Option.{option_or}
 use Rattle.std.specs.Str.{bytes_eq}
 use Rattle.gate_rules.specs.declared.rule.Rule.{Rule}
+use Rattle.gate_queue.specs.Acts.{ActKeepsLimits}
 use Rattle.gate_queue.specs.History.{Entry, EntryTells, Event, Legal, IsTested, entry_of, events_of, fit_back, head_back, heads_back, is_unmoved, orders_in, rule_back, standing_back}
 use Rattle.gate_queue.specs.Machine.{reply_to, after, missing}
 use Rattle.gate_queue.specs.declared.act.Act.{Act}
@@ -16,7 +17,7 @@ use Rattle.gate_queue.specs.declared.reply.Order.TheVariants.{Stage, Land, Notic
 use Rattle.gate_queue.specs.declared.reply.Reply.{Reply}
 use Rattle.gate_queue.specs.declared.reply.Reply.TheVariants.{Done, Denied}
 use Rattle.gate_state.specs.declared.state.State.{State}
-use Rattle.gate_store.specs.Run.{Records, kept_under, is_known, acts_in, replies_to, after_all}
+use Rattle.gate_store.specs.Run.{Records, kept_under, is_known, acts_in, replies_to, after_all, answers_to, after_deliveries, NoneMeetsFull}
 use Rattle.gate_store.specs.declared.delivery.Delivery.{Delivery}
 
 -- THE FIRST DELIVERY OF EACH IDENTIFIER: none that is known, and none that one before it has
@@ -102,3 +103,16 @@ Tells history s act = EntryTells history s (entry_for s act) (after s act)
 pub record HistoryTells (old : Records) (deliveries : List Delivery) (new : Records) (history : List Entry) : Type 0 where
   pub entries : Each Tells history old.state (acts_of_all (first_in old deliveries))
   pub legal : Legal (history_after history old.state (acts_of_all (first_in old deliveries))) new.state
+
+-- EVERY LIST OF DELIVERIES, in the words of the run alone: if none meets a full gate, and the acts of the first ones keep their
+-- limits, as those of every delivery do that is a value of its type, then their answers and the records after them are told so.
+abbrev pub KeepLimits : Records → List Delivery → Type 0
+KeepLimits old deliveries = All ActKeepsLimits (acts_of_all (first_in old deliveries))
+
+abbrev pub LawOfHeadlines : Type 0
+LawOfHeadlines = (old : Records) (deliveries : List Delivery) → KeepLimits old deliveries → NoneMeetsFull old deliveries
+    → Headline old deliveries (answers_to old deliveries) (after_deliveries old deliveries)
+
+abbrev pub LawOfTelling : Type 0
+LawOfTelling = (old : Records) (deliveries : List Delivery) → KeepLimits old deliveries → NoneMeetsFull old deliveries
+    → (history : List Entry) → Legal history old.state → HistoryTells old deliveries (after_deliveries old deliveries) history

@@ -17,7 +17,7 @@ pub use answers::{Answer, answer_text};
 pub use book::Book;
 pub use delivery::{Delivery, Event, acts_of};
 pub use keeper::Keeper;
-pub use laws::law_of_texts;
+pub use laws::{law_of_deliveries, law_of_texts};
 pub use moment::Moment;
 pub use plain_book::PlainBook;
 pub use reading::{AnswerFault, read_answer, reread};
