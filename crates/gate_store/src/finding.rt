@@ -36,7 +36,9 @@ fn number_in(value: Option<&Value>) -> Result<u64, AnswerFault>
 fn items_in(value: Option<&Value>) -> Result<&[Value], AnswerFault>
     ensures { Finds (items_now result) (found.items_in (seen value.entry)) }
 {
-    let values = value.and_then(Value::as_array).ok_or(AnswerFault::NotAnswer)?;
+    let values = value
+        .and_then(Value::as_array)
+        .ok_or(AnswerFault::NotAnswer)?;
     Ok(values.as_slice())
 }
 
