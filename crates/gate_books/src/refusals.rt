@@ -3,10 +3,11 @@ ghost use Rattle.std.specs.Prelude.{◌≡◌, false, IfOk};
 use crate::fault::BooksFault;
 use crate::serving::served;
 use crate::tables::print_table;
-use gate_jobs::{JobFault, complaint, run};
+use gate_hook::{HookFault, serve_lines};
+use gate_jobs::{JobFault, complaint};
 use gate_queue::{Fault, Gate};
 use gate_sql::{Refused, SqlBook, gate_of, rows_of};
-use gate_store::{Book, PlainBook};
+use gate_store::{Book, Keeper, PlainBook};
 use gate_tables::Rows;
 use gate_text::List;
 use sqlite::{Connection, MemStore};
@@ -131,13 +132,7 @@ fn print_refused<W: Write>(writer: &mut W, refused: Refused<MemStore>) -> Result
 // Prints with which line lines end over a gate whose batch numbers are used up.
 fn print_full<W: Write>(alloc: Global, writer: &mut W) -> Result<(), BooksFault> {
     let gate = Gate::starting_at(alloc, 8_999_999_999_999_997);
-    let mut line = LINE.as_bytes();
-    match run(
-        alloc,
-        PlainBook::new(alloc, gate),
-        &mut line,
-        &mut io::sink(),
-    ) {
+    match line_over(alloc, PlainBook::new(alloc, gate)) {
         Ok(_) => writeln!(writer, "over a full gate: no fault")?,
         Err(fault) => writeln!(
             writer,
@@ -146,6 +141,14 @@ fn print_full<W: Write>(alloc: Global, writer: &mut W) -> Result<(), BooksFault>
         )?,
     }
     Ok(())
+}
+
+// How the line ends over any book.
+fn line_over<B: Book + Drop>(alloc: Global, book: B) -> Result<u64, HookFault> {
+    let mut keeper = Keeper::new(book);
+    let served = serve_lines(alloc, &mut keeper, &mut LINE.as_bytes(), &mut io::sink());
+    drop(keeper);
+    served
 }
 
 // A database in memory that has a table, and no open transaction.

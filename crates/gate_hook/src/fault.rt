@@ -5,7 +5,7 @@ use thiserror::Error;
 /// Why serving stopped before its end.
 #[derive(Clone, Copy, Debug, PartialEq, Eq, Error)]
 pub enum HookFault {
-    /// A delivery met a fault, or there was no memory to read a line or to write its answer. From `serve_lines` alone.
+    /// A delivery met a fault, or there was no memory to read a line or to write its answer. `serve_one` and `send` never answer it.
     #[error(transparent)]
     Gate(Fault),
     /// The reader failed; an interrupted read is a failure too.
@@ -17,6 +17,17 @@ pub enum HookFault {
     /// The input isn't at its end after 4,294,967,296 bytes. From `serve_lines` alone.
     #[error("TooMuch")]
     TooMuch,
+}
+
+impl From<Fault> for HookFault {
+    ghost use Rattle.std.specs.Prelude.{◌≡◌};
+    ghost use Rattle.gate_hook.specs.declared.fault.HookFault.TheVariants.{Gate};
+
+    ghost from_gives = { λ gate fault. fault ≡ Gate gate };
+
+    fn from(fault: Fault) -> HookFault {
+        HookFault::Gate(fault)
+    }
 }
 
 impl From<AllocError> for HookFault {

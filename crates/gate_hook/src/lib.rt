@@ -24,4 +24,4 @@ pub use laws::{law_of_lines, law_of_requests};
 pub use lines::serve_lines;
 pub use reading::{DeliveryFault, read_delivery};
 pub use requests::{Served, serve_one};
-pub use sending::{NotWritten, send};
+pub use sending::send;

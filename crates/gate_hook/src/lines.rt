@@ -78,14 +78,8 @@ impl<B: Book, W: Write> Session<'_, '_, B, W> {
         ensures same_keeper { self.new.keeper.ghost_name ≡ self.old.keeper.ghost_name }
         ensures same_writer { self.new.writer.ghost_name ≡ self.old.writer.ghost_name }
     {
-        let text = match line_answer(alloc, self.keeper, &self.line) {
-            Ok(text) => text,
-            Err(fault) => return Err(HookFault::Gate(fault)),
-        };
-        match send(self.writer, text.as_bytes()) {
-            Ok(()) => Ok(()),
-            Err(_) => Err(HookFault::Write),
-        }
+        let text = line_answer(alloc, self.keeper, &self.line)?;
+        send(self.writer, text.as_bytes())
     }
 
     // Takes one byte: a line feed ends the line that is open, which is answered; any other byte goes on with it.

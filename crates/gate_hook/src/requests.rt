@@ -92,10 +92,7 @@ fn read_wish<R: Read>(alloc: Global, reader: &mut R) -> Result<Wish, HookFault>
         Ok(()) => {}
         Err(fault) => return Err(fault),
     }
-    match wish_in(alloc, &bytes, &head) {
-        Ok(wish) => Ok(wish),
-        Err(_) => Err(HookFault::Gate(Fault::Memory)),
-    }
+    Ok(wish_in(alloc, &bytes, &head)?)
 }
 
 // The response to a delivery.
@@ -166,14 +163,8 @@ fn respond<B: Book>(
     ensures cause { IfErr result (MayFail B.may_answer) }
 {
     match wish {
-        Ok(Request::Delivery(delivery)) => match answered(alloc, keeper, delivery) {
-            Ok(response) => Ok(response),
-            Err(fault) => Err(HookFault::Gate(fault)),
-        },
-        Ok(Request::Report(report)) => match reported(alloc, keeper, *report) {
-            Ok(response) => Ok(response),
-            Err(fault) => Err(HookFault::Gate(fault)),
-        },
+        Ok(Request::Delivery(delivery)) => Ok(answered(alloc, keeper, delivery)?),
+        Ok(Request::Report(report)) => Ok(reported(alloc, keeper, *report)?),
         Err(refusal) => Ok(refusal_response(alloc, *refusal)?),
     }
 }
@@ -200,10 +191,8 @@ fn answer<B: Book, R: Read>(
 fn send_as<W: Write>(writer: &mut W, text: &str, served: Served) -> Result<Served, HookFault>
     ensures { HasSent result served text.now (W.contents writer.old) (W.contents writer.new) }
 {
-    match send(writer, text.as_bytes()) {
-        Ok(()) => Ok(served),
-        Err(_) => Err(HookFault::Write),
-    }
+    send(writer, text.as_bytes())?;
+    Ok(served)
 }
 
 /// Serves one request of HTTP/1.0 or HTTP/1.1 (RFC 9112): reads it, lets a keeper answer the delivery that it has or makes the

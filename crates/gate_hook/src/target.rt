@@ -5,7 +5,7 @@ ghost use Rattle.gate_hook.specs.Targets as targets;
 
 use gate_text::ChangeNo;
 use http::Method;
-use matchit::{InsertError, Match, Router};
+use matchit::{InsertError, Router};
 use std::alloc::{AllocError, Global};
 use std::str;
 

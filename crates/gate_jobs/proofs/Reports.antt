@@ -2,9 +2,9 @@
 use Rattle.std.proofs.Common.{◌≡◌, ◌<◌, ℕ, List, Option, Result, Ok, Err, inl, inr, OnOk, IfErr, length, refl, sym, subst, arith}
 use Rattle.std.proofs.KnownBytes.{Appends-nil}
 use Rattle.std.specs.Io.KnownBytes.{Appends}
-use Rattle.gate_jobs.specs.Printed.{IsCutOff}
 use Rattle.gate_jobs.specs.Report.{IsReported, MayMiss, report_of}
 use Rattle.gate_hook.specs.Lines.{IsServed, IsWithinLimit, NoLineMeetsFull, after_lines, lines_of}
+use Rattle.gate_hook.specs.Sending.{IsCutOff}
 use Rattle.gate_hook.specs.declared.fault.HookFault.{HookFault}
 use Rattle.gate_hook.specs.declared.fault.HookFault.TheVariants.{Gate, Read, Write, TooMuch}
 use Rattle.gate_queue.specs.declared.fault.Fault.{Fault}
@@ -60,3 +60,8 @@ pub text_told : (old : Records) (result : Result (Unit {0}) HookFault) (text inp
 text_told old (Ok done) text input left before after same room ok err = (subst (Appends before after) same ok, room)
 text_told old (Err fault) text input left before after same room ok err =
     subst (λ (f : HookFault). IsReported old (Err f) input left before after) (sym err.0) (subst (λ (t : List ℕ). IsCutOff t before after) same err.1)
+
+-- what holds however a call ended
+pub ok_if : (result : Result (Unit {0}) HookFault) (P : Type 0) → P → OnOk result P
+ok_if (Ok done) P holds = holds
+ok_if (Err fault) P holds = tt

@@ -1,13 +1,11 @@
 -- What the contracts of this crate cite. For a reader, in this order:
 --     Words        the job that words ask for
 --     Explaining   what is told if they ask for none
---     Printed      a text that may be cut off
 --     Report       the report of an input
 --     Serving      what is done with connections
 --     Outcome      the exit status, and the line on standard error
 pub mod Explaining
 pub mod Outcome
-pub mod Printed
 pub mod Report
 pub mod Serving
 pub mod Words

@@ -2,8 +2,8 @@
 use Rattle.std.specs.Prelude.{◌≡◌, ◌<◌, ℕ, ⊤, true, List, [], ◌∷◌, ◌++◌, length, Option, Result, Ok, Err, String}
 use Rattle.std.specs.Io.KnownBytes.{Appends}
 use Rattle.std.specs.String.{string_bytes}
-use Rattle.gate_jobs.specs.Printed.{IsCutOff}
 use Rattle.gate_hook.specs.Lines.{AreComplete, NoLineMeetsFull, after_lines, line_meets_full, lines_of, max_input}
+use Rattle.gate_hook.specs.Sending.{IsCutOff}
 use Rattle.gate_hook.specs.declared.fault.HookFault.{HookFault}
 use Rattle.gate_hook.specs.declared.fault.HookFault.TheVariants.{Gate, Read, Write, TooMuch}
 use Rattle.gate_queue.specs.declared.fault.Fault.TheVariants.{Memory, Store, Full}
@@ -28,10 +28,11 @@ MayMiss records Read input left = ⊤
 MayMiss records Write input left = ⊤
 MayMiss records TooMuch input left = max_input < length input
 
--- the text is made, and no line met a full gate; or it isn't
-abbrev pub IsMade : {A : Type 0} → Records → Result (String A) HookFault → List ℕ → Option (List ℕ) → Type 0
-IsMade {A} records (Ok text) input left = (string_bytes text ≡ report_of records input) × NoLineMeetsFull records (lines_of input)
-IsMade {A} records (Err fault) input left = MayMiss records fault input left
+-- the text is made, no line met a full gate, and the records are those after the lines; or the text isn't made
+abbrev pub IsMade : {A : Type 0} → Records → Result (String A) HookFault → List ℕ → Option (List ℕ) → Records → Type 0
+IsMade {A} old (Ok text) input left new =
+    (string_bytes text ≡ report_of old input) × NoLineMeetsFull old (lines_of input) × (new ≡ after_lines old (lines_of input))
+IsMade {A} old (Err fault) input left new = MayMiss old fault input left
 
 -- The report is written, or a part from its front if the writer refused the rest. After any other fault nothing is written.
 abbrev pub IsReported : Records → Result (Unit {0}) HookFault → List ℕ → Option (List ℕ) → Option (List ℕ) → Option (List ℕ) → Type 0

@@ -1,6 +1,8 @@
--- CONNECTIONS: what is printed before the first, what is done with one, and how much is read of it behind its response.
-use Rattle.std.specs.Prelude.{◌≡◌, ◌⊎◌, ◌≤◌, ℕ, List, [], ◌∷◌, ◌++◌, length, codes, decimal, Option, Result, Ok, Err}
+-- CONNECTIONS: what is printed before the first, what is done with one and with many, and how much is read of one behind its
+-- response.
+use Rattle.std.specs.Prelude.{◌≡◌, ◌⊎◌, ◌<◌, ◌≤◌, ℕ, List, [], ◌∷◌, ◌++◌, length, codes, decimal, Option, None, Result, Ok, Err}
 use Rattle.std.specs.Io.KnownBytes.{Consumes, IsAtEnd}
+use Rattle.gate_jobs.specs.declared.fault.JobFault.{JobFault}
 use Rattle.gate_hook.specs.Receiving.{IsInput}
 use Rattle.gate_hook.specs.Served.{AnswersOne}
 use Rattle.gate_hook.specs.declared.fault.HookFault.{HookFault}
@@ -16,6 +18,21 @@ abbrev pub IsServedOnce : (sound : Type 0) → Records → Records → Option (L
 IsServedOnce sound old new unread left before after =
     (served : Result Served HookFault) × (input : List ℕ) × IsInput unread left input
     × (sound → AnswersOne served input old new before after)
+
+-- One request is answered on a connection. No contract knows the bytes that it gives and takes, so the input is some input, and of
+-- what is written nothing is said (`None`); but the records after it are what `serve_one` makes of that input.
+abbrev pub IsServedUnseen : List ℕ → Records → Records → Type 0
+IsServedUnseen input old new = (served : Result Served HookFault) × AnswersOne served input old new None None
+
+-- Connections one after the other: each finds the records as the one before left them.
+abbrev pub AreServedInTurn : List (List ℕ) → Records → Records → Type 0
+AreServedInTurn [] old new = new ≡ old
+AreServedInTurn (input ∷ inputs) old new = (between : Records) × IsServedUnseen input old between × AreServedInTurn inputs between new
+
+-- so many connections were accepted, of those that were to be: all, or fewer if one can't be accepted
+abbrev pub AreAccepted : Result (Unit {0}) JobFault → ℕ → ℕ → Type 0
+AreAccepted (Ok _) accepted count = accepted ≡ count
+AreAccepted (Err fault) accepted count = accepted < count
 
 -- Bytes were dropped up to the end of the input, or as many as may be; or the reader failed before.
 abbrev pub IsDrained : Result (Unit {0}) HookFault → ℕ → Option (List ℕ) → Option (List ℕ) → Type 0

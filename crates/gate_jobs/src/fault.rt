@@ -1,21 +1,16 @@
 use gate_hook::HookFault;
 use gate_queue::Fault;
-use thiserror::Error;
 
 /// Why a job stopped before its end.
-#[derive(Clone, Copy, Debug, PartialEq, Eq, Error)]
+#[derive(Clone, Copy, Debug, PartialEq, Eq)]
 pub enum JobFault {
     /// No book could be made, or reading, answering or writing stopped.
-    #[error(transparent)]
     Hook(HookFault),
     /// The address can't be bound.
-    #[error("Bind")]
     Bind,
     /// No connection could be accepted.
-    #[error("Accept")]
     Accept,
     /// The file can't be opened.
-    #[error("File")]
     File,
 }
 

@@ -8,7 +8,6 @@ mod fault;
 mod outcome;
 mod printing;
 mod reporting;
-mod running;
 mod serving;
 mod words;
 
@@ -18,6 +17,5 @@ pub use fault::JobFault;
 pub use outcome::{Ending, complaint, ended, status};
 pub use printing::print;
 pub use reporting::report;
-pub use running::run;
 pub use serving::{announce, serve, serve_request};
 pub use words::{Job, WordsFault, no_text, read_words};

@@ -2,7 +2,7 @@ ghost use Rattle.std.specs.Prelude.{◌≡◌, ℕ, List, IfErr, IfOk, OnOk};
 ghost use Rattle.std.specs.Io.KnownBytes.{Consumes, IsAtEnd};
 ghost use Rattle.std.specs.String.{string_bytes};
 ghost use Rattle.gate_jobs.specs.Report.{IsMade, IsReported};
-ghost use Rattle.gate_hook.specs.Lines.{MayEnd};
+ghost use Rattle.gate_hook.specs.Lines.{MayEnd, after_lines, lines_of};
 ghost use Rattle.gate_report.specs.Queue.{queue_text_of};
 ghost use Rattle.gate_store.specs.Run.{IsOfBooks, IsOfKeepers};
 
@@ -25,6 +25,7 @@ fn text_of(alloc: Global, gate: &Gate) -> Result<String, Fault>
 // The text of the queue of a keeper.
 fn queue_of<B: Book>(alloc: Global, keeper: &mut Keeper<B>) -> Result<String, Fault>
     ensures text { B.is_sound keeper.new → IfOk result (λ text. string_bytes text ≡ queue_text_of (B.shows keeper.old).state) }
+    ensures same { B.is_sound keeper.new → B.shows keeper.new ≡ B.shows keeper.old }
     ensures was { B.is_sound keeper.new → B.is_sound keeper.old }
     ensures cause { IfErr result (IsOfKeepers B.may_answer) }
     ensures fault { IfErr result IsOfBooks }
@@ -42,8 +43,9 @@ fn text_after<B: Book, R: Read>(
     reader: &mut R,
 ) -> Result<String, HookFault>
     ensures made { (input : List ℕ) × Consumes (R.remaining reader.old) (R.remaining reader.new) input
-        × (B.is_sound keeper.new → IsMade (B.shows keeper.old) result input (R.remaining reader.new)) }
+        × (B.is_sound keeper.new → IsMade (B.shows keeper.old) result input (R.remaining reader.new) (B.shows keeper.new)) }
     ensures end { OnOk result (IsAtEnd (R.remaining reader.new)) }
+    ensures was { B.is_sound keeper.new → B.is_sound keeper.old }
     ensures cause { IfErr result (MayEnd B.may_answer) }
 {
     if let Err(fault) = serve_lines(alloc, keeper, reader, &mut io::sink()) {
@@ -55,45 +57,32 @@ fn text_after<B: Book, R: Read>(
     }
 }
 
-// The report over the records of a keeper. What it says holds if the premise of the keeper's book does.
-fn report_by<B: Book, R: Read, W: Write>(
+/// Serves the lines of a reader over the records of a keeper, drops the answers, and then writes the queue as text. After a fault
+/// nothing is written, or after `Write` a part of the text; the lines that were served before it have acted.
+pub fn report<B: Book, R: Read, W: Write>(
     alloc: Global,
     keeper: &mut Keeper<B>,
     reader: &mut R,
     writer: &mut W,
 ) -> Result<(), HookFault>
+    // The report is that of the input which was read, and the records are then those after its lines, if the premise of the
+    // keeper's book holds.
     ensures reported { (input : List ℕ) × Consumes (R.remaining reader.old) (R.remaining reader.new) input
-        × (B.is_sound keeper.new → IsReported (B.shows keeper.old) result input (R.remaining reader.new) (W.contents writer.old) (W.contents writer.new)) }
+        × (B.is_sound keeper.new
+        → IsReported (B.shows keeper.old) result input (R.remaining reader.new) (W.contents writer.old) (W.contents writer.new)
+        × OnOk result (B.shows keeper.new ≡ after_lines (B.shows keeper.old) (lines_of input))) }
+
+    // It succeeds at the end of the input alone.
     ensures end { OnOk result (IsAtEnd (R.remaining reader.new)) }
+
+    // A fault of the gate is one that the keeper may answer.
     ensures cause { IfErr result (MayEnd B.may_answer) }
+
+    // A book that is sound in the end was sound before.
+    ensures was { B.is_sound keeper.new → B.is_sound keeper.old }
 {
     match text_after(alloc, keeper, reader) {
         Ok(text) => print(writer, text.as_str()),
         Err(fault) => Err(fault),
     }
-}
-
-/// Serves the lines of a reader over the records of a book, drops the answers, and then writes the queue as text. The book is let
-/// go. After a fault nothing is written, or after `Write` a part of the text.
-pub fn report<B: Book + Drop, R: Read, W: Write>(
-    alloc: Global,
-    book: B,
-    reader: &mut R,
-    writer: &mut W,
-) -> Result<(), HookFault>
-    // The report is that of the input which was read, under the book's premise: `last` stands for the book as it is let go.
-    ensures reported { (input : List ℕ) × Consumes (R.remaining reader.old) (R.remaining reader.new) input
-        × ((last : B) × (B.is_sound last → IsReported (B.shows book) result input (R.remaining reader.new) (W.contents writer.old) (W.contents writer.new))) }
-
-    // It succeeds at the end of the input alone.
-    ensures end { OnOk result (IsAtEnd (R.remaining reader.new)) }
-
-    // A fault of the gate is one that a keeper over such a book may answer.
-    ensures cause { IfErr result (MayEnd B.may_answer) }
-{
-    let mut keeper = Keeper::new(book);
-    let reported = report_by(alloc, &mut keeper, reader, writer);
-    // By name, since a keeper that ends with its function is dear to prove.
-    drop(keeper);
-    reported
 }

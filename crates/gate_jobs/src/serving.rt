@@ -1,7 +1,7 @@
-ghost use Rattle.std.specs.Prelude.{◌≡◌, ◌⊎◌, IfErr, OnOk};
+ghost use Rattle.std.specs.Prelude.{◌≡◌, ◌⊎◌, ℕ, List, length, IfErr, OnOk};
 ghost use Rattle.std.specs.Io.KnownBytes.{Appends};
-ghost use Rattle.gate_jobs.specs.Printed.{IsCutOff};
-ghost use Rattle.gate_jobs.specs.Serving.{IsServedOnce, greeting};
+ghost use Rattle.gate_jobs.specs.Serving.{AreAccepted, AreServedInTurn, IsServedOnce, IsServedUnseen, greeting};
+ghost use Rattle.gate_hook.specs.Sending.{IsCutOff};
 
 use crate::closing::close;
 use crate::fault::JobFault;
@@ -19,10 +19,7 @@ pub fn announce<W: Write>(alloc: Global, port: u16, writer: &mut W) -> Result<()
     ensures err { IfErr result (λ fault. ((fault ≡ HookFault.Write) × IsCutOff (greeting port) (W.contents writer.old) (W.contents writer.new))
         ⊎ ((fault ≡ HookFault.Gate Fault.Memory) × (W.contents writer.new ≡ W.contents writer.old))) }
 {
-    let line = match format!(in alloc; "listening on 127.0.0.1:{port}\n") {
-        Ok(line) => line,
-        Err(_) => return Err(HookFault::Gate(Fault::Memory)),
-    };
+    let line = format!(in alloc; "listening on 127.0.0.1:{port}\n")?;
     print(writer, line.as_str())
 }
 
@@ -34,12 +31,18 @@ pub fn serve_request<B: Book, R: Read, W: Write>(
     writer: &mut W,
 )
     ensures served { IsServedOnce (B.is_sound keeper.new) (B.shows keeper.old) (B.shows keeper.new) (R.remaining reader.old) (R.remaining reader.new) (W.contents writer.old) (W.contents writer.new) }
+
+    // A book that is sound in the end was sound before.
+    ensures was { B.is_sound keeper.new → B.is_sound keeper.old }
 {
     let _ = serve_one(alloc, keeper, reader, writer);
 }
 
 // Serves a connection, and closes it so that its client can read the response.
-fn serve_stream<B: Book>(alloc: Global, keeper: &mut Keeper<B>, stream: &TcpStream) {
+fn serve_stream<B: Book>(alloc: Global, keeper: &mut Keeper<B>, stream: &TcpStream)
+    ensures served { (input : List ℕ) × (B.is_sound keeper.new → IsServedUnseen input (B.shows keeper.old) (B.shows keeper.new)) }
+    ensures was { B.is_sound keeper.new → B.is_sound keeper.old }
+{
     serve_request(alloc, keeper, &mut &*stream, &mut &*stream);
     close(stream);
 }
@@ -52,7 +55,14 @@ pub fn serve<B: Book>(
     listener: &TcpListener,
     count: u32,
 ) -> Result<(), JobFault>
+    // What is left of the records is what the requests made of them, one on each connection that was accepted. No contract knows
+    // which bytes a connection gives and takes.
+    ensures served { (inputs : List (List ℕ)) × AreAccepted result (length inputs) count
+        × (B.is_sound keeper.new → AreServedInTurn inputs (B.shows keeper.old) (B.shows keeper.new)) }
     ensures cause { IfErr result (λ fault. fault ≡ JobFault.Accept) }
+
+    // A book that is sound in the end was sound before.
+    ensures was { B.is_sound keeper.new → B.is_sound keeper.old }
 {
     for _ in 0..count {
         match listener.accept() {

@@ -19,8 +19,8 @@ const MAX_PRIORITY: i32 = 9_999;
 // The greatest reading of the clock.
 const MAX_MOMENT: u64 = 9_000_000_000_000_000;
 
-/// Whether the clock and each change of a desk keep what every state keeps of them.
-pub fn fits_desk(desk: &Desk) -> bool
+// Whether the clock and each change of a desk keep what every state keeps of them.
+pub(crate) fn fits_desk(desk: &Desk) -> bool
     ensures { result ≡ checks.fits_desk desk.now }
 {
     desk.clock() <= MAX_MOMENT && all_fit(desk)

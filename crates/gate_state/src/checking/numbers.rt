@@ -9,8 +9,8 @@ use crate::lane::Lane;
 use crate::queue::Queue;
 use crate::waiting::goes_before;
 
-/// Whether no two batches have the same number, each has one below the next, and those that wait are in order of service.
-pub fn fits_order(queue: &Queue) -> bool
+// Whether no two batches have the same number, each has one below the next, and those that wait are in order of service.
+pub(crate) fn fits_order(queue: &Queue) -> bool
     ensures { result ≡ checks.fits_order queue.now }
 {
     fit_numbers(&queue.staging, queue.next)

@@ -14,9 +14,9 @@ use gate_rules::{Change, Desk};
 use gate_text::ChangeNo;
 use std::collections::BTreeMap;
 
-/// Whether the changes of a branch's batches are those that it has to hold, each once and under its priority, and those of one
-/// that lands are those that are landing.
-pub fn fit_places(desk: &Desk, on: Branch, lane: &Lane) -> bool
+// Whether the changes of a branch's batches are those that it has to hold, each once and under its priority, and those of one
+// that lands are those that are landing.
+pub(crate) fn fit_places(desk: &Desk, on: Branch, lane: &Lane) -> bool
     ensures { result ≡ checks.fit_places (marks_on on desk.now) lane.now (finite.entries desk.now.changes) }
 {
     are_all_apart(lane)

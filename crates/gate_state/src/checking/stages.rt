@@ -14,8 +14,8 @@ use gate_rules::Desk;
 use gate_text::Context;
 use std::collections::BTreeMap;
 
-/// Whether the batches of a branch stand where its batches may: one runs at most, and the others wait.
-pub fn fit_stages(desk: &Desk, on: Branch, lane: &Lane) -> bool
+// Whether the batches of a branch stand where its batches may: one runs at most, and the others wait.
+pub(crate) fn fit_stages(desk: &Desk, on: Branch, lane: &Lane) -> bool
     ensures { result ≡ checks.fit_stages desk.now on lane.now }
 {
     all_wait(lane.waiting.as_slice(), on)
@@ -92,8 +92,8 @@ fn fit_reports(desk: &Desk, reports: &BTreeMap<Context, Report>) -> bool
     true
 }
 
-/// Whether each try is of one change, and none is landing.
-pub fn are_alone(lane: &Lane) -> bool
+// Whether each try is of one change, and none is landing.
+pub(crate) fn are_alone(lane: &Lane) -> bool
     ensures { result ≡ checks.are_alone lane.now }
 {
     all_have_one(lane.waiting.as_slice())

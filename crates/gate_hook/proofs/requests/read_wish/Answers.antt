@@ -14,8 +14,8 @@ returns-in-Err-read_body g c =
     let failed = c.in-Err-read_body.ensures in
     (failed.0, (_, Consumes-trans _ _ _ _ _ found.0 failed.1.1))
 
-pub returns-in-Ok-wish_in : goal.returns-in-Ok-wish_in
-returns-in-Ok-wish_in g c =
+pub returns : goal.returns
+returns g c =
     let found = rw c.in-Ok-Some.field-0-is at c.in-Ok-Some.ensures in
     asks-whole _ _ _ c.in-Ok-Some.head c.read_head.new.bytes.items c.read_body.new.bytes.items _ found
-    (rw c.needed.ensures at c.in-Ok.ensures) (rw c.deref.ensures.value at c.in-Ok-wish_in.ensures)
+    (rw c.needed.ensures at c.in-Ok.ensures) (rw c.deref.ensures.value at c.in_ok-wish_in.ensures)

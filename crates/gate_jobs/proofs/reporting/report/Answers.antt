@@ -1,14 +1,20 @@
-use Rattle.std.proofs.Common.{ap, subst}
-use Rattle.gate_jobs.specs.Report.{IsReported}
-use Rattle.gate_store.specs.Run.{Records}
+use Rattle.std.proofs.Common.{◌∙◌}
+use Rattle.gate_jobs.proofs.Reports.{nothing_told, ok_if, text_told}
 use Rattle.gate_jobs.proofs.reporting.report.Goals as goal
 
-pub returns-clause-reported : goal.returns-clause-reported
-returns-clause-reported g c =
-    let reported = c.report_by-reported.ensures.reported in
-    let last = c.report_by-reported.new.keeper in
-    let left = g.R.Read.remaining c.report_by-reported.new.reader in
-    let before = g.W.Write.contents c.args.writer.now in
-    let after = g.W.Write.contents c.report_by-reported.new.writer in
-    let same = ap g.B.Book.shows c.new-keeper.ensures.value in
-    (reported.0, reported.1, (last, λ sound. subst (λ (old : Records). IsReported old c.report_by-reported.result reported.0 left before after) same (reported.2 sound)))
+pub returns-in-Err-clause-reported : goal.returns-in-Err-clause-reported
+returns-in-Err-clause-reported g c =
+    let made = c.in-Err.ensures.made in
+    (made.0, made.1, λ sound. (nothing_told _ c.in-Err.fault made.0 _ _ (made.2 sound), tt))
+
+pub returns-in-Ok-clause-reported : goal.returns-in-Ok-clause-reported
+returns-in-Ok-clause-reported g c =
+    let made = c.in-Ok.ensures.made in (
+      made.0,
+      made.1,
+      λ sound. (
+        text_told _ c.print.result c.as_str.result.now made.0 (g.R.Read.remaining c.text_after.new.reader) (g.W.Write.contents c.args.writer.now) (g.W.Write.contents c.print.new.writer)
+            (c.as_str.ensures.value ∙ (made.2 sound).0) (made.2 sound).1 c.print.ensures.ok c.print.ensures.err,
+        ok_if c.print.result _ (made.2 sound).2,
+      ),
+    )

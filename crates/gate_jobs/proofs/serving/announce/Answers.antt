@@ -1,7 +1,7 @@
 use Rattle.std.proofs.Common.{rules, ◌≡◌, inl, subst, List, ℕ}
 use Rattle.std.proofs.lemmas.Result.{IfErr-weaker}
-use Rattle.gate_jobs.specs.Printed.{IsCutOff}
 use Rattle.gate_jobs.specs.Serving.{greeting}
+use Rattle.gate_hook.specs.Sending.{IsCutOff}
 use Rattle.gate_jobs.proofs.serving.announce.Goals as goal
 
 pub returns-clause-err : goal.returns-clause-err

@@ -11,9 +11,11 @@ use Rattle.gate_sql.proofs.Shown.{get-answers, none_there, one_more}
 use Rattle.gate_sql.proofs.book.SqlBookBook.commit.Goals as goal
 
 pub write-written-requires : goal.write-written-requires
-write-written-requires g c sound =
-    let free = c.requires.free (subst (λ held. is_sound g.S.Store held) c.self.view_is sound) in
-    (λ i. get (answers_in g.S.Store (c.self.view_is i)) (c.text.ensures.value i)) ∙ none_there _ (sym (get-answers _ c.args.id.now) ∙ free)
+write-written-requires g c = record {
+  free = λ sound.
+      let free = c.requires.free (subst (λ held. is_sound g.S.Store held) c.self.view_is sound) in
+      (λ i. get (answers_in g.S.Store (c.self.view_is i)) (c.text.ensures.value i)) ∙ none_there _ (sym (get-answers _ c.args.id.now) ∙ free);
+}
 
 pub returns-in-Ok-clause-ok : goal.returns-in-Ok-clause-ok
 returns-in-Ok-clause-ok g c sound =

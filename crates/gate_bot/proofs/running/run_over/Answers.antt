@@ -1,7 +1,7 @@
 use Rattle.std.proofs.Common.{ap, subst}
 use Rattle.gate_hook.specs.Lines.{IsServed}
 use Rattle.gate_store.specs.Run.{Records}
-use Rattle.gate_jobs.proofs.running.run.Goals as goal
+use Rattle.gate_bot.proofs.running.run_over.Goals as goal
 
 pub returns-clause-served : goal.returns-clause-served
 returns-clause-served g c =
