@@ -1,5 +1,5 @@
 -- Connections in turn, and one more.
-use Rattle.std.proofs.Common.{◌≡◌, ℕ, ◌+◌, List, [], ◌∷◌, ◌++◌, length, refl, sym, subst}
+use Rattle.std.proofs.Common.{ℕ, List, [], ◌∷◌, ◌++◌, refl, subst}
 use Rattle.gate_store.specs.Run.{Records}
 use Rattle.gate_jobs.specs.Serving.{AreServedInTurn, IsServedUnseen}
 
