@@ -164,9 +164,7 @@ fn size_by(bytes: &[u8], fields: &[HeaderSpan]) -> Result<usize, Refusal>
     requires { All (IsHeaderWithin (length bytes.now)) fields.now }
     ensures { result ≡ heads.size_by (heads.values_in (codes "content-length") (map (header_bytes bytes.now) fields.now)) }
 {
-    let Some(value) = first_of(bytes, fields, "content-length") else {
-        return Err(Refusal::LengthRequired);
-    };
+    let value = first_of(bytes, fields, "content-length").ok_or(Refusal::LengthRequired)?;
     checked(
         count_of(bytes, fields, "content-length") == 1,
         Refusal::BadRequest,

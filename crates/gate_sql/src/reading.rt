@@ -83,9 +83,7 @@ fn guess(alloc: Global, rows: &Rows) -> Result<Gate, TablesFault> {
 }
 
 fn state_of(alloc: Global, rows: &Rows) -> Result<State, TablesFault> {
-    let Some(row) = rows.desk.as_slice().first() else {
-        return Err(TablesFault::Store);
-    };
+    let row = rows.desk.as_slice().first().ok_or(TablesFault::Store)?;
     let next = natural(row.next_batch)?;
     let mut desk = desk_in(alloc, rows, row)?;
     match queue_in(alloc, &mut desk, rows, next) {

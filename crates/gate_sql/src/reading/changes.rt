@@ -96,9 +96,7 @@ fn names_of(change: &mut Change) -> Option<&mut Names> {
 }
 
 fn put_name(alloc: Global, names: Option<&mut Names>, word: &Text) -> Result<(), TablesFault> {
-    let Some(names) = names else {
-        return Err(TablesFault::Store);
-    };
+    let names = names.ok_or(TablesFault::Store)?;
     names.push(name(alloc, word)?)?;
     Ok(())
 }

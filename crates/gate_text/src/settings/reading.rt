@@ -55,9 +55,7 @@ fn statuses_at(alloc: Global, value: &Value) -> Result<Contexts, SettingsFault>
 pub(crate) fn settings_in(alloc: Global, table: &Table) -> Result<Settings, SettingsFault>
     ensures { Gives result (settings.settings_in (table_view table.now)) }
 {
-    let Some(value) = value_at(table, Key::Status) else {
-        return Err(SettingsFault::NoStatus);
-    };
+    let value = value_at(table, Key::Status).ok_or(SettingsFault::NoStatus)?;
     let status = statuses_at(alloc, value)?;
     let timeout_sec = number_at(table, Key::TimeoutSec, 1, MAX_TIMEOUT_SEC)?;
     let block_labels = labels_at(alloc, table)?;

@@ -6,6 +6,6 @@ use Rattle.gate_text.proofs.settings.reading.settings_in.Goals as goal
 pub invariant_of-result : goal.invariant_of-result
 invariant_of-result c =
     rw (c.unwrap_or.ensures, c.unwrap_or-2.ensures, c.unwrap_or-3.ensures, c.from.ensures, c.new.ensures.items)
-    (settings_within (table_view c.args.table.now) (view c.in-Some.value.now) c.in_ok-status.status c.in_ok-timeout_sec.timeout_sec c.in_ok-block_labels.block_labels
+    (settings_within (table_view c.args.table.now) (view c.in_ok-value.value.now) c.in_ok-status.status c.in_ok-timeout_sec.timeout_sec c.in_ok-block_labels.block_labels
     c.in_ok-required_approvals.required_approvals c.in_ok-max_batch_size.max_batch_size
     c.in_ok-status.ensures (sym c.in_ok-timeout_sec.ensures) c.in_ok-block_labels.ensures (sym c.in_ok-required_approvals.ensures) (sym c.in_ok-max_batch_size.ensures))
