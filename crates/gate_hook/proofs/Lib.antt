@@ -6,6 +6,7 @@ pub mod Kept
 pub mod NoHead
 pub mod Numerals
 pub mod OnLines
+pub mod OnRequests
 pub mod OneWish
 pub mod Parts
 pub mod Progress

@@ -83,7 +83,7 @@ object_keeps : (d : Data) → IfOk (delivery_in d) DeliveryKeeps
 object_keeps d =
     go_on DeliveryKeeps (id_at d) _ (λ id. go_on DeliveryKeeps (text_at field.Event d) _ (λ kind. go_with EventKeepsLimits DeliveryKeeps (event_called kind d) _ (event_keeps kind d) (λ event keeps. keeps)))
 
-read_keeps : (text : List ℕ) → IfOk (delivery_of text) DeliveryKeeps
+pub read_keeps : (text : List ℕ) → IfOk (delivery_of text) DeliveryKeeps
 unfolding delivery_of
 read_keeps text = go_on DeliveryKeeps (object_of text) delivery_in object_keeps
 

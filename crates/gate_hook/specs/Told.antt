@@ -1,13 +1,15 @@
--- THE HEADLINE OF LINES: of what is written for lines, and of the records after them.
-use Rattle.std.specs.Prelude.{ℕ, List, Option, None, if◌then◌else◌}
+-- THE HEADLINE OF LINES AND REQUESTS: of what is written for them, and of the records after them.
+use Rattle.std.specs.Prelude.{◌≡◌, ℕ, false, List, [], ◌∷◌, Option, None, Ok, if◌then◌else◌}
 use Rattle.std.specs.List.{filter_map}
 use Rattle.std.specs.Result.{result_ok}
 use Rattle.gate_queue.specs.History.{Entry, Legal}
 use Rattle.gate_store.specs.Headline.{Headline, HistoryTells}
-use Rattle.gate_store.specs.Run.{Records, answers_to}
+use Rattle.gate_store.specs.Run.{Records, answer_to, answers_to, after_delivery, meets_full}
 use Rattle.gate_store.specs.declared.delivery.Delivery.{Delivery}
 use Rattle.gate_hook.specs.Deliveries.{delivery_of}
 use Rattle.gate_hook.specs.Lines.{is_too_long, after_lines, NoLineMeetsFull}
+use Rattle.gate_hook.specs.Requests.{Asks}
+use Rattle.gate_hook.specs.declared.requests.Request.TheVariants.{Delivery as DeliveryOf}
 
 -- the deliveries that lines are, in order
 abbrev pub delivery_on : List ℕ → Option Delivery
@@ -25,3 +27,13 @@ LawOfLines = (old : Records) (lines : List (List ℕ)) → NoLineMeetsFull old l
 abbrev pub LawOfLineHistories : Type 0
 LawOfLineHistories = (old : Records) (lines : List (List ℕ)) → NoLineMeetsFull old lines
     → (history : List Entry) → Legal history old.state → HistoryTells old (deliveries_on lines) (after_lines old lines) history
+
+-- If a request asks for a delivery of which no act meets a full gate, the headline holds of that delivery, of the answer of which the
+-- text is written, and of the records after it.
+abbrev pub LawOfRequests : Type 0
+LawOfRequests = (old : Records) (input : List ℕ) (delivery : Delivery) → Asks input (Ok (DeliveryOf delivery)) → meets_full old delivery ≡ false
+    → Headline old (delivery ∷ []) (answer_to old delivery ∷ []) (after_delivery old delivery)
+
+abbrev pub LawOfRequestHistories : Type 0
+LawOfRequestHistories = (old : Records) (input : List ℕ) (delivery : Delivery) → Asks input (Ok (DeliveryOf delivery)) → meets_full old delivery ≡ false
+    → (history : List Entry) → Legal history old.state → HistoryTells old (delivery ∷ []) (after_delivery old delivery) history

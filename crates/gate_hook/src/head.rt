@@ -34,7 +34,9 @@ pub enum Ask {
 /// A head that was read: how many bytes it has, and what it asks for, or why the request is refused.
 #[derive(Clone, Copy)]
 pub struct Head {
+    /// How many bytes it has.
     pub len: usize,
+    /// What it asks for, or why the request is refused.
     pub ask: Result<Ask, Refusal>,
 }
 

@@ -1,15 +1,21 @@
 ghost use Rattle.std.specs.Prelude.{◌≡◌, ℕ, List, Result};
 ghost use Rattle.gate_hook.specs.Requests.{Asks};
-ghost use Rattle.gate_hook.specs.Told.{LawOfLineHistories, LawOfLines};
+ghost use Rattle.gate_hook.specs.Told.{LawOfLineHistories, LawOfLines, LawOfRequestHistories, LawOfRequests};
 ghost use Rattle.gate_hook.specs.declared.refusal.Refusal.{Refusal as RefusalOf};
 ghost use Rattle.gate_hook.specs.declared.requests.Request.{Request as RequestOf};
 
 use gate_store::law_of_deliveries;
 
-/// The law of requests: input asks for one thing at the most, so one response is due to it.
+/// The law of requests: input asks for one thing at the most, so one response is due to it. And if that is a delivery of which no
+/// act meets a full gate, as `serve_one` says of each that it answered, the headline holds of the delivery, and so does all that the
+/// history tells.
 pub fn law_of_requests()
     ensures one { (input : List ℕ) (wish other : Result RequestOf RefusalOf) → Asks input wish → Asks input other → wish ≡ other }
-{}
+    ensures headline { LawOfRequests }
+    ensures history { LawOfRequestHistories }
+{
+    law_of_deliveries();
+}
 
 /// The law of lines: if none of the lines is a delivery of which an act meets a full gate, as `serve_lines` says of all that it
 /// answered, the headline holds of the deliveries on them, and so does all that the history tells.

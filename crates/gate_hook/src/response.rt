@@ -17,7 +17,9 @@ const PLAIN: &str = "text/plain; charset=utf-8";
 /// A response as it is sent: its status, and all its bytes.
 #[derive(Drop)]
 pub struct Response {
+    /// The status.
     pub status: StatusCode,
+    /// All bytes.
     pub text: String,
 }
 

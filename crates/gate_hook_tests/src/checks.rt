@@ -1,7 +1,7 @@
 use crate::fakes::Run;
 use std::process::Abort;
 
-// An assertion is dear to prove where many values are alive, so all stand in these functions.
+// An assertion is dear to prove while many values are alive, so all stand in these functions.
 
 // The answer to a row is these words.
 pub(crate) fn check_words(rt: &impl Abort, row: &str, found: &str, words: &str) {

@@ -57,8 +57,9 @@ fn text_after<B: Book, R: Read>(
     }
 }
 
-/// Serves the lines of a reader over the records of a keeper, drops the answers, and then writes the queue as text. After a fault
-/// nothing is written, or after `Write` a part of the text; the lines that were served before it have acted.
+/// Serves the lines of a reader over the records of a keeper, drops the answers, and then writes the queue as text. The fault is one of
+/// `serve_lines`, `Gate(Memory)` or one of the book's for the text, or `Write`. After a fault nothing is written, or after `Write` a part
+/// of the text.
 pub fn report<B: Book, R: Read, W: Write>(
     alloc: Global,
     keeper: &mut Keeper<B>,

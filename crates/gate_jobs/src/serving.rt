@@ -13,7 +13,8 @@ use std::alloc::Global;
 use std::io::{Read, Write};
 use std::net::{TcpListener, TcpStream};
 
-/// Prints on which port the program listens.
+/// Prints on which port the program listens. The fault is `Write`, after which a part of the line is printed, or `Gate(Memory)`, after
+/// which nothing is.
 pub fn announce<W: Write>(alloc: Global, port: u16, writer: &mut W) -> Result<(), HookFault>
     ensures ok { OnOk result (Appends (W.contents writer.old) (W.contents writer.new) (greeting port)) }
     ensures err { IfErr result (λ fault. ((fault ≡ HookFault.Write) × IsCutOff (greeting port) (W.contents writer.old) (W.contents writer.new))
@@ -55,8 +56,8 @@ pub fn serve<B: Book>(
     listener: &TcpListener,
     count: u32,
 ) -> Result<(), JobFault>
-    // What is left of the records is what the requests made of them, one on each connection that was accepted. No contract knows
-    // which bytes a connection gives and takes.
+    // What is left of the records is what requests made of them, one after the other: `count` of them, or fewer after `Accept`.
+    // No contract knows which bytes a connection gives and takes.
     ensures served { (inputs : List (List ℕ)) × AreAccepted result (length inputs) count
         × (B.is_sound keeper.new → AreServedInTurn inputs (B.shows keeper.old) (B.shows keeper.new)) }
     ensures cause { IfErr result (λ fault. fault ≡ JobFault.Accept) }

@@ -27,3 +27,6 @@ pub use laws::{
 };
 pub use reply::{Head, Heads, Order, Orders, Reply, Why};
 pub use settings::LosesApproval;
+
+// What a gate is made of and shows, so that who uses it needs no other crate for that.
+pub use gate_state::{Batch, Batches, Branch, Changes, Lane, Queue, Report, Reports, Stage, State};

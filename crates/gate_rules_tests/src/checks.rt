@@ -1,6 +1,6 @@
 use std::process::Abort;
 
-// The answer to a row is these words. An assertion is dear to prove where many values are alive, so nearly all stand here.
+// The answer to a row is these words. An assertion is dear to prove while many values are alive, so nearly all stand here.
 pub(crate) fn check_words(rt: &impl Abort, row: &str, found: &str, words: &str) {
     assert_eq!(rt; found, words, "{row:?}");
 }

@@ -44,7 +44,7 @@ fn spoken_of(rt: &impl Abort, alloc: Global, spoken: &Spoken) -> String {
     }
 }
 
-// What a comment says, in words: `priority 5; approve for alice, bob`, and no words where it says nothing.
+// What a comment says, in words: `priority 5; approve for alice, bob`, and no words if it says nothing.
 fn said(rt: &impl Abort, alloc: Global, comment: &str) -> String {
     let mut words = String::new(alloc);
     let spoken = read_comment(alloc, comment).expect(rt, "memory");

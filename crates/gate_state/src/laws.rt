@@ -29,7 +29,7 @@ pub fn law_of_changes()
     ensures drop { LawOfDrop }
 {}
 
-/// The law of checks: the tests that `Gate::from_state` makes are passed by exactly the states of the machine.
+/// The law of checks: the tests that `State::fits` makes are passed by exactly the states of the machine.
 pub fn law_of_checks()
     ensures { LawOfChecks }
 {}

@@ -64,7 +64,7 @@ pub record IsKnown {R : Type 0} (form : Form R) : Type 0 where
   pub selects : Selects form
   pub clears : Clears form
 
--- a text makes a table of this layout where there are these tables
+-- a text makes a table of this layout if there are these tables
 pub record Creates (front : Schema) (layout : Layout) (after : Schema) (sql : List ℕ) : Type 0 where
   pub is : command_of (understood front sql) ≡ CreateTable
   pub plain : IsPlain (understood front sql)

@@ -76,7 +76,7 @@ pub struct BatchRow {
     pub again: i64,
     /// 1 waiting, 2 ordered, 3 staged, 4 landing.
     pub phase: i64,
-    /// When it was ordered or staged, if that is its phase, else 0.
+    /// The reading of the clock, in seconds, at which it was ordered or staged, if that is its phase, else 0.
     pub since: i64,
     /// The commit that is tested or is to land, or nothing.
     pub sha: Text,

@@ -24,24 +24,15 @@ pub(crate) fn commit(text: &Text) -> Result<Commit, TablesFault> {
 }
 
 pub(crate) fn natural(number: i64) -> Result<u64, TablesFault> {
-    match u64::try_from(number) {
-        Ok(number) => Ok(number),
-        Err(_) => Err(TablesFault::Store),
-    }
+    u64::try_from(number).map_err(|_| TablesFault::Store)
 }
 
 pub(crate) fn small_natural(number: i64) -> Result<u32, TablesFault> {
-    match u32::try_from(number) {
-        Ok(number) => Ok(number),
-        Err(_) => Err(TablesFault::Store),
-    }
+    u32::try_from(number).map_err(|_| TablesFault::Store)
 }
 
 pub(crate) fn priority(number: i64) -> Result<i32, TablesFault> {
-    match i32::try_from(number) {
-        Ok(number) => Ok(number),
-        Err(_) => Err(TablesFault::Store),
-    }
+    i32::try_from(number).map_err(|_| TablesFault::Store)
 }
 
 pub(crate) fn change_no(number: i64) -> Result<ChangeNo, TablesFault> {

@@ -52,7 +52,7 @@ module _ (next : ℕ) where
           let more = new.all number in
           grind (arith, nat_tests)
 
-    -- where no new number is used
+    -- if no new number is used
     in_order_still : (after : Lane) → OnlyNew next 0 lane after → IsServed after → IsInOrder next after
     in_order_still after new service =
         let same : next + 0 ≡ next = omega arith in

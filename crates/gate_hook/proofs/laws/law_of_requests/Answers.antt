@@ -1,5 +1,12 @@
 use Rattle.gate_hook.proofs.OneWish.{one-wish}
+use Rattle.gate_hook.proofs.OnRequests.{requests_law, request_histories_law}
 use Rattle.gate_hook.proofs.laws.law_of_requests.Goals as goal
 
-pub returns : goal.returns
-returns c = record { one = one-wish }
+pub returns-clause-one : goal.returns-clause-one
+returns-clause-one c = one-wish
+
+pub returns-clause-headline : goal.returns-clause-headline
+returns-clause-headline c = requests_law c.law_of_deliveries.ensures.headline
+
+pub returns-clause-history : goal.returns-clause-history
+returns-clause-history c = request_histories_law c.law_of_deliveries.ensures.history
