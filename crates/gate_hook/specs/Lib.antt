@@ -2,7 +2,7 @@
 --     Deliveries   the delivery that a text is, or why it is none
 --     Errors       the text of an error
 --     Lines        the lines of a text, and what is written for them, by the run and the answers of gate_store
---     Told         the deliveries that lines are, and the headline of what is written for them
+--     Told         the deliveries that lines and requests are, and the headline of what is written for them
 --     Targets      what a path names, and the method that it takes
 --     Heads        the checks of the head of a request, in their order
 --     Requests     what a request asks for, or why it is refused

@@ -1,4 +1,4 @@
-ghost use Rattle.std.specs.Prelude.{◌≡◌, ℕ, All, length, map, codes, IfOk, IsTrue, option_copied, ◌==◌};
+ghost use Rattle.std.specs.Prelude.{◌≡◌, All, length, map, codes, IfOk, IsTrue, option_copied, ◌==◌};
 ghost use Rattle.std.specs.List.{list_all, position};
 ghost use Rattle.std.specs.Char.{is_ascii_digit};
 ghost use Rattle.httparse.specs.Grammar.{RequestHead};

@@ -1,8 +1,8 @@
-ghost use Rattle.std.specs.Prelude.{◌≡◌, ◌+◌, ◌<◌, ◌≤◌, ◌^◌, ◌++◌, ◌∷◌, ℕ, false, [], List, Option, length, IfOk, IfErr, OnOk, Ok, ◌⊎◌};
+ghost use Rattle.std.specs.Prelude.{◌≡◌, ◌+◌, ◌<◌, ◌≤◌, ◌^◌, ◌++◌, ◌∷◌, ℕ, false, [], List, Option, length, IfOk, IfErr, OnOk, Ok};
 ghost use Rattle.std.specs.String.{string_bytes};
 ghost use Rattle.std.specs.Io.KnownBytes.{Consumes, IsAtEnd};
-ghost use Rattle.gate_store.specs.Run.{Records, AgreesOnFull, IsOfKeepers, meets_full};
-ghost use Rattle.gate_hook.specs.Lines.{line_text, after_line, line_meets_full, text_answered, after_reading, MayEnd, StopsAtLine, IsServed, IsWithinLimit};
+ghost use Rattle.gate_store.specs.Run.{Records, IsOfKeepers};
+ghost use Rattle.gate_hook.specs.Lines.{line_text, after_line, line_meets_full, MayEnd, StopsAtLine, IsServed, IsWithinLimit};
 ghost use Rattle.gate_hook.specs.Serving.{IsAnswered, IsUpTo, MayStop, TakesByte, TakesBytes};
 
 use crate::answering::{delivery_answer, with_line_feed};

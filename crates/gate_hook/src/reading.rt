@@ -1,5 +1,4 @@
-ghost use Rattle.std.specs.Prelude.{◌≡◌, ◌≤◌, IfOk, IfErr, Some, Ok};
-ghost use Rattle.std.specs.Str.{is_utf8};
+ghost use Rattle.std.specs.Prelude.{◌≡◌, ◌≤◌, IfOk, Some, Ok};
 ghost use Rattle.serde_json.specs.View.{view};
 ghost use Rattle.gate_hook.specs.Deliveries as deliveries;
 ghost use Rattle.gate_hook.specs.Deliveries.{Reads, delivery_of};

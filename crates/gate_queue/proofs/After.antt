@@ -9,11 +9,11 @@ use Rattle.gate_rules.specs.declared.change.Change.{Change}
 use Rattle.gate_rules.specs.declared.change.Phase.{Phase}
 use Rattle.gate_rules.specs.declared.change.Repeat.{Repeat}
 use Rattle.gate_rules.specs.View.{without_approval}
-use Rattle.gate_queue.specs.Acts.{on}
+use Rattle.gate_state.specs.Acts.{on}
+use Rattle.gate_state.specs.declared.act.Act.{Act}
+use Rattle.gate_state.specs.declared.reply.Order.{Order}
 use Rattle.gate_queue.specs.History.{Event, did, gave, last_of, said_on, author_said, author_back, head_said, moves_head, phase_said, phase_by, landing_back, landed_back, priority_said, repeat_said, marked, label_said, labels_back, review_said, reviews_back, delegation_said, delegated, delegates_back, settings_back, fit_back, approval_said, ends_it, order_ends, ends, standing_back, approvers_back, try_said, ends_its_try, order_ends_try, tried_back, change_of, change_back}
 use Rattle.gate_queue.specs.Machine.{without_try}
-use Rattle.gate_queue.specs.declared.act.Act.{Act}
-use Rattle.gate_queue.specs.declared.reply.Order.{Order}
 
 -- STANDING AND FIT
 fit_so : (starts keeps fit had : Bool) → ((starts && fit) || ((keeps && fit) && had)) ≡ true → fit ≡ true

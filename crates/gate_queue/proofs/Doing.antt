@@ -8,19 +8,19 @@ use Rattle.gate_text.specs.declared.settings.fault.SettingsFault.{SettingsFault}
 use Rattle.gate_rules.specs.Rules.{Look}
 use Rattle.gate_rules.specs.View.{DeskView, with_role, with_clock, look}
 use Rattle.gate_rules.specs.declared.rule.Rule.TheVariants.{ClockBack, NoSuchBatch}
-use Rattle.gate_queue.specs.Acts.{subject, on}
 use Rattle.gate_state.specs.State.{IsMoment, approved_on}
+use Rattle.gate_state.specs.Acts.{subject, on}
+use Rattle.gate_state.specs.declared.act.Act.{Act}
+use Rattle.gate_state.specs.declared.act.Act.TheVariants.{Spoken, Role, Settings, Base, Opened, Pushed, Closed, Labeled, Unlabeled, Review, Staged, Conflict, Status, Refused, Tick}
+use Rattle.gate_state.specs.declared.reply.Why.{Why}
+use Rattle.gate_state.specs.declared.reply.Why.TheVariants as why
 use Rattle.gate_queue.specs.History.{Event, did, given, change_back, look_back, landing_with}
 use Rattle.gate_state.specs.Lanes.{is_landing, requeued}
 use Rattle.gate_queue.specs.Machine.{broken, missing, has_ordered, has_landing, effect, notices, notice_if, settings_notices, quiet, about, with_desk, are_present, losing_on, under, accepted, given_up, lands_with, sent_back, ended_on_time, all_starting, done}
-use Rattle.gate_queue.specs.declared.act.Act.{Act}
-use Rattle.gate_queue.specs.declared.act.Act.TheVariants.{Spoken, Role, Settings, Base, Opened, Pushed, Closed, Labeled, Unlabeled, Review, Staged, Conflict, Status, Refused, Tick}
 use Rattle.gate_state.specs.Queue as specs
 use Rattle.gate_state.specs.declared.batch.Batch.{Batch}
 use Rattle.gate_state.specs.declared.batch.Branch.TheVariants.{Staging, Trying}
 use Rattle.gate_state.specs.declared.lane.Lane.{Lane}
-use Rattle.gate_queue.specs.declared.reply.Why.{Why}
-use Rattle.gate_queue.specs.declared.reply.Why.TheVariants as why
 use Rattle.gate_state.specs.declared.state.State.{State}
 use Rattle.gate_queue.proofs.Acting.{about_look, about_mild, role_next, settings_next, settings_mild, fact_next, tick_next, base_look, refusal_look, one_rule}
 use Rattle.gate_queue.proofs.After.{rest_back}

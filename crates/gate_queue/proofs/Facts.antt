@@ -8,9 +8,9 @@ use Rattle.std.specs.Str.{bytes_eq}
 use Rattle.gate_text.specs.Settings.{SettingsView, settings_of}
 use Rattle.gate_rules.specs.Rules.{Texts, is_open_phase, is_fit}
 use Rattle.gate_rules.specs.declared.change.Phase.TheVariants as phase
+use Rattle.gate_state.specs.declared.act.Act.TheVariants.{Settings, Opened, Pushed, Closed, Labeled, Unlabeled, Review}
 use Rattle.gate_queue.specs.History.{Event, did, last_of, said_on, author_back, head_back, phase_by, phase_back, landed_back, settings_back, labels_back, reviews_back, approval_said, standing_back, tried_back, change_of, change_back}
 use Rattle.gate_queue.specs.Machine.{closed, pushed, moved_to, labeled, with_label, without_label, reviewed, with_review, opened, settled}
-use Rattle.gate_queue.specs.declared.act.Act.TheVariants.{Settings, Opened, Pushed, Closed, Labeled, Unlabeled, Review}
 use Rattle.gate_queue.proofs.After.{Rest, rest_back, change_after, change_of_after, altered_here, silent, ended, stays, standing_fit, unless_unfit, elsewhere}
 use Rattle.gate_queue.proofs.Fitness.{still_fit, opened_so, labeled_approval, reviewed_approval, settled_as_fit}
 use Rattle.gate_queue.proofs.Unseen.{Unseen, blank_landing}

@@ -7,13 +7,14 @@ use Rattle.gate_rules.specs.View.{DeskView, with_clock, is_required}
 use Rattle.gate_state.specs.Counts.{uses}
 use Rattle.gate_state.specs.Lanes.{joins, has_changes, has_several, back_uses, stops_running, running_back_uses, loses, only, taken_out_uses, restarted_uses, requeued_uses, failed_uses}
 use Rattle.gate_state.specs.State.{trying_on}
+use Rattle.gate_state.specs.declared.act.Act.{Act}
+use Rattle.gate_state.specs.declared.act.Act.TheVariants.{Spoken, Role, Settings, Base, Opened, Pushed, Closed, Labeled, Unlabeled, Review, Staged, Conflict, Status, Refused, Tick}
+use Rattle.gate_state.specs.declared.act.StatusState.{StatusState}
+use Rattle.gate_state.specs.declared.act.StatusState.TheVariants.{Success, Failure, Error, Pending}
+use Rattle.gate_state.specs.declared.reply.Why.TheVariants as why
 use Rattle.gate_queue.specs.Machine.{followed, tried_by, all_but, quiet, then_next, with_desk, with_queue, about, under, accepted, are_present, failing, try_ended, has_passed, has_staged, to_land, if_passed, goes_on, told_of, told_staging, try_if_passed, try_goes_on, try_told_of, told_trying, told, sent_back, tries_left, lands_with, has_overdue, timed_out, try_timed_out, ended_on_time, starting, all_starting, ordered_on, given_up, done}
 use Rattle.gate_state.specs.Queue as specs
 use Rattle.gate_state.specs.Service.{OnlyNew}
-use Rattle.gate_queue.specs.declared.act.Act.{Act}
-use Rattle.gate_queue.specs.declared.act.Act.TheVariants.{Spoken, Role, Settings, Base, Opened, Pushed, Closed, Labeled, Unlabeled, Review, Staged, Conflict, Status, Refused, Tick}
-use Rattle.gate_queue.specs.declared.act.StatusState.{StatusState}
-use Rattle.gate_queue.specs.declared.act.StatusState.TheVariants.{Success, Failure, Error, Pending}
 use Rattle.gate_state.specs.declared.batch.Batch.{Batch}
 use Rattle.gate_state.specs.declared.batch.Branch.{Branch}
 use Rattle.gate_state.specs.declared.batch.Branch.TheVariants.{Staging, Trying}
@@ -21,10 +22,9 @@ use Rattle.gate_state.specs.declared.batch.Report.{Report}
 use Rattle.gate_state.specs.declared.batch.Report.TheVariants as report
 use Rattle.gate_state.specs.declared.lane.Lane.{Lane}
 use Rattle.gate_state.specs.declared.queue.Queue.{Queue}
-use Rattle.gate_queue.specs.declared.reply.Why.TheVariants as why
 use Rattle.gate_queue.specs.declared.outcome.Outcome.{Outcome}
 use Rattle.gate_state.specs.declared.state.State.{State}
-use Rattle.gate_state.specs.Lemmas.Numbers.{enqueue_new, try_new, take_out_new, restart_new, requeue_new, fail_new, start_new, stage_new, report_new, land_new, drop_new}
+use Rattle.gate_state.specs.Lemmas.Numbers.{numbers_law}
 
 -- how many batches wait under a number
 abbrev pub waits : ℕ → Queue → ℕ
@@ -104,41 +104,41 @@ few_failed lane = by lane.running where
 
 enqueued_grows : (queue : Queue) (size : Option ℕ) (priority : ℤ) (change : ℕ) → Grows 1 queue (specs.enqueued size priority change queue)
 enqueued_grows queue size priority change =
-    lane_grows Staging 1 queue _ _ (enqueue_new queue.next queue.staging size priority change) (none_or_one (is_some (joins size priority queue.staging.waiting)))
+    lane_grows Staging 1 queue _ _ ((numbers_law queue.next queue.staging).enqueue size priority change) (none_or_one (is_some (joins size priority queue.staging.waiting)))
 
 tried_grows : (queue : Queue) (change : ℕ) → Grows 1 queue (specs.tried change queue)
-tried_grows queue change = lane_grows Trying 1 queue _ 1 (try_new queue.next queue.trying change) (omega arith)
+tried_grows queue change = lane_grows Trying 1 queue _ 1 ((numbers_law queue.next queue.trying).enqueue_try change) (omega arith)
 
 module _ (branch : Branch) (queue : Queue) where
   abbrev its_lane : Lane
   its_lane = specs.lane_of branch queue
 
   taken_out_grows : (stays : ℕ → Bool) → Grows 1 queue (specs.taken_out branch stays queue)
-  taken_out_grows stays = lane_grows branch 1 queue _ _ (take_out_new queue.next its_lane stays) (few_taken_out stays its_lane)
+  taken_out_grows stays = lane_grows branch 1 queue _ _ ((numbers_law queue.next its_lane).take_out stays) (few_taken_out stays its_lane)
 
   restarted_grows : Grows 1 queue (specs.restarted branch queue)
-  restarted_grows = lane_grows branch 1 queue _ _ (restart_new queue.next its_lane) (few_restarted its_lane)
+  restarted_grows = lane_grows branch 1 queue _ _ (numbers_law queue.next its_lane).restart (few_restarted its_lane)
 
   requeued_grows : (stays : ℕ → Bool) → Grows 1 queue (specs.requeued branch stays queue)
-  requeued_grows stays = lane_grows branch 1 queue _ _ (requeue_new queue.next its_lane stays) (few_requeued stays its_lane)
+  requeued_grows stays = lane_grows branch 1 queue _ _ ((numbers_law queue.next its_lane).requeue stays) (few_requeued stays its_lane)
 
   pub failed_grows : Grows 2 queue (specs.failed branch queue)
-  failed_grows = lane_grows branch 2 queue _ _ (fail_new queue.next its_lane) (few_failed its_lane)
+  failed_grows = lane_grows branch 2 queue _ _ (numbers_law queue.next its_lane).fail (few_failed its_lane)
 
   pub started_grows : (now : ℕ) → Grows 0 queue (specs.started branch now queue)
-  started_grows now = lane_grows branch 0 queue _ 0 (start_new queue.next its_lane now) (omega arith)
+  started_grows now = lane_grows branch 0 queue _ 0 ((numbers_law queue.next its_lane).start now) (omega arith)
 
   staged_grows : (now : ℕ) (commit : List ℕ) → Grows 0 queue (specs.staged branch now commit queue)
-  staged_grows now commit = lane_grows branch 0 queue _ 0 (stage_new queue.next its_lane now commit) (omega arith)
+  staged_grows now commit = lane_grows branch 0 queue _ 0 ((numbers_law queue.next its_lane).stage now commit) (omega arith)
 
   pub reported_grows : (name : List ℕ) (report : Report) → Grows 0 queue (specs.reported branch name report queue)
-  reported_grows name report = lane_grows branch 0 queue _ 0 (report_new queue.next its_lane name report) (omega arith)
+  reported_grows name report = lane_grows branch 0 queue _ 0 ((numbers_law queue.next its_lane).report name report) (omega arith)
 
   landing_grows : Grows 0 queue (specs.landing branch queue)
-  landing_grows = lane_grows branch 0 queue _ 0 (land_new queue.next its_lane) (omega arith)
+  landing_grows = lane_grows branch 0 queue _ 0 (numbers_law queue.next its_lane).land (omega arith)
 
   pub dropped_grows : Grows 0 queue (specs.dropped branch queue)
-  dropped_grows = lane_grows branch 0 queue _ 0 (drop_new queue.next its_lane) (omega arith)
+  dropped_grows = lane_grows branch 0 queue _ 0 (numbers_law queue.next its_lane).drop (omega arith)
 
 -- one step after the other
 then_grows : {few more : ℕ} (s : State) (first : Outcome) (next : State → Outcome) → Grows few s.queue first.state.queue

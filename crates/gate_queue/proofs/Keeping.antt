@@ -26,7 +26,7 @@ use Rattle.gate_state.specs.declared.batch.Stage.TheVariants.{Waiting, Ordered, 
 use Rattle.gate_state.specs.declared.lane.Lane.{Lane}
 use Rattle.gate_state.specs.declared.queue.Queue.{Queue}
 use Rattle.gate_state.specs.Lemmas.Alone.{singles_law}
-use Rattle.gate_state.specs.Lemmas.Apart.{enqueued_order, taken_out_order, tried_order}
+use Rattle.gate_state.specs.Lemmas.Apart.{queue_law}
 use Rattle.gate_queue.proofs.Batches.{IsLane, enqueued_lane, tried_lane, taken_out_lane, restarted_lane, requeued_lane, failed_lane, started_lane, later_lane, staged_lane, reported_lane, landing_lane}
 use Rattle.gate_state.specs.Lemmas.Counts.{held_is, enqueue_law, try_law, take_out_law, restart_law, requeue_law, start_law, stage_law, report_law, land_law, fail_law}
 
@@ -651,16 +651,16 @@ module _ (old new : DeskView) (change : ℕ) (only : OnlyAt change old new) wher
   -- both stay in order, and tries alone
   followed_order : (was now moved : Bool) (size : Option ℕ) (priority : ℤ) (queue : Queue) → QueueIsInOrder queue → QueueIsInOrder (followed was now moved size priority change queue)
   followed_order false false moved size priority queue order = order
-  followed_order false true moved size priority queue order = enqueued_order queue order size priority change
-  followed_order true false moved size priority queue order = taken_out_order queue order Staging (all_but change)
+  followed_order false true moved size priority queue order = (queue_law queue order).enqueue size priority change
+  followed_order true false moved size priority queue order = (queue_law queue order).take_out Staging (all_but change)
   followed_order true true false size priority queue order = order
   followed_order true true true size priority queue order =
-      enqueued_order (specs.taken_out Staging (all_but change) queue) (taken_out_order queue order Staging (all_but change)) size priority change
+      (queue_law (specs.taken_out Staging (all_but change) queue) ((queue_law queue order).take_out Staging (all_but change))).enqueue size priority change
 
   tried_order_by : (was now : Bool) (queue : Queue) → QueueIsInOrder queue → QueueIsInOrder (tried_by was now change queue)
   tried_order_by false false queue order = order
-  tried_order_by false true queue order = tried_order queue order change
-  tried_order_by true false queue order = taken_out_order queue order Trying (all_but change)
+  tried_order_by false true queue order = (queue_law queue order).enqueue_try change
+  tried_order_by true false queue order = (queue_law queue order).take_out Trying (all_but change)
   tried_order_by true true queue order = order
 
   tried_alone_by : (was now : Bool) (queue : Queue) → AreAlone queue.trying → AreAlone (tried_by was now change queue).trying

@@ -18,11 +18,11 @@ use Rattle.gate_rules.specs.declared.change.Change.{Change}
 use Rattle.gate_rules.specs.declared.change.Repeat.TheVariants as repeat
 use Rattle.gate_rules.specs.declared.rule.Rule.TheVariants.{UnknownChange, NotPermitted, NotOpen, Landing, NoSettings, NoBase}
 use Rattle.gate_rules.specs.declared.role.Role.{Role as RoleOf}
-use Rattle.gate_queue.specs.Acts.{ActKeepsLimits}
 use Rattle.gate_state.specs.State.{IsMoment, IsChange, IsDesk}
+use Rattle.gate_state.specs.Acts.{ActKeepsLimits}
+use Rattle.gate_state.specs.declared.act.Act.{Act}
+use Rattle.gate_state.specs.declared.act.Act.TheVariants.{Spoken, Role, Settings, Base, Opened, Pushed, Closed, Labeled, Unlabeled, Review, Staged, Conflict, Status, Refused, Tick}
 use Rattle.gate_queue.specs.Machine.{broken, effect, altered, lone_altered, all_altered, with_landing, released, landed, with_new_settings, unless_against, approved_by, with_try, without_try, with_priority, with_delegates, with_author_as_delegate, without_delegates, opened, pushed, moved_to, closed, labeled, with_label, without_label, reviewed, with_review, settled, loses_approval}
-use Rattle.gate_queue.specs.declared.act.Act.{Act}
-use Rattle.gate_queue.specs.declared.act.Act.TheVariants.{Spoken, Role, Settings, Base, Opened, Pushed, Closed, Labeled, Unlabeled, Review, Staged, Conflict, Status, Refused, Tick}
 use Rattle.gate_queue.proofs.Changes.{same_number, altered_look, opened_at}
 use Rattle.gate_queue.proofs.Fitness.{passed}
 

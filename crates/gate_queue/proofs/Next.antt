@@ -5,9 +5,9 @@ use Rattle.gate_text.specs.declared.command.Command.TheVariants.{Approve, Approv
 use Rattle.gate_text.specs.declared.command.Spoken.TheVariants.{Known}
 use Rattle.gate_rules.specs.View.{without_approval}
 use Rattle.gate_rules.specs.declared.change.Repeat.TheVariants as repeat
+use Rattle.gate_state.specs.declared.act.Act.TheVariants.{Spoken}
 use Rattle.gate_queue.specs.History.{Event, landed_back, with_author, delegates_back, fit_back, change_of, change_back}
 use Rattle.gate_queue.specs.Machine.{approved_by, with_try, without_try, with_priority, with_delegates, with_author_as_delegate, without_delegates}
-use Rattle.gate_queue.specs.declared.act.Act.TheVariants.{Spoken}
 use Rattle.gate_queue.proofs.After.{rest_back, change_after, altered_here, ended, stays}
 
 module _ (events : List Event) (c n : ℕ) (person : List ℕ) where

@@ -16,9 +16,9 @@ use Rattle.gate_rules.specs.declared.change.Change.{Change}
 use Rattle.gate_rules.specs.declared.change.Repeat.TheVariants as repeat
 use Rattle.gate_rules.specs.declared.rule.Rule.{Rule}
 use Rattle.gate_rules.specs.declared.rule.Rule.TheVariants.{UnknownChange, NotPermitted, NotOpen, Landing as IsLandingRule}
+use Rattle.gate_state.specs.declared.act.Act.TheVariants.{Spoken, Opened}
 use Rattle.gate_queue.specs.Machine.{broken, effect, altered, approved_by, with_try, without_try, with_priority, with_delegates, with_author_as_delegate, without_delegates, opened, pushed, moved_to, unless_against}
 use Rattle.gate_state.specs.State.{approved_on, priority_on}
-use Rattle.gate_queue.specs.declared.act.Act.TheVariants.{Spoken, Opened}
 use Rattle.gate_queue.proofs.Changes.{altered_look, opened_at}
 use Rattle.gate_queue.proofs.Fitness.{passed}
 use Rattle.gate_queue.proofs.Keeping.{OnlyAt}

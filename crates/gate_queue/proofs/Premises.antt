@@ -7,9 +7,9 @@ use Rattle.gate_rules.specs.Rules.{first_failing, begins_with_rules, approval_ru
 use Rattle.gate_rules.specs.declared.change.Change.{Change}
 use Rattle.gate_rules.specs.declared.change.Phase.{Phase}
 use Rattle.gate_rules.specs.declared.rule.Rule.TheVariants.{UnknownChange, NotPermitted, NotOpen, Landing, NoSettings, NoBase, AlreadyApproved, AlreadyOpen, ChangeLanded}
+use Rattle.gate_state.specs.declared.act.Act.TheVariants.{Opened}
 use Rattle.gate_queue.specs.History.{Event, last_of, said_on, author_back, landed_back, phase_said, phase_by, phase_back, settings_back, fit_back, change_of, change_back, look_back}
 use Rattle.gate_queue.specs.Machine.{broken, of_open_change}
-use Rattle.gate_queue.specs.declared.act.Act.TheVariants.{Opened}
 use Rattle.gate_queue.proofs.Changes.{same_number}
 use Rattle.gate_queue.proofs.Fitness.{passed, passed_rule, fit_by_rules}
 use Rattle.gate_queue.proofs.Unseen.{Unseen, blank_phase, blank_landed}

@@ -19,18 +19,20 @@ use Rattle.gate_rules.specs.View.{DeskView, with_base, with_clock, without_appro
 use Rattle.gate_rules.specs.declared.change.Change.{Change}
 use Rattle.gate_rules.specs.declared.rule.Rule.{Rule}
 use Rattle.gate_rules.specs.declared.rule.Rule.TheVariants.{ClockBack}
-use Rattle.gate_queue.specs.Acts.{ActKeepsLimits}
 use Rattle.gate_state.specs.State.{IsMoment, approved_on, landing_on, priority_on, trying_on, IsChange, IsDesk, Marks, IsRunning, IsBranch, IsQueue, IsState, marks_on}
 use Rattle.gate_state.specs.Counts.{occurs, held, held_by, in_landing, of_any_priority}
 use Rattle.gate_state.specs.Lanes as lanes
 use Rattle.gate_state.specs.Lanes.{empty_lane, is_landing}
+use Rattle.gate_state.specs.Acts.{ActKeepsLimits}
+use Rattle.gate_state.specs.declared.act.Act.{Act}
+use Rattle.gate_state.specs.declared.act.Act.TheVariants.{Spoken, Role, Settings, Base, Opened, Pushed, Closed, Labeled, Unlabeled, Review, Staged as StagedAct, Conflict, Status, Refused, Tick}
+use Rattle.gate_state.specs.declared.act.StatusState.{StatusState}
+use Rattle.gate_state.specs.declared.act.StatusState.TheVariants.{Success, Failure, Error, Pending}
+use Rattle.gate_state.specs.declared.reply.Why.{Why}
+use Rattle.gate_state.specs.declared.reply.Why.TheVariants as why
 use Rattle.gate_queue.specs.Machine.{empty_state, broken, denial, meaning, missing, has_ordered, is_ordered, has_staged, is_staged_with, effect, all_altered, without_try, closed, with_label, without_label, with_review, quiet, then_next, with_desk, with_queue, about, with_settled, settled, loses_approval, are_present, with_new_settings, under, accepted, lone, lone_altered, failing, has_passed, with_landing, to_land, if_passed, goes_on, told_of, told_staging, told_trying, try_told_of, try_goes_on, try_if_passed, try_ended, told, given_up, landed, released, released_at, released_on, sent_back, is_landing_with, lands_with, tries_left, rebased, is_overdue, has_overdue, timed_out, try_timed_out, ended_on_time, starting, done, unless_denied, after}
 use Rattle.gate_state.specs.Queue as specs
 use Rattle.gate_state.specs.Service.{IsInOrder, QueueIsInOrder, IsAlone, AreAlone}
-use Rattle.gate_queue.specs.declared.act.Act.{Act}
-use Rattle.gate_queue.specs.declared.act.Act.TheVariants.{Spoken, Role, Settings, Base, Opened, Pushed, Closed, Labeled, Unlabeled, Review, Staged as StagedAct, Conflict, Status, Refused, Tick}
-use Rattle.gate_queue.specs.declared.act.StatusState.{StatusState}
-use Rattle.gate_queue.specs.declared.act.StatusState.TheVariants.{Success, Failure, Error, Pending}
 use Rattle.gate_state.specs.declared.batch.Batch.{Batch}
 use Rattle.gate_state.specs.declared.batch.Branch.{Branch}
 use Rattle.gate_state.specs.declared.batch.Branch.TheVariants.{Staging, Trying}
@@ -40,14 +42,12 @@ use Rattle.gate_state.specs.declared.batch.Stage.{Stage}
 use Rattle.gate_state.specs.declared.batch.Stage.TheVariants.{Waiting, Ordered, Staged, Landing}
 use Rattle.gate_state.specs.declared.lane.Lane.{Lane}
 use Rattle.gate_state.specs.declared.queue.Queue.{Queue}
-use Rattle.gate_queue.specs.declared.reply.Why.{Why}
-use Rattle.gate_queue.specs.declared.reply.Why.TheVariants as why
 use Rattle.gate_state.specs.declared.state.State.{State}
 use Rattle.gate_queue.proofs.Changes.{all_look, lone_rest, lone_same, lone_ends}
 use Rattle.gate_queue.proofs.Fitness.{passed}
 use Rattle.gate_queue.proofs.Growing.{queue_grows}
 use Rattle.gate_state.specs.Lemmas.Alone.{singles_law}
-use Rattle.gate_state.specs.Lemmas.Apart.{taken_out_order, restarted_order, requeued_order, failed_order, started_order, staged_order, reported_order, landing_order, dropped_order}
+use Rattle.gate_state.specs.Lemmas.Apart.{queue_law}
 use Rattle.gate_queue.proofs.Keeping.{OnlyAt, lands, none_landing, some_there, none_there, on_time, follow_keeps, taken_out_keeps, restarted_keeps, requeued_keeps, later_keeps, started_keeps, staged_keeps, reported_keeps, landing_keeps, failed_keeps}
 use Rattle.gate_queue.proofs.Limits.{lone_keeps, all_keep, ended_keeps, untried_keeps, marked_keeps, released_keeps, effect_keeps, settings_keep, base_keeps, clock_keeps, role_keeps, empty_is_desk}
 use Rattle.gate_queue.proofs.Meaning.{meaning_allowed, meaning_limits}
@@ -85,7 +85,7 @@ under_holds : (s : State) (settings : SettingsView) → Holds s → Holds (under
 under_holds s settings is = record {
   desk = settings_keep s.desk settings is.desk;
   queue = record {
-    order = restarted_order back (restarted_order out (taken_out_order s.queue is.queue.order Staging (approved_on new)) Staging) Trying;
+    order = (queue_law back ((queue_law out ((queue_law s.queue is.queue.order).take_out Staging (approved_on new))).restart Staging)).restart Trying;
     staging =
         restarted_keeps Staging s.desk.clock s.desk.settings (marks_on Staging new) out.next out.staging
         (taken_out_keeps Staging s.desk.clock s.desk.settings (marks_on Staging s.desk) (marks_on Staging new) s.queue.next s.queue.staging is.queue.staging (approved_on new) (λ change so. (kept change so)) (λ change none. none) (λ change. (lands_as change, λ so. priced_as change)))
@@ -164,7 +164,7 @@ pub failing_holds : (s : State) (why : Why) → Holds s → lands s.queue.stagin
 failing_holds s why is not_so = record {
   desk = lone_keeps without_approval s.desk one (λ change was. ended_keeps s.desk.settings s.desk.base change was) is.desk;
   queue = record {
-    order = failed_order s.queue is.queue.order Staging;
+    order = (queue_law s.queue is.queue.order).fail Staging;
     staging = on_time Staging s.desk new (lanes.failed s.queue.next s.queue.staging) rest.0 rest.1
         (failed_keeps Staging s.desk.clock s.desk.settings (marks_on Staging s.desk) (marks_on Staging new) s.queue.next s.queue.staging is.queue.staging not_so
         (λ c. lone_ends without_approval s.desk one (λ (x : Change). is_some x.approved) (λ change. refl) c)
@@ -195,7 +195,7 @@ pub try_ended_holds : (s : State) (why : Why) → Holds s → Holds (try_ended w
 try_ended_holds s why is = record {
   desk = lone_keeps without_try s.desk one (λ change was. untried_keeps s.desk.settings s.desk.base change was) is.desk;
   queue = record {
-    order = dropped_order s.queue is.queue.order Trying;
+    order = (queue_law s.queue is.queue.order).drop Trying;
     staging = still_branch Staging s.desk new s.queue.staging
         (record {
           settings = rest.0;
@@ -317,7 +317,7 @@ module _ (s : State) (is : Holds s) (batch : Batch) (runs : s.queue.staging.runn
     to_land_holds = record {
       desk = all_keep (with_landing true) batch.changes s.desk (marked_keeps s.desk.settings s.desk.base running_ready) is.desk;
       queue = record {
-        order = landing_order s.queue is.queue.order Staging;
+        order = (queue_law s.queue is.queue.order).land Staging;
         staging = on_time Staging s.desk marked (lanes.landing s.queue.staging) (ap (λ (l : Look). l.settings) same_look) (ap (λ (l : Look). l.clock) same_look)
             (landing_keeps Staging s.desk.clock s.desk.settings (marks_on Staging s.desk) (marks_on Staging marked) s.queue.next s.queue.staging is.queue.staging batch runs since commit reports stage (λ c. ((kept c).0, (kept c).1)) landing_now);
         trying = still_branch Trying s.desk marked s.queue.trying
@@ -365,7 +365,7 @@ pub reported_holds : (branch : Branch) (s : State) (name : List ℕ) (report : R
 reported_holds Staging s name report required is = record {
   desk = is.desk;
   queue = record {
-    order = reported_order s.queue is.queue.order Staging name report;
+    order = (queue_law s.queue is.queue.order).report Staging name report;
     staging = reported_keeps Staging s.desk.clock s.desk.settings (marks_on Staging s.desk) s.queue.next s.queue.staging is.queue.staging name report required;
     trying = is.queue.trying;
     alone = is.queue.alone;
@@ -374,7 +374,7 @@ reported_holds Staging s name report required is = record {
 reported_holds Trying s name report required is = record {
   desk = is.desk;
   queue = record {
-    order = reported_order s.queue is.queue.order Trying name report;
+    order = (queue_law s.queue is.queue.order).report Trying name report;
     staging = is.queue.staging;
     trying = reported_keeps Trying s.desk.clock s.desk.settings (marks_on Trying s.desk) s.queue.next s.queue.trying is.queue.trying name report required;
     alone = (singles_law s.queue.next s.queue.trying is.queue.alone).report name report;
@@ -576,7 +576,7 @@ refused_holds s is =
     record {
       desk = back.desk;
       queue = record {
-        order = requeued_order s.queue is.queue.order Staging (approved_on new);
+        order = (queue_law s.queue is.queue.order).requeue Staging (approved_on new);
         staging = back.staging;
         trying = still_branch Trying s.desk new s.queue.trying (record { settings = back.settings; clock = back.clock; wanted = back.still refl; landing = λ c. refl; priority = λ c. refl }) is.queue.trying;
         alone = is.queue.alone;
@@ -596,11 +596,11 @@ rebased_holds base s is = record { desk = base_keeps new base back.desk; queue =
   queue = specs.requeued Staging (approved_on new) s.queue
 
   order : QueueIsInOrder queue
-  order = requeued_order s.queue is.queue.order Staging (approved_on new)
+  order = (queue_law s.queue is.queue.order).requeue Staging (approved_on new)
 
   by : (lands_now : Bool) → lands_with base s.queue.staging ≡ lands_now → IsQueue (with_base new base) (tries_left lands_now new queue)
   by true lands_now = record {
-    order = taken_out_order queue order Trying (trying_on new);
+    order = (queue_law queue order).take_out Trying (trying_on new);
     staging = back.staging;
     trying = on_time Trying s.desk new (lanes.taken_out (trying_on new) queue.next s.queue.trying) back.settings back.clock
         (taken_out_keeps Trying s.desk.clock s.desk.settings (marks_on Trying s.desk) (marks_on Trying new) queue.next s.queue.trying is.queue.trying (trying_on new)
@@ -646,9 +646,9 @@ starting_holds branch s now at is = record { desk = is.desk; queue = by branch }
       (started_keeps on s.desk.clock s.desk.settings (marks_on on s.desk) s.queue.next lane was now (omega (arith, at)))
 
   by : (on : Branch) → IsQueue s.desk (specs.started on now s.queue)
-  by Staging = record { order = started_order s.queue is.queue.order Staging now; staging = started Staging s.queue.staging is.queue.staging; trying = is.queue.trying; alone = is.queue.alone }
+  by Staging = record { order = (queue_law s.queue is.queue.order).start Staging now; staging = started Staging s.queue.staging is.queue.staging; trying = is.queue.trying; alone = is.queue.alone }
   by Trying = record {
-    order = started_order s.queue is.queue.order Trying now;
+    order = (queue_law s.queue is.queue.order).start Trying now;
     staging = is.queue.staging;
     trying = started Trying s.queue.trying is.queue.trying;
     alone = (singles_law s.queue.next s.queue.trying is.queue.alone).start now;
@@ -685,13 +685,13 @@ staged_holds : (s : State) (batch : ℕ) (commit : List ℕ) → Holds s → Hol
 staged_holds s batch commit is = record { desk = is.desk; queue = by (has_ordered batch s.queue.staging) refl } where
   by : (b : Bool) → has_ordered batch s.queue.staging ≡ b → IsQueue s.desk (specs.staged (if b then Staging else Trying) s.desk.clock commit s.queue)
   by true ordered = record {
-    order = staged_order s.queue is.queue.order Staging s.desk.clock commit;
+    order = (queue_law s.queue is.queue.order).stage Staging s.desk.clock commit;
     staging = staged_keeps Staging s.desk.clock s.desk.settings (marks_on Staging s.desk) s.queue.next s.queue.staging is.queue.staging commit (ordered_so s.queue.staging batch ordered);
     trying = is.queue.trying;
     alone = is.queue.alone;
   }
   by false ordered = record {
-    order = staged_order s.queue is.queue.order Trying s.desk.clock commit;
+    order = (queue_law s.queue is.queue.order).stage Trying s.desk.clock commit;
     staging = is.queue.staging;
     trying = staged_keeps Trying s.desk.clock s.desk.settings (marks_on Trying s.desk) s.queue.next s.queue.trying is.queue.trying commit (try_not_landing s.queue.trying is.queue.alone);
     alone = (singles_law s.queue.next s.queue.trying is.queue.alone).stage s.desk.clock commit;

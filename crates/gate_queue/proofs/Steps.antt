@@ -13,6 +13,14 @@ use Rattle.gate_rules.specs.Rules.{Look}
 use Rattle.gate_rules.specs.View.{DeskView, look, is_required}
 use Rattle.gate_rules.specs.declared.change.Change.{Change}
 use Rattle.gate_state.specs.Counts.{held, held_by, of_any_priority, uses}
+use Rattle.gate_state.specs.declared.act.Act.{Act}
+use Rattle.gate_state.specs.declared.act.StatusState.{StatusState}
+use Rattle.gate_state.specs.declared.act.StatusState.TheVariants.{Success, Failure, Error, Pending}
+use Rattle.gate_state.specs.declared.reply.Head.{Head}
+use Rattle.gate_state.specs.declared.reply.Order.{Order}
+use Rattle.gate_state.specs.declared.reply.Order.TheVariants.{Stage, Land, Notice}
+use Rattle.gate_state.specs.declared.reply.Why.{Why}
+use Rattle.gate_state.specs.declared.reply.Why.TheVariants as why
 use Rattle.gate_queue.specs.History.{Event, did, gave, given, last_of, landing_said, author_back, change_of, names_change, batches_back, landing_with, is_order, is_stage_of, is_land_of, stages, landings, ends_why, tells_of_try, look_back}
 use Rattle.gate_state.specs.Lanes as lanes
 use Rattle.gate_state.specs.Lanes.{batches_of, is_landing, ordered_at, back, only, left, loses, stops_running, with_report, reported_on, staged_at, to_landing, to_land as lanes_to_land, taken_out, restarted, failed}
@@ -20,9 +28,6 @@ use Rattle.gate_queue.specs.Machine.{broken, size_on, all_but, followed, approva
 use Rattle.gate_state.specs.State.{approved_on, trying_on, priority_on, IsWaiting}
 use Rattle.gate_state.specs.Queue as specs
 use Rattle.gate_state.specs.Queue.{lane_of}
-use Rattle.gate_queue.specs.declared.act.Act.{Act}
-use Rattle.gate_queue.specs.declared.act.StatusState.{StatusState}
-use Rattle.gate_queue.specs.declared.act.StatusState.TheVariants.{Success, Failure, Error, Pending}
 use Rattle.gate_state.specs.declared.batch.Batch.{Batch}
 use Rattle.gate_state.specs.declared.batch.Branch.{Branch}
 use Rattle.gate_state.specs.declared.batch.Branch.TheVariants.{Staging, Trying}
@@ -32,11 +37,6 @@ use Rattle.gate_state.specs.declared.batch.Stage.{Stage as StageOf}
 use Rattle.gate_state.specs.declared.batch.Stage.TheVariants as stage
 use Rattle.gate_state.specs.declared.lane.Lane.{Lane}
 use Rattle.gate_state.specs.declared.queue.Queue.{Queue}
-use Rattle.gate_queue.specs.declared.reply.Head.{Head}
-use Rattle.gate_queue.specs.declared.reply.Order.{Order}
-use Rattle.gate_queue.specs.declared.reply.Order.TheVariants.{Stage, Land, Notice}
-use Rattle.gate_queue.specs.declared.reply.Why.{Why}
-use Rattle.gate_queue.specs.declared.reply.Why.TheVariants as why
 use Rattle.gate_queue.specs.declared.outcome.Outcome.{Outcome}
 use Rattle.gate_state.specs.declared.state.State.{State}
 use Rattle.gate_queue.proofs.Acting.{AreMild, failing_look, try_ended_look, starting_look, land_look}

@@ -14,15 +14,19 @@ use Rattle.std.specs.Option.{option_and_then, option_map_or, option_or, unwrap_o
 use Rattle.std.specs.Ordering.{nat_cmp}
 use Rattle.std.specs.Str.{bytes_eq}
 use Rattle.gate_text.specs.Settings.{SettingsView}
-use Rattle.gate_queue.specs.Acts.{on}
+use Rattle.gate_state.specs.Acts.{on}
+use Rattle.gate_state.specs.declared.act.Act.{Act}
+use Rattle.gate_state.specs.declared.act.Act.TheVariants.{Spoken, Role, Settings, Base, Opened, Pushed, Closed, Labeled, Unlabeled, Review, Staged, Conflict, Status, Refused, Tick}
+use Rattle.gate_state.specs.declared.act.StatusState.{StatusState}
+use Rattle.gate_state.specs.declared.act.StatusState.TheVariants.{Success}
+use Rattle.gate_state.specs.declared.reply.Head.{Head}
+use Rattle.gate_state.specs.declared.reply.Order.{Order}
+use Rattle.gate_state.specs.declared.reply.Order.TheVariants.{Stage, Land, Notice}
+use Rattle.gate_state.specs.declared.reply.Why.{Why}
 use Rattle.gate_queue.specs.History.{Event, did, gave, last_of, since, said_by, said_on, settings_back, base_back, head_said, head_back, moves_head, fit_back, approval_said, ends_it, standing_back, heads_said, heads_back, is_order_on, keeps_order, is_ordered_on, keeps_staged, is_staged_as, is_staged_back, state_said, is_bad, is_good, keeps_clean, is_clean, passes, keeps_passed, has_passed, is_order_at, keeps_head, is_unmoved, given, ends_why, IsTested, IsReadyToLand, IsRightLanding}
 use Rattle.gate_rules.specs.View.{is_required}
 use Rattle.gate_state.specs.Lanes.{is_success, has_succeeded}
 use Rattle.gate_queue.specs.Machine.{is_staged_with}
-use Rattle.gate_queue.specs.declared.act.Act.{Act}
-use Rattle.gate_queue.specs.declared.act.Act.TheVariants.{Spoken, Role, Settings, Base, Opened, Pushed, Closed, Labeled, Unlabeled, Review, Staged, Conflict, Status, Refused, Tick}
-use Rattle.gate_queue.specs.declared.act.StatusState.{StatusState}
-use Rattle.gate_queue.specs.declared.act.StatusState.TheVariants.{Success}
 use Rattle.gate_state.specs.declared.batch.Batch.{Batch}
 use Rattle.gate_state.specs.declared.batch.Branch.{Branch}
 use Rattle.gate_state.specs.declared.batch.Branch.TheVariants.{Staging}
@@ -30,10 +34,6 @@ use Rattle.gate_state.specs.declared.batch.Report.{Report}
 use Rattle.gate_state.specs.declared.batch.Report.TheVariants as report
 use Rattle.gate_state.specs.declared.batch.Stage.{Stage as StageOf}
 use Rattle.gate_state.specs.declared.batch.Stage.TheVariants as stage
-use Rattle.gate_queue.specs.declared.reply.Head.{Head}
-use Rattle.gate_queue.specs.declared.reply.Order.{Order}
-use Rattle.gate_queue.specs.declared.reply.Order.TheVariants.{Stage, Land, Notice}
-use Rattle.gate_queue.specs.declared.reply.Why.{Why}
 use Rattle.gate_queue.proofs.After.{standing_fit}
 
 -- THE RUNNING BATCH, ordered or staged: it was ordered on the present base under the present settings, its heads are those of

@@ -11,12 +11,12 @@ use Rattle.gate_rules.specs.Rules.{Look, is_known}
 use Rattle.gate_rules.specs.declared.change.Change.{Change}
 use Rattle.gate_rules.specs.declared.change.Phase.TheVariants as phase
 use Rattle.gate_rules.specs.declared.rule.Rule.TheVariants.{UnknownChange}
-use Rattle.gate_queue.specs.Acts.{subject, on}
+use Rattle.gate_state.specs.Acts.{subject, on}
+use Rattle.gate_state.specs.declared.act.Act.{Act}
+use Rattle.gate_state.specs.declared.act.Act.TheVariants.{Spoken, Role, Settings, Base, Opened, Pushed, Closed, Labeled, Unlabeled, Review, Staged, Conflict, Status, Refused, Tick}
+use Rattle.gate_state.specs.declared.reply.Order.{Order}
 use Rattle.gate_queue.specs.History.{Event, did, gave, last_of, said_on, done_to, author_said, author_back, stage_naming, batches_back, landing_with, landing_back, has_landed, landed_back, phase_said, phase_by, phase_back, priority_back, labels_back, delegates_back, repeat_back, try_said, try_ends, tried_back, trying_back, change_of, look_back}
 use Rattle.gate_queue.specs.Machine.{broken}
-use Rattle.gate_queue.specs.declared.act.Act.{Act}
-use Rattle.gate_queue.specs.declared.act.Act.TheVariants.{Spoken, Role, Settings, Base, Opened, Pushed, Closed, Labeled, Unlabeled, Review, Staged, Conflict, Status, Refused, Tick}
-use Rattle.gate_queue.specs.declared.reply.Order.{Order}
 use Rattle.gate_queue.proofs.After.{rest_back, author_after, priority_after, labels_after, delegates_after, repeat_after}
 use Rattle.gate_queue.proofs.Changes.{same_number}
 use Rattle.gate_queue.proofs.Fitness.{passed}

@@ -10,17 +10,17 @@ use Rattle.gate_rules.specs.declared.change.Repeat.TheVariants as repeat
 use Rattle.gate_rules.specs.declared.role.Level.TheVariants as level
 use Rattle.gate_rules.specs.declared.role.Role.TheVariants.{Nobody, Reviewer}
 use Rattle.gate_rules.specs.declared.rule.Rule.TheVariants.{UnknownChange, NotACommand, NotOpen, NoSettings, NotApproved, AlreadyOpen, ClockBack, NoSuchBatch, SameAsBase}
-use Rattle.gate_queue.specs.Acts.{on}
+use Rattle.gate_state.specs.Acts.{on}
+use Rattle.gate_state.specs.declared.act.Act.TheVariants.{Spoken, Role, Settings, Base, Opened, Pushed, Closed, Staged, Conflict, Status, Refused, Tick}
+use Rattle.gate_state.specs.declared.act.StatusState.TheVariants.{Success, Failure, Pending}
+use Rattle.gate_state.specs.declared.reply.Order.TheVariants.{Stage, Land, Notice}
+use Rattle.gate_state.specs.declared.reply.Why.TheVariants as why
+use Rattle.gate_state.specs.declared.reply.Reply.TheVariants.{Done}
 use Rattle.gate_queue.specs.History.{Event, did, gave, role_back, author_back, head_back, moves, landing_back, landed_back, phase_back, priority_back, standing_back, is_ordered_on, has_passed, is_unmoved, look_back}
 use Rattle.gate_state.specs.Lanes.{fresh}
 use Rattle.gate_queue.specs.Machine.{empty_state, broken, denial, followed, reply_to, pushed, ends_approval, just_opened, approved_by}
 use Rattle.gate_state.specs.Queue.{empty_queue}
-use Rattle.gate_queue.specs.declared.act.Act.TheVariants.{Spoken, Role, Settings, Base, Opened, Pushed, Closed, Staged, Conflict, Status, Refused, Tick}
-use Rattle.gate_queue.specs.declared.act.StatusState.TheVariants.{Success, Failure, Pending}
 use Rattle.gate_state.specs.declared.batch.Branch.TheVariants.{Staging}
-use Rattle.gate_queue.specs.declared.reply.Order.TheVariants.{Stage, Land, Notice}
-use Rattle.gate_queue.specs.declared.reply.Why.TheVariants as why
-use Rattle.gate_queue.specs.declared.reply.Reply.TheVariants.{Done}
 
 abbrev alice : List ℕ
 alice = 97 ∷ 108 ∷ []

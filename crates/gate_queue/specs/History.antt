@@ -7,17 +7,17 @@ use Rattle.std.specs.List.{fold, filter_map, list_any, count_by, All}
 use Rattle.std.specs.Option.{option_flatten, unwrap_or, option_or, option_map, option_map_or, option_and_then}
 use Rattle.std.specs.Result.{result_ok}
 use Rattle.std.specs.Str.{bytes_eq}
+use Rattle.gate_state.specs.Acts.{on, ActKeepsLimits}
+use Rattle.gate_state.specs.declared.reply.Head.{Head}
+use Rattle.gate_state.specs.declared.reply.Why.TheVariants as why
 use Rattle.gate_queue.specs.Vocabulary.{SettingsView, settings_of, same_settings, Approve, ApproveFor, Withdraw, Priority, Try, TryCancel, DelegateAuthor, DelegateTo, DelegateNone, Known, Look, Texts, is_fit, DeskView, role_on, Change, Phase, Repeat, Nobody, RoleOf, Rule, Act, Spoken, Role, Settings, Base, Opened, Pushed, Closed, Labeled, Unlabeled, Review, Staged, Status, Refused, Tick, StatusState, Success, Failure, Error, Pending, Order, Stage, Land, Notice, Reply, Done, Denied, Why, State}
 use Rattle.gate_rules.specs.declared.change.Phase.TheVariants as phase
 use Rattle.gate_rules.specs.declared.change.Repeat.TheVariants as repeat
-use Rattle.gate_queue.specs.Acts.{on, ActKeepsLimits}
 use Rattle.gate_state.specs.Counts.{held, in_landing, of_any_priority}
 use Rattle.gate_queue.specs.Machine.{IsEmpty, broken, missing, meaning, reply_to, after, Step}
 use Rattle.gate_state.specs.State.{IsState}
 use Rattle.gate_state.specs.declared.batch.Branch.{Branch}
 use Rattle.gate_state.specs.declared.batch.Branch.TheVariants.{Staging, Trying}
-use Rattle.gate_queue.specs.declared.reply.Head.{Head}
-use Rattle.gate_queue.specs.declared.reply.Why.TheVariants as why
 
 -- A history is a list of entries, the newest first.
 pub record Entry : Type 0 where

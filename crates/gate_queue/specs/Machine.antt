@@ -7,11 +7,13 @@ use Rattle.std.specs.List.{fold, filter_map, list_all}
 use Rattle.std.specs.Option.{option_map, option_map_or, option_and_then, option_or}
 use Rattle.std.specs.Ordering.{int_eq}
 use Rattle.std.specs.Str.{bytes_eq}
+use Rattle.gate_state.specs.Acts.{subject}
+use Rattle.gate_state.specs.declared.reply.Head.{Head}
+use Rattle.gate_state.specs.declared.reply.Why.TheVariants as why
 use Rattle.gate_queue.specs.Vocabulary.{SettingsView, settings_of, fault_number, same_settings, Command, Ping, Approve, ApproveFor, Withdraw, Priority, Try, TryCancel, DelegateAuthor, DelegateTo, DelegateNone, Retry, Known, Unknown, SettingsFault, Look, asks, last_command, is_known, is_open, is_landed, is_member, is_blocked, has_too_few_reviews, first_failing, DeskView, empty_desk, with_role, with_change, with_settings, with_base, with_clock, with_ended, numbers_where, ended_if, without_approval, is_required, look, Change, Repeat, Nobody, Rule, UnknownChange, NotOpen, AlreadyOpen, ChangeLanded, StaleHead, NotMember, OwnChange, BadSettings, ClockBack, NoSuchBatch, SameAsBase, Act, Spoken, Role, Settings, Base, Opened, Pushed, Closed, Labeled, Unlabeled, Review, Staged, Conflict, Status, Refused, Tick, StatusState, Success, Failure, Error, Pending, Order, Stage, Land, Notice, Reply, Done, Denied, Why, State, Outcome}
 use Rattle.gate_rules.specs.Rules as rules
 use Rattle.gate_rules.specs.declared.change.Phase.TheVariants as phase
 use Rattle.gate_rules.specs.declared.change.Repeat.TheVariants as repeat
-use Rattle.gate_queue.specs.Acts.{subject}
 use Rattle.gate_state.specs.Lanes as lanes
 use Rattle.gate_state.specs.Lanes.{has_succeeded}
 use Rattle.gate_state.specs.Queue.{empty_queue, lane_of, enqueued, tried, taken_out, restarted, requeued, staged, failed, started, reported, landing, dropped}
@@ -25,8 +27,6 @@ use Rattle.gate_state.specs.declared.batch.Stage.{Stage as StageOf}
 use Rattle.gate_state.specs.declared.batch.Stage.TheVariants as stage
 use Rattle.gate_state.specs.declared.lane.Lane.{Lane}
 use Rattle.gate_state.specs.declared.queue.Queue.{Queue}
-use Rattle.gate_queue.specs.declared.reply.Head.{Head}
-use Rattle.gate_queue.specs.declared.reply.Why.TheVariants as why
 
 -- A STATE is the desk and the batches. An empty one has nothing but the next number.
 abbrev pub empty_state : ℕ → State

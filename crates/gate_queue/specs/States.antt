@@ -2,9 +2,9 @@
 use Rattle.std.specs.Prelude.{◌≤◌}
 use Rattle.gate_state.specs.State.{IsState}
 use Rattle.gate_state.specs.declared.state.State.{State}
-use Rattle.gate_queue.specs.Acts.{ActKeepsLimits}
+use Rattle.gate_state.specs.Acts.{ActKeepsLimits}
+use Rattle.gate_state.specs.declared.act.Act.{Act}
 use Rattle.gate_queue.specs.Machine.{after}
-use Rattle.gate_queue.specs.declared.act.Act.{Act}
 
 abbrev pub LawOfStates : Type 0
 LawOfStates = (s : State) (act : Act) → IsState s → s.queue.next ≤ 8_999_999_999_999_996 → ActKeepsLimits act → IsState (after s act)

@@ -1,4 +1,4 @@
--- THE WORDS that the machine and the history are written in, from the crates below and the types of this one.
+-- THE WORDS that the machine and the history are written in, from the crates below and from this one.
 -- settings, comments
 pub use Rattle.gate_text.specs.Settings.{SettingsView, settings_of, fault_number, same_settings}
 pub use Rattle.gate_text.specs.declared.command.Command.{Command}
@@ -17,15 +17,15 @@ pub use Rattle.gate_rules.specs.declared.role.Role.TheVariants.{Nobody}
 pub use Rattle.gate_rules.specs.declared.rule.Rule.{Rule}
 pub use Rattle.gate_rules.specs.declared.rule.Rule.TheVariants.{UnknownChange, NotOpen, AlreadyOpen, ChangeLanded, StaleHead, NotMember, OwnChange, BadSettings, ClockBack, NoSuchBatch, SameAsBase}
 -- acts, orders, replies
-pub use Rattle.gate_queue.specs.declared.act.Act.{Act}
-pub use Rattle.gate_queue.specs.declared.act.Act.TheVariants.{Spoken, Role, Settings, Base, Opened, Pushed, Closed, Labeled, Unlabeled, Review, Staged, Conflict, Status, Refused, Tick}
-pub use Rattle.gate_queue.specs.declared.act.StatusState.{StatusState}
-pub use Rattle.gate_queue.specs.declared.act.StatusState.TheVariants.{Success, Failure, Error, Pending}
-pub use Rattle.gate_queue.specs.declared.reply.Order.{Order}
-pub use Rattle.gate_queue.specs.declared.reply.Order.TheVariants.{Stage, Land, Notice}
-pub use Rattle.gate_queue.specs.declared.reply.Reply.{Reply}
-pub use Rattle.gate_queue.specs.declared.reply.Reply.TheVariants.{Done, Denied}
-pub use Rattle.gate_queue.specs.declared.reply.Why.{Why}
+pub use Rattle.gate_state.specs.declared.act.Act.{Act}
+pub use Rattle.gate_state.specs.declared.act.Act.TheVariants.{Spoken, Role, Settings, Base, Opened, Pushed, Closed, Labeled, Unlabeled, Review, Staged, Conflict, Status, Refused, Tick}
+pub use Rattle.gate_state.specs.declared.act.StatusState.{StatusState}
+pub use Rattle.gate_state.specs.declared.act.StatusState.TheVariants.{Success, Failure, Error, Pending}
+pub use Rattle.gate_state.specs.declared.reply.Order.{Order}
+pub use Rattle.gate_state.specs.declared.reply.Order.TheVariants.{Stage, Land, Notice}
+pub use Rattle.gate_state.specs.declared.reply.Reply.{Reply}
+pub use Rattle.gate_state.specs.declared.reply.Reply.TheVariants.{Done, Denied}
+pub use Rattle.gate_state.specs.declared.reply.Why.{Why}
 -- states
 pub use Rattle.gate_state.specs.declared.state.State.{State}
 pub use Rattle.gate_queue.specs.declared.outcome.Outcome.{Outcome}

@@ -5,11 +5,11 @@ use Rattle.std.specs.FinSet as set
 use Rattle.std.specs.List.{list_any, All}
 use Rattle.std.specs.Option.{unwrap_or, option_and_then, option_map_or}
 use Rattle.std.specs.Str.{bytes_eq}
+use Rattle.gate_state.specs.declared.reply.Head.{Head}
 use Rattle.gate_queue.specs.History.{Event, Mark, put, taken, Delegation, to_author, to_people, to_nobody, last_of, since, said_on, author_back, moves, label_said, labels_back, review_said, reviews_back, delegation_said, delegates_back, did, gave, settings_back, base_back, IsTested}
 use Rattle.gate_queue.specs.Vocabulary.{Act, SettingsView, Base, Staged, Status, StatusState, Success, Failure, Error, Stage}
 use Rattle.gate_state.specs.declared.batch.Branch.{Branch}
 use Rattle.gate_state.specs.declared.batch.Branch.TheVariants.{Staging}
-use Rattle.gate_queue.specs.declared.reply.Head.{Head}
 
 -- SINCE. The list can be cut at an event that started it, and each event that came after has kept it.
 abbrev pub AllKept : (Event → List Event → Bool) → List Event → List Event → Type 0

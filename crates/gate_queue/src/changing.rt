@@ -3,13 +3,13 @@ ghost use Rattle.std.specs.FinMap as finite;
 ghost use Rattle.std.specs.FinSet as set;
 ghost use Rattle.std.specs.List.{fold};
 ghost use Rattle.gate_rules.specs.View.{with_change, without_approval};
+ghost use Rattle.gate_state.specs.declared.reply.Order.TheVariants.{Notice};
+ghost use Rattle.gate_state.specs.declared.reply.Why.TheVariants as why;
 ghost use Rattle.gate_queue.specs.Machine as machine;
 ghost use Rattle.gate_queue.specs.Machine.{altered, ends_approval, ends_either, notice_if, notice_of};
-ghost use Rattle.gate_queue.specs.declared.reply.Order.TheVariants.{Notice};
-ghost use Rattle.gate_queue.specs.declared.reply.Why.TheVariants as why;
 
-use crate::reply::{Order, Orders, Why};
 use gate_rules::{Change, Desk, Phase, Repeat, has_too_few_reviews, is_blocked};
+use gate_state::{Order, Orders, Why};
 use gate_text::{ChangeNo, Commit, Label, LabelSet, Name, NameSet, Names};
 use std::alloc::{AllocError, Global};
 

@@ -2,21 +2,19 @@ ghost use Rattle.std.specs.Prelude.{◌≡◌, ◌↔◌, ◌⊎◌, ◌<◌, �
 ghost use Rattle.std.specs.FinMap as map;
 ghost use Rattle.std.specs.Option.{option_copied};
 ghost use Rattle.gate_rules.specs.declared.rule.Rule.{Rule};
-ghost use Rattle.gate_queue.specs.Acts.{ActKeepsLimits};
-ghost use Rattle.gate_state.specs.State.{IsMoment, IsState};
+ghost use Rattle.gate_state.specs.State.{IsState};
+ghost use Rattle.gate_state.specs.Acts.{ActKeepsLimits};
+ghost use Rattle.gate_state.specs.declared.reply.Reply.TheVariants.{Denied};
 ghost use Rattle.gate_queue.specs.History.{Entry, Legal, EntryTells, entry_of};
 ghost use Rattle.gate_queue.specs.Machine.{DeskTakesNoMemory, QueueTakesNoMemory, RefusalMayWantMemory, Step, denial, empty_state};
 ghost use Rattle.gate_state.specs.Queue as queue_specs;
 ghost use Rattle.gate_state.specs.Service.{QueueIsInOrder};
-ghost use Rattle.gate_queue.specs.declared.reply.Reply.TheVariants.{Denied};
 
-use crate::act::Act;
 use crate::fault::Fault;
 use crate::judging::rule_of;
-use crate::reply::Reply;
 use crate::stepping::step;
 use gate_rules::{Change, Desk, Rule};
-use gate_state::{Batch, Queue, State};
+use gate_state::{Act, Batch, Queue, Reply, State};
 use gate_text::ChangeNo;
 use std::alloc::{AllocError, Global};
 use std::marker::Model;

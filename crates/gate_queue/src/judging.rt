@@ -2,13 +2,12 @@ ghost use Rattle.std.specs.Prelude.{◌≡◌, [], IfOk, IfErr, IsOk};
 ghost use Rattle.gate_text.specs.Settings.{settings_of};
 ghost use Rattle.gate_rules.specs.Rules.{first_failing};
 ghost use Rattle.gate_rules.specs.View.{look};
+ghost use Rattle.gate_state.specs.declared.act.Act.TheVariants as act;
 ghost use Rattle.gate_queue.specs.Machine as machine;
 ghost use Rattle.gate_queue.specs.Machine.{RefusalMayWantMemory, DeskTakesNoMemory, denial, bad_settings, is_ordered, is_staged_with, of_open_change, opening_row, review_row, row};
-ghost use Rattle.gate_queue.specs.declared.act.Act.TheVariants as act;
 
-use crate::act::Act;
 use gate_rules::{Desk, Rule};
-use gate_state::{Lane, Queue, Stage};
+use gate_state::{Act, Lane, Queue, Stage};
 use gate_text::{ChangeNo, Commit, Name, SettingsFault, Text, read_settings};
 use std::alloc::{AllocError, Global};
 

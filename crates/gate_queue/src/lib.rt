@@ -1,8 +1,6 @@
-//! The machine of the merge bot: acts, what each is answered, and what it leaves; and the history that its contract
-//! speaks of.
+//! The machine of the merge bot: what each act is answered, and what it leaves; and the history that its contract speaks of.
 #![tactic(auto)]
 
-mod act;
 mod changing;
 mod fault;
 mod gate;
@@ -12,21 +10,21 @@ mod marks;
 mod outcome;
 mod performing;
 mod repeating;
-mod reply;
 mod running;
 mod settings;
 mod stepping;
 mod ticking;
 
-pub use act::{Act, StatusState};
 pub use fault::Fault;
 pub use gate::{Gate, empty_history_is_legal};
 pub use laws::{
     law_of_entries, law_of_histories, law_of_sets, law_of_since, law_of_states, law_of_tests,
     law_of_the_last, law_of_the_queue,
 };
-pub use reply::{Head, Heads, Order, Orders, Reply, Why};
 pub use settings::LosesApproval;
 
-// What a gate is made of and shows, so that who uses it needs no other crate for that.
-pub use gate_state::{Batch, Batches, Branch, Changes, Lane, Queue, Report, Reports, Stage, State};
+// What a gate takes and gives, and what it is made of and shows, so that who uses it needs no other crate for that.
+pub use gate_state::{
+    Act, Batch, Batches, Branch, Changes, Head, Heads, Lane, Order, Orders, Queue, Reply, Report,
+    Reports, Stage, State, StatusState, Why,
+};

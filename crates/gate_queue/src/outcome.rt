@@ -2,8 +2,7 @@ ghost use Rattle.std.specs.Prelude.{◌≡◌, ◌++◌, [], IfOk, IsOk};
 ghost use Rattle.gate_queue.specs.Machine as machine;
 
 use crate::changing::no_orders;
-use crate::reply::Orders;
-use gate_state::State;
+use gate_state::{Orders, State};
 use std::alloc::{AllocError, Global};
 
 /// What an act comes to.

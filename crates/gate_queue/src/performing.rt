@@ -1,14 +1,13 @@
 ghost use Rattle.std.specs.Prelude.{◌≡◌, Some, OnOk, IfOk, IsNone, IsOk};
 ghost use Rattle.gate_rules.specs.View.{look};
-ghost use Rattle.gate_queue.specs.Acts.{subject};
+ghost use Rattle.gate_state.specs.Acts.{subject};
 ghost use Rattle.gate_queue.specs.Machine as machine;
 ghost use Rattle.gate_queue.specs.Machine.{CommandTakesNoMemory, DeskTakesNoMemory, broken, effect, command_effect};
 
-use crate::act::Act;
 use crate::changing;
 use crate::changing::no_orders;
-use crate::reply::Orders;
 use gate_rules::{Desk, Repeat};
+use gate_state::{Act, Orders};
 use gate_text::{ChangeNo, Command, Name, Names, Spoken};
 use std::alloc::{AllocError, Global};
 

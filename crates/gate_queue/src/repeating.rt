@@ -3,11 +3,11 @@ ghost use Rattle.std.specs.Option.{unwrap_or};
 ghost use Rattle.gate_rules.specs.View.{look};
 ghost use Rattle.gate_text.specs.declared.command.Command.TheVariants as command;
 ghost use Rattle.gate_text.specs.declared.command.Spoken.TheVariants.{Known};
+ghost use Rattle.gate_state.specs.declared.act.Act.TheVariants as acts;
 ghost use Rattle.gate_queue.specs.Machine as machine;
-ghost use Rattle.gate_queue.specs.declared.act.Act.TheVariants as acts;
 
-use crate::act::Act;
 use gate_rules::{Desk, Repeat};
+use gate_state::Act;
 use gate_text::{ChangeNo, Command, Name, Spoken};
 use std::alloc::{AllocError, Global};
 

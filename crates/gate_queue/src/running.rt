@@ -1,4 +1,4 @@
-ghost use Rattle.std.specs.Prelude.{◌≡◌, ◌≤◌, [], true, false, is_none, IfOk, IfSome, IsOk};
+ghost use Rattle.std.specs.Prelude.{◌≡◌, ◌≤◌, true, false, is_none, IfOk, IfSome, IsOk};
 ghost use Rattle.std.specs.List.{list_all};
 ghost use Rattle.gate_rules.specs.View.{is_required};
 ghost use Rattle.gate_state.specs.Lanes.{has_succeeded};
@@ -6,14 +6,14 @@ ghost use Rattle.gate_state.specs.Queue as queue_specs;
 ghost use Rattle.gate_state.specs.declared.batch.Branch.TheVariants.{Staging};
 ghost use Rattle.gate_queue.specs.Machine as machine;
 
-use crate::act::StatusState;
 use crate::changing;
 use crate::changing::{no_orders, one_notice, one_order};
 use crate::judging::has_staged;
 use crate::outcome::{Outcome, quiet, with_first};
-use crate::reply::{Order, Orders, Why};
 use gate_rules::Desk;
-use gate_state::{Approved, Batch, Branch, Report, Reports, Stage, State};
+use gate_state::{
+    Approved, Batch, Branch, Order, Orders, Report, Reports, Stage, State, StatusState, Why,
+};
 use gate_text::{ChangeNo, Commit, Context};
 use std::alloc::{AllocError, Global};
 

@@ -1,16 +1,15 @@
 ghost use Rattle.std.specs.Prelude.{◌≡◌, ◌≤◌, Ok, IfOk};
 ghost use Rattle.gate_text.specs.Settings.{settings_of};
+ghost use Rattle.gate_state.specs.declared.reply.Order.TheVariants.{Notice};
+ghost use Rattle.gate_state.specs.declared.reply.Why.TheVariants as why;
 ghost use Rattle.gate_queue.specs.Machine as machine;
 ghost use Rattle.gate_queue.specs.Machine.{settings_notices};
 ghost use Rattle.gate_state.specs.Queue.{restarted};
 ghost use Rattle.gate_state.specs.declared.batch.Branch.TheVariants.{Staging, Trying};
-ghost use Rattle.gate_queue.specs.declared.reply.Order.TheVariants.{Notice};
-ghost use Rattle.gate_queue.specs.declared.reply.Why.TheVariants as why;
 
 use crate::outcome::{Outcome, quiet};
-use crate::reply::{Order, Orders, Why};
 use gate_rules::{Change, Condition, Desk, has_too_few_reviews, is_blocked};
-use gate_state::{Approved, Branch, Queue, State};
+use gate_state::{Approved, Branch, Order, Orders, Queue, State, Why};
 use gate_text::{ChangeNo, Settings, SettingsFault, Text, read_settings};
 use std::alloc::{AllocError, Global};
 

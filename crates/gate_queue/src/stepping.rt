@@ -1,23 +1,21 @@
 ghost use Rattle.std.specs.Prelude.{◌≡◌, ◌≤◌, ◌<◌, true, false, is_none, Some, IfOk, IfErr, IsNone, IsOk};
 ghost use Rattle.gate_rules.specs.View.{look};
 ghost use Rattle.gate_rules.specs.declared.rule.Rule.{Rule};
-ghost use Rattle.gate_queue.specs.Acts.{subject};
+ghost use Rattle.gate_state.specs.Acts.{subject};
 ghost use Rattle.gate_queue.specs.Machine as machine;
 ghost use Rattle.gate_queue.specs.Machine.{DeskTakesNoMemory, QueueTakesNoMemory, RefusalMayWantMemory, Step, broken, denial, effect, is_unmoved_on};
 ghost use Rattle.gate_state.specs.Queue.{staged};
 
-use crate::act::Act;
 use crate::judging::{has_ordered, rule_of};
 use crate::marks::{follow, mark_on};
 use crate::outcome::{Outcome, quiet};
 use crate::performing::perform;
 use crate::repeating::repeated_act;
-use crate::reply::{Reply, Why};
 use crate::running::{end_try, give_up, send_back, take_status};
 use crate::settings::accept_settings;
 use crate::ticking::tick;
 use gate_rules::Desk;
-use gate_state::{Branch, Lane, Queue, Stage, State, Tried};
+use gate_state::{Act, Branch, Lane, Queue, Reply, Stage, State, Tried, Why};
 use gate_text::{ChangeNo, Commit};
 use std::alloc::{AllocError, Global};
 

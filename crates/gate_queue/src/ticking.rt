@@ -7,10 +7,9 @@ ghost use Rattle.gate_state.specs.Queue.{lane_of};
 
 use crate::changing::{no_orders, one_order};
 use crate::outcome::{Outcome, quiet, with_first};
-use crate::reply::{Head, Heads, Order, Orders, Why};
 use crate::running::{end_try, give_up};
 use gate_rules::Desk;
-use gate_state::{Batch, Branch, Lane, Stage, State};
+use gate_state::{Batch, Branch, Head, Heads, Lane, Order, Orders, Stage, State, Why};
 use gate_text::ChangeNo;
 use std::alloc::{AllocError, Global};
 

@@ -235,7 +235,7 @@ staged_at now commit batch = record batch { stage = stage.Staged now commit fini
 abbrev pub staged : ℕ → List ℕ → Lane → Lane
 staged now commit lane = record lane { running = option_map (staged_at now commit) lane.running }
 
--- REPORTED: the last report of a required status takes the place of the one before, while the batch is tested
+-- SUCCESS
 abbrev pub is_success : Report → Bool
 is_success report.Success = true
 is_success report.Pending = false
@@ -244,6 +244,7 @@ is_success report.Pending = false
 abbrev pub has_succeeded : FinMap (slice_cmp nat_cmp) Report → List ℕ → Bool
 has_succeeded reports name = option_map_or is_success (finite.get reports name) false
 
+-- REPORTED: the last report of a required status takes the place of the one before, while the batch is tested
 abbrev pub with_report : List ℕ → Report → Stage → Stage
 with_report name report stage.Waiting = stage.Waiting
 with_report name report (stage.Ordered since) = stage.Ordered since

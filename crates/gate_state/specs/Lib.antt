@@ -1,4 +1,5 @@
 -- What the contracts of this crate cite. For a reader, in this order:
+--     Acts       which change an act is about, and the limits that it keeps
 --     State      what every state keeps
 --     Lanes      the batches of a branch in order of service, and what is done to them
 --     Queue      the batches of both branches, and the next number
@@ -6,6 +7,7 @@
 --     Service    the order of service over a whole list
 --     Checks     what every state keeps as tests, for a state whose parts come from elsewhere
 -- For proofs of this crate and of those above: Lemmas, the laws of service and of changes, proved.
+pub mod Acts
 pub mod Checks
 pub mod Counts
 pub mod Lanes

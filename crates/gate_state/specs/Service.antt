@@ -1,9 +1,11 @@
--- THE ORDER OF SERVICE of a lane, and the numbers of its batches, after all that is done to it.
+-- THE ORDER OF SERVICE of a lane and of a queue, and the numbers of the batches, after all that is done to them.
 use Rattle.std.specs.Prelude.{◌≡◌, ◌≤◌, ℕ, ◌+◌, nat_lt, nat_le, ℤ, Bool, true, false, ◌&&◌, List, length, Option, IfSome, if◌then◌else◌}
 use Rattle.std.specs.List.{All, AllPairs}
 use Rattle.gate_state.specs.Counts.{uses}
 use Rattle.gate_state.specs.Lanes.{batches_of, goes_before, placed, left, is_landing, enqueued, enqueue_uses, tried, taken_out, taken_out_uses, restarted, restarted_uses, requeued, requeued_uses, failed, failed_uses, started, staged, reported, landing, dropped}
+use Rattle.gate_state.specs.Queue as queues
 use Rattle.gate_state.specs.declared.batch.Batch.{Batch}
+use Rattle.gate_state.specs.declared.batch.Branch.{Branch}
 use Rattle.gate_state.specs.declared.batch.Report.{Report}
 use Rattle.gate_state.specs.declared.lane.Lane.{Lane}
 use Rattle.gate_state.specs.declared.queue.Queue.{Queue}
@@ -72,6 +74,23 @@ pub record QueueIsInOrder (queue : Queue) : Type 0 where
   pub staging : IsInOrder queue.next queue.staging
   pub trying : IsInOrder queue.next queue.trying
   pub apart : (number : ℕ) → uses number (batches_of queue.staging) + uses number (batches_of queue.trying) ≤ (if nat_lt number queue.next then 1 else 0)
+
+-- It stays so, whatever is done to it.
+pub record QueueStaysInOrder (queue : Queue) : Type 0 where
+  pub enqueue : (size : Option ℕ) (priority : ℤ) (change : ℕ) → QueueIsInOrder (queues.enqueued size priority change queue)
+  pub enqueue_try : (change : ℕ) → QueueIsInOrder (queues.tried change queue)
+  pub take_out : (branch : Branch) (stays : ℕ → Bool) → QueueIsInOrder (queues.taken_out branch stays queue)
+  pub restart : (branch : Branch) → QueueIsInOrder (queues.restarted branch queue)
+  pub requeue : (branch : Branch) (stays : ℕ → Bool) → QueueIsInOrder (queues.requeued branch stays queue)
+  pub fail : (branch : Branch) → QueueIsInOrder (queues.failed branch queue)
+  pub start : (branch : Branch) (now : ℕ) → QueueIsInOrder (queues.started branch now queue)
+  pub stage : (branch : Branch) (now : ℕ) (commit : List ℕ) → QueueIsInOrder (queues.staged branch now commit queue)
+  pub report : (branch : Branch) (name : List ℕ) (report : Report) → QueueIsInOrder (queues.reported branch name report queue)
+  pub land : (branch : Branch) → QueueIsInOrder (queues.landing branch queue)
+  pub drop : (branch : Branch) → QueueIsInOrder (queues.dropped branch queue)
+
+abbrev pub LawOfQueues : Type 0
+LawOfQueues = (queue : Queue) → QueueIsInOrder queue → QueueStaysInOrder queue
 
 -- A LANE OF SINGLE CHANGES: each batch has exactly one, and none is landing.
 abbrev pub IsAlone : Batch → Type 0

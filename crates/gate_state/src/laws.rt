@@ -1,16 +1,18 @@
 ghost use Rattle.gate_state.specs.Checks.{LawOfChecks};
 ghost use Rattle.gate_state.specs.Counts.{LawOfEnqueue, LawOfTry, LawOfTakeOut, LawOfRestart, LawOfStart, LawOfStage, LawOfReport, LawOfLand, LawOfRequeue, LawOfFail, LawOfDrop};
-ghost use Rattle.gate_state.specs.Service.{LawOfNumbers, LawOfOrder, LawOfPlaces, LawOfRests, LawOfSingles};
+ghost use Rattle.gate_state.specs.Service.{LawOfNumbers, LawOfOrder, LawOfPlaces, LawOfQueues, LawOfRests, LawOfSingles};
 
 /// The law of service: if each waiting batch goes before all behind it, then it does so after a batch was put at its place
 /// under a new number, and after changes were taken out. If also no two batches of a lane have the same number, and none one
 /// that is still to come, then both stay so, whatever is done to the lane; and no batch is given a number but the next ones.
-/// And if each batch of a lane has one change alone, and none is landing, then that stays so, whatever may be done to tries.
+/// If that holds of both lanes of a queue, and no batch of one has the number of a batch of the other, then that too stays so,
+/// whatever is done to the queue. And if each batch of a lane has one change alone, and none is landing, then that stays so, whatever may be done to tries.
 pub fn law_of_service()
     ensures places { LawOfPlaces }
     ensures rests { LawOfRests }
     ensures order { LawOfOrder }
     ensures numbers { LawOfNumbers }
+    ensures queues { LawOfQueues }
     ensures singles { LawOfSingles }
 {}
 

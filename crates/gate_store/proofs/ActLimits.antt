@@ -6,9 +6,9 @@ use Rattle.gate_text.specs.Limits.{KeepsLimits}
 use Rattle.gate_text.specs.declared.command.Command.TheVariants.{Ping, Approve, ApproveFor, Withdraw, Priority, Try, TryCancel, DelegateAuthor, DelegateTo, DelegateNone, Retry}
 use Rattle.gate_text.specs.declared.command.Spoken.{Spoken}
 use Rattle.gate_text.specs.declared.command.Spoken.TheVariants.{Known, Unknown}
-use Rattle.gate_queue.specs.Acts.{ActKeepsLimits}
-use Rattle.gate_queue.specs.declared.act.Act.{Act}
-use Rattle.gate_queue.specs.declared.act.Act.TheVariants as act
+use Rattle.gate_state.specs.Acts.{ActKeepsLimits}
+use Rattle.gate_state.specs.declared.act.Act.{Act}
+use Rattle.gate_state.specs.declared.act.Act.TheVariants as act
 
 pub one_keeps : (a : Act) → ActKeepsLimits a → All ActKeepsLimits (a ∷ [])
 one_keeps a keeps = All-cons ActKeepsLimits a [] keeps (All-nil ActKeepsLimits)

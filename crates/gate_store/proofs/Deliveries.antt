@@ -6,11 +6,11 @@ use Rattle.std.specs.List.{All}
 use Rattle.gate_text.specs.Limits.{KeepsLimits}
 use Rattle.gate_text.specs.Reading.{comment_says}
 use Rattle.gate_state.specs.declared.state.State.{State}
-use Rattle.gate_queue.specs.Acts.{ActKeepsLimits}
+use Rattle.gate_state.specs.Acts.{ActKeepsLimits}
+use Rattle.gate_state.specs.declared.act.Act.{Act}
+use Rattle.gate_state.specs.declared.act.Act.TheVariants as act
 use Rattle.gate_queue.specs.History.{Entry, Legal, LawOfEntries}
 use Rattle.gate_queue.specs.Machine.{after}
-use Rattle.gate_queue.specs.declared.act.Act.{Act}
-use Rattle.gate_queue.specs.declared.act.Act.TheVariants as act
 use Rattle.gate_store.specs.Acts.{EventKeepsLimits, acts_of_event}
 use Rattle.gate_store.specs.Headline.{Each, KeepLimits, LawOfHeadlines, LawOfTelling, Tells, acts_of_all, entry_for, first_in, firsts, or_same}
 use Rattle.gate_store.specs.Run.{NoneMeetsFull, Records, acts_in, acts_meet_full, after_all, after_deliveries, after_delivery, is_full, is_known, meets_full, new_acts}

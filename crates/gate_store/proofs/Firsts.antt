@@ -4,9 +4,9 @@ use Rattle.std.specs.Cmp.Lexicographic.{bytes_decides, nat_list_cmp_total, nat_l
 use Rattle.std.specs.FinMap as finite
 use Rattle.std.specs.Option.{unwrap_or}
 use Rattle.std.specs.Str.{bytes_eq}
-use Rattle.gate_queue.specs.declared.act.Act.{Act}
-use Rattle.gate_queue.specs.declared.reply.Reply.{Reply}
 use Rattle.gate_state.specs.declared.state.State.{State}
+use Rattle.gate_state.specs.declared.act.Act.{Act}
+use Rattle.gate_state.specs.declared.reply.Reply.{Reply}
 use Rattle.gate_store.specs.Headline.{or_same, firsts, first_in, acts_of_all, run_on}
 use Rattle.gate_store.specs.Run.{Records, kept_under, is_known, acts_in, replies_to, after_all, answer_to, stepped, after_delivery, new_acts, answers_to, after_deliveries}
 use Rattle.gate_store.specs.declared.delivery.Delivery.{Delivery}

@@ -1,9 +1,9 @@
 -- What acts in order tell, one act after the other.
 use Rattle.std.proofs.Common.{◌≡◌, ◌<◌, ◌+◌, ℕ, Bool, true, false, ◌||◌, List, [], ◌∷◌, ◌++◌, length, drop, take, get_or, refl, sym, ◌∙◌, ap, subst, append_assoc, arith}
+use Rattle.gate_state.specs.declared.act.Act.{Act}
+use Rattle.gate_state.specs.declared.reply.Reply.{Reply}
 use Rattle.gate_queue.specs.History.{Entry, EntryTells, Legal, entry_of}
 use Rattle.gate_queue.specs.Machine.{reply_to, after}
-use Rattle.gate_queue.specs.declared.act.Act.{Act}
-use Rattle.gate_queue.specs.declared.reply.Reply.{Reply}
 use Rattle.gate_state.specs.declared.state.State.{State}
 use Rattle.gate_store.specs.Headline.{Each, Tells, entry_for, history_after}
 use Rattle.gate_store.specs.Run.{replies_to, after_all, is_full, acts_meet_full}

@@ -3,13 +3,13 @@ use Rattle.std.proofs.Common.{◌≡◌, false, List, [], ◌∷◌, map, refl}
 use Rattle.serde_json.specs.View.{items_of}
 use Rattle.serde_json.specs.Written.{has_float, items_have_float}
 use Rattle.gate_rules.specs.declared.rule.Rule.TheVariants.{UnknownChange, NotACommand, NotPermitted, NotOpen, NothingToRetry, Landing, NoSettings, NoBase, AlreadyApproved, NotApproved, AlreadyTrying, NotTrying, Blocked, TooFewReviews, AlreadyOpen, ChangeLanded, StaleHead, NotMember, OwnChange, BadSettings, ClockBack, NoSuchBatch, SameAsBase}
+use Rattle.gate_state.specs.declared.reply.Head.{Head}
+use Rattle.gate_state.specs.declared.reply.Order.{Order}
+use Rattle.gate_state.specs.declared.reply.Order.TheVariants.{Stage, Land, Notice}
+use Rattle.gate_state.specs.declared.reply.Why.TheVariants as why
+use Rattle.gate_state.specs.declared.reply.Reply.{Reply}
+use Rattle.gate_state.specs.declared.reply.Reply.TheVariants.{Done, Denied}
 use Rattle.gate_store.specs.Answers.{head_data, order_data, reply_data, answer_data}
-use Rattle.gate_queue.specs.declared.reply.Head.{Head}
-use Rattle.gate_queue.specs.declared.reply.Order.{Order}
-use Rattle.gate_queue.specs.declared.reply.Order.TheVariants.{Stage, Land, Notice}
-use Rattle.gate_queue.specs.declared.reply.Why.TheVariants as why
-use Rattle.gate_queue.specs.declared.reply.Reply.{Reply}
-use Rattle.gate_queue.specs.declared.reply.Reply.TheVariants.{Done, Denied}
 
 heads_whole : (heads : List Head) → items_have_float (items_of (map head_data heads)) ≡ false
 heads_whole [] = refl

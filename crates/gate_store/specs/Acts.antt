@@ -2,8 +2,8 @@
 use Rattle.std.specs.Prelude.{ℕ, ⊤, List, [], ◌∷◌, map}
 use Rattle.gate_text.specs.Reading.{comment_says}
 use Rattle.gate_state.specs.State.{IsMoment}
-use Rattle.gate_queue.specs.declared.act.Act.{Act}
-use Rattle.gate_queue.specs.declared.act.Act.TheVariants as act
+use Rattle.gate_state.specs.declared.act.Act.{Act}
+use Rattle.gate_state.specs.declared.act.Act.TheVariants as act
 use Rattle.gate_store.specs.declared.delivery.Event.{Event}
 use Rattle.gate_store.specs.declared.delivery.Event.TheVariants.{Comment, Role, Settings, Base, Opened, Pushed, Closed, Labeled, Unlabeled, Review, Staged, Conflict, Status, Refused, Tick}
 

@@ -8,13 +8,13 @@ use Rattle.gate_rules.specs.declared.rule.Rule.{Rule}
 use Rattle.gate_rules.specs.declared.rule.Rule.TheVariants.{UnknownChange, NotACommand, NotPermitted, NotOpen, NothingToRetry, Landing, NoSettings, NoBase, AlreadyApproved, NotApproved, AlreadyTrying, NotTrying, Blocked, TooFewReviews, AlreadyOpen, ChangeLanded, StaleHead, NotMember, OwnChange, BadSettings, ClockBack, NoSuchBatch, SameAsBase}
 use Rattle.gate_state.specs.declared.batch.Branch.{Branch}
 use Rattle.gate_state.specs.declared.batch.Branch.TheVariants.{Staging, Trying}
-use Rattle.gate_queue.specs.declared.reply.Head.{Head}
-use Rattle.gate_queue.specs.declared.reply.Order.{Order}
-use Rattle.gate_queue.specs.declared.reply.Order.TheVariants.{Stage, Land, Notice}
-use Rattle.gate_queue.specs.declared.reply.Why.{Why}
-use Rattle.gate_queue.specs.declared.reply.Why.TheVariants as why
-use Rattle.gate_queue.specs.declared.reply.Reply.{Reply}
-use Rattle.gate_queue.specs.declared.reply.Reply.TheVariants.{Done, Denied}
+use Rattle.gate_state.specs.declared.reply.Head.{Head}
+use Rattle.gate_state.specs.declared.reply.Order.{Order}
+use Rattle.gate_state.specs.declared.reply.Order.TheVariants.{Stage, Land, Notice}
+use Rattle.gate_state.specs.declared.reply.Why.{Why}
+use Rattle.gate_state.specs.declared.reply.Why.TheVariants as why
+use Rattle.gate_state.specs.declared.reply.Reply.{Reply}
+use Rattle.gate_state.specs.declared.reply.Reply.TheVariants.{Done, Denied}
 
 abbrev denied_members : Rule → Members
 denied_members rule =

@@ -7,14 +7,14 @@ use Rattle.std.specs.List.{All, flat_map}
 use Rattle.std.specs.Option.{option_or}
 use Rattle.std.specs.Str.{bytes_eq}
 use Rattle.gate_rules.specs.declared.rule.Rule.{Rule}
+use Rattle.gate_state.specs.declared.act.Act.{Act}
+use Rattle.gate_state.specs.declared.reply.Head.{Head}
+use Rattle.gate_state.specs.declared.reply.Order.{Order}
+use Rattle.gate_state.specs.declared.reply.Order.TheVariants.{Stage, Land, Notice}
+use Rattle.gate_state.specs.declared.reply.Reply.{Reply}
+use Rattle.gate_state.specs.declared.reply.Reply.TheVariants.{Done, Denied}
 use Rattle.gate_queue.specs.History.{Entry, EntryTells, Event, Legal, IsTested, entry_of, events_of, fit_back, head_back, heads_back, is_unmoved, orders_in, rule_back, standing_back}
 use Rattle.gate_queue.specs.Machine.{reply_to, after, missing}
-use Rattle.gate_queue.specs.declared.act.Act.{Act}
-use Rattle.gate_queue.specs.declared.reply.Head.{Head}
-use Rattle.gate_queue.specs.declared.reply.Order.{Order}
-use Rattle.gate_queue.specs.declared.reply.Order.TheVariants.{Stage, Land, Notice}
-use Rattle.gate_queue.specs.declared.reply.Reply.{Reply}
-use Rattle.gate_queue.specs.declared.reply.Reply.TheVariants.{Done, Denied}
 use Rattle.gate_state.specs.declared.state.State.{State}
 use Rattle.gate_store.specs.Acts.{EventKeepsLimits}
 use Rattle.gate_store.specs.Run.{Records, kept_under, is_known, acts_in, replies_to, after_all, answers_to, after_deliveries, NoneMeetsFull}

@@ -5,13 +5,13 @@ use Rattle.std.specs.List.{All}
 use Rattle.gate_text.specs.SmallTexts.{change_no_from, commit_of, plain_of}
 use Rattle.gate_rules.specs.declared.rule.Rule.{Rule}
 use Rattle.gate_rules.specs.declared.rule.Rule.TheVariants.{Blocked, TooFewReviews, BadSettings}
-use Rattle.gate_queue.specs.declared.reply.Head.{Head}
-use Rattle.gate_queue.specs.declared.reply.Order.{Order}
-use Rattle.gate_queue.specs.declared.reply.Order.TheVariants.{Stage, Land, Notice}
-use Rattle.gate_queue.specs.declared.reply.Why.{Why}
-use Rattle.gate_queue.specs.declared.reply.Why.TheVariants.{Failed}
-use Rattle.gate_queue.specs.declared.reply.Reply.{Reply}
-use Rattle.gate_queue.specs.declared.reply.Reply.TheVariants.{Done, Denied}
+use Rattle.gate_state.specs.declared.reply.Head.{Head}
+use Rattle.gate_state.specs.declared.reply.Order.{Order}
+use Rattle.gate_state.specs.declared.reply.Order.TheVariants.{Stage, Land, Notice}
+use Rattle.gate_state.specs.declared.reply.Why.{Why}
+use Rattle.gate_state.specs.declared.reply.Why.TheVariants.{Failed}
+use Rattle.gate_state.specs.declared.reply.Reply.{Reply}
+use Rattle.gate_state.specs.declared.reply.Reply.TheVariants.{Done, Denied}
 
 -- from 1 to 4294967295
 abbrev pub IsChange : ℕ → Type 0

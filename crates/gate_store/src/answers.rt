@@ -4,10 +4,10 @@ ghost use Rattle.std.specs.Option.{option_map};
 ghost use Rattle.std.specs.String.{string_bytes};
 ghost use Rattle.serde_json.specs.Read.{read};
 ghost use Rattle.serde_json.specs.View.{view};
+ghost use Rattle.gate_state.specs.declared.reply.Order.TheVariants.{Notice};
+ghost use Rattle.gate_state.specs.declared.reply.Reply.TheVariants.{Denied};
 ghost use Rattle.gate_store.specs.Answers.{detail_of, branch_word_of, head_data, heads_data, order_data, orders_data, why_word_of, reply_data, answer_data, answer_text_of};
 ghost use Rattle.gate_store.specs.Limits.{IsRule, IsHead, IsOrder, IsReply, IsAnswer};
-ghost use Rattle.gate_queue.specs.declared.reply.Order.TheVariants.{Notice};
-ghost use Rattle.gate_queue.specs.declared.reply.Reply.TheVariants.{Denied};
 
 use gate_queue::{Head, Order, Reply, Why};
 use gate_rules::Rule;

@@ -1,6 +1,6 @@
 ghost use Rattle.std.specs.Prelude.{◌≡◌, map, IfOk};
 ghost use Rattle.std.specs.List.{All};
-ghost use Rattle.gate_queue.specs.Acts.{ActKeepsLimits};
+ghost use Rattle.gate_state.specs.Acts.{ActKeepsLimits};
 ghost use Rattle.gate_store.specs.Acts.{acts_of_event, spoken_acts_of};
 
 use crate::moment::Moment;

@@ -2,7 +2,7 @@ ghost use Rattle.std.specs.Prelude.{◌≡◌, ◌≢◌, ◌≤◌, ◌↔◌, 
 ghost use Rattle.serde_json.specs.Data.{depth};
 ghost use Rattle.serde_json.specs.Read.{read, max_depth};
 ghost use Rattle.serde_json.specs.View.{view};
-ghost use Rattle.gate_queue.specs.declared.reply.Reply.{Reply as ReplyOf};
+ghost use Rattle.gate_state.specs.declared.reply.Reply.{Reply as ReplyOf};
 ghost use Rattle.gate_store.specs.Answers.{answer_data};
 ghost use Rattle.gate_store.specs.Limits.{IsAnswer};
 

@@ -1,6 +1,6 @@
 ghost use Rattle.std.specs.Prelude.{◌≡◌, ◌<◌, List, length, Err, IsTrue, IfOk, IfErr};
 ghost use Rattle.std.specs.List.{All};
-ghost use Rattle.gate_queue.specs.Acts.{ActKeepsLimits};
+ghost use Rattle.gate_state.specs.Acts.{ActKeepsLimits};
 ghost use Rattle.gate_queue.specs.History.{Entry, Legal};
 ghost use Rattle.gate_store.specs.Headline.{Each, Tells};
 ghost use Rattle.gate_store.specs.Run.{AgreesOnFull, IsOfActs, acts_meet_full, is_full, replies_to, after_all};

@@ -1,7 +1,7 @@
 -- THE FORMS: how the rows of a table are seen as records, and the statements on them.
 use Rattle.std.specs.Prelude.{ℕ, List, [], ◌∷◌, map, codes}
 use Rattle.gate_tables.specs.Database as database
-use Rattle.gate_tables.specs.Database.{Layout, columns_of, cells}
+use Rattle.gate_tables.specs.Database.{Layout, cells}
 use Rattle.gate_tables.specs.declared.row.BatchRow.{BatchRow}
 use Rattle.gate_tables.specs.declared.row.ChangeRow.{ChangeRow}
 use Rattle.gate_tables.specs.declared.row.DeskRow.{DeskRow}

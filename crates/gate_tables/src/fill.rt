@@ -1,4 +1,4 @@
-ghost use Rattle.std.specs.Prelude.{◌≡◌, ◌∷◌, [], OnOk};
+ghost use Rattle.std.specs.Prelude.{◌≡◌, OnOk};
 ghost use Rattle.gate_tables.specs.Database.{all_schema};
 ghost use Rattle.gate_tables.specs.Effects.{Fills, FillsFirst, FillsLast, IsInside};
 ghost use Rattle.sqlite.specs.Held.{state};

@@ -1,4 +1,4 @@
-ghost use Rattle.std.specs.Prelude.{◌≡◌, ◌++◌, map, false, IsTrue, IfOk, OnOk, IsPermutation};
+ghost use Rattle.std.specs.Prelude.{◌≡◌, map, false, IsTrue, IfOk, OnOk, IsPermutation};
 ghost use Rattle.gate_tables.specs.Database.{all_schema};
 ghost use Rattle.gate_tables.specs.Effects.{RanInside, IsInside, AddsAll, Empties, Replaces, Leaves};
 ghost use Rattle.gate_tables.specs.Forms.{rows_of};

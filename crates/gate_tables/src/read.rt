@@ -1,4 +1,4 @@
-ghost use Rattle.std.specs.Prelude.{◌≡◌, false, IsTrue, IfOk, IsPermutation};
+ghost use Rattle.std.specs.Prelude.{◌≡◌, false, IsTrue, IfOk};
 ghost use Rattle.gate_tables.specs.Contents.{AreSame, rows_at};
 ghost use Rattle.gate_tables.specs.Effects.{IsReady, Leaves, ReadsFirst, ReadsLast};
 ghost use Rattle.sqlite.specs.Held.{state};

@@ -6,8 +6,8 @@ use Rattle.gate_state.specs.Lemmas.Numbers.{numbers_law}
 use Rattle.gate_state.specs.Counts.{uses}
 use Rattle.gate_state.specs.Lanes.{batches_of}
 use Rattle.gate_state.specs.Queue as queues
-use Rattle.gate_state.specs.Queue.{lane_of, other_lane, with_lane}
-use Rattle.gate_state.specs.Service.{IsInOrder, StaysInOrder, OnlyNew, UsesNewNumbers, QueueIsInOrder}
+use Rattle.gate_state.specs.Queue.{lane_of, with_lane}
+use Rattle.gate_state.specs.Service.{IsInOrder, StaysInOrder, OnlyNew, UsesNewNumbers, QueueIsInOrder, QueueStaysInOrder, LawOfQueues}
 use Rattle.gate_state.specs.declared.batch.Branch.{Branch}
 use Rattle.gate_state.specs.declared.batch.Branch.TheVariants.{Staging, Trying}
 use Rattle.gate_state.specs.declared.batch.Report.{Report}
@@ -31,12 +31,12 @@ still_apart next used lane after other new apart number =
 
 module _ (queue : Queue) (is : QueueIsInOrder queue) where
   -- each lane of a queue in order is
-  pub lane_order : (branch : Branch) → IsInOrder queue.next (lane_of branch queue)
+  lane_order : (branch : Branch) → IsInOrder queue.next (lane_of branch queue)
   lane_order Staging = is.staging
   lane_order Trying = is.trying
 
   -- ANOTHER LANE for a branch, which uses only new numbers
-  pub lane_moves : (branch : Branch) (used : ℕ) (after : Lane) → OnlyNew queue.next used (lane_of branch queue) after
+  lane_moves : (branch : Branch) (used : ℕ) (after : Lane) → OnlyNew queue.next used (lane_of branch queue) after
       → IsInOrder (queue.next + used) after → QueueIsInOrder (with_lane branch after used queue)
   lane_moves Staging used after new order = record {
     staging = order;
@@ -50,7 +50,7 @@ module _ (queue : Queue) (is : QueueIsInOrder queue) where
   }
 
   -- and one that uses none
-  pub lane_stays : (branch : Branch) (after : Lane) → OnlyNew queue.next 0 (lane_of branch queue) after
+  lane_stays : (branch : Branch) (after : Lane) → OnlyNew queue.next 0 (lane_of branch queue) after
       → IsInOrder queue.next after → QueueIsInOrder (with_lane branch after 0 queue)
   lane_stays branch after new order = lane_moves branch 0 after new (later_order queue.next 0 after order)
 
@@ -61,35 +61,21 @@ module _ (queue : Queue) (is : QueueIsInOrder queue) where
   news : (branch : Branch) → UsesNewNumbers queue.next (lane_of branch queue)
   news branch = numbers_law queue.next (lane_of branch queue)
 
-  pub enqueued_order : (size : Option ℕ) (priority : ℤ) (change : ℕ) → QueueIsInOrder (queues.enqueued size priority change queue)
-  enqueued_order size priority change = lane_moves Staging _ _ ((news Staging).enqueue size priority change) ((stays Staging).enqueue size priority change)
+  queue_stays : QueueStaysInOrder queue
+  queue_stays =
+      record {
+        enqueue = λ size priority change. lane_moves Staging _ _ ((news Staging).enqueue size priority change) ((stays Staging).enqueue size priority change);
+        enqueue_try = λ change. lane_moves Trying _ _ ((news Trying).enqueue_try change) ((stays Trying).enqueue_try change);
+        take_out = λ branch chosen. lane_moves branch _ _ ((news branch).take_out chosen) ((stays branch).take_out chosen);
+        restart = λ branch. lane_moves branch _ _ (news branch).restart (stays branch).restart;
+        requeue = λ branch chosen. lane_moves branch _ _ ((news branch).requeue chosen) ((stays branch).requeue chosen);
+        fail = λ branch. lane_moves branch _ _ (news branch).fail (stays branch).fail;
+        start = λ branch now. lane_stays branch _ ((news branch).start now) ((stays branch).start now);
+        stage = λ branch now commit. lane_stays branch _ ((news branch).stage now commit) ((stays branch).stage now commit);
+        report = λ branch name report. lane_stays branch _ ((news branch).report name report) ((stays branch).report name report);
+        land = λ branch. lane_stays branch _ (news branch).land (stays branch).land;
+        drop = λ branch. lane_stays branch _ (news branch).drop (stays branch).drop;
+      }
 
-  pub tried_order : (change : ℕ) → QueueIsInOrder (queues.tried change queue)
-  tried_order change = lane_moves Trying _ _ ((news Trying).enqueue_try change) ((stays Trying).enqueue_try change)
-
-  pub taken_out_order : (branch : Branch) (chosen : ℕ → Bool) → QueueIsInOrder (queues.taken_out branch chosen queue)
-  taken_out_order branch chosen = lane_moves branch _ _ ((news branch).take_out chosen) ((stays branch).take_out chosen)
-
-  pub restarted_order : (branch : Branch) → QueueIsInOrder (queues.restarted branch queue)
-  restarted_order branch = lane_moves branch _ _ (news branch).restart (stays branch).restart
-
-  pub requeued_order : (branch : Branch) (chosen : ℕ → Bool) → QueueIsInOrder (queues.requeued branch chosen queue)
-  requeued_order branch chosen = lane_moves branch _ _ ((news branch).requeue chosen) ((stays branch).requeue chosen)
-
-  pub failed_order : (branch : Branch) → QueueIsInOrder (queues.failed branch queue)
-  failed_order branch = lane_moves branch _ _ (news branch).fail (stays branch).fail
-
-  pub started_order : (branch : Branch) (now : ℕ) → QueueIsInOrder (queues.started branch now queue)
-  started_order branch now = lane_stays branch _ ((news branch).start now) ((stays branch).start now)
-
-  pub staged_order : (branch : Branch) (now : ℕ) (commit : List ℕ) → QueueIsInOrder (queues.staged branch now commit queue)
-  staged_order branch now commit = lane_stays branch _ ((news branch).stage now commit) ((stays branch).stage now commit)
-
-  pub reported_order : (branch : Branch) (name : List ℕ) (report : Report) → QueueIsInOrder (queues.reported branch name report queue)
-  reported_order branch name report = lane_stays branch _ ((news branch).report name report) ((stays branch).report name report)
-
-  pub landing_order : (branch : Branch) → QueueIsInOrder (queues.landing branch queue)
-  landing_order branch = lane_stays branch _ (news branch).land (stays branch).land
-
-  pub dropped_order : (branch : Branch) → QueueIsInOrder (queues.dropped branch queue)
-  dropped_order branch = lane_stays branch _ (news branch).drop (stays branch).drop
+pub queue_law : LawOfQueues
+queue_law queue is = queue_stays queue is

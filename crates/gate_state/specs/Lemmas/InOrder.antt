@@ -2,7 +2,7 @@
 use Rattle.std.proofs.Common.{◌≡◌, ◌≤◌, ℕ, ℤ, ◌+◌, eqb, ltb, Bool, true, false, List, [], ◌∷◌, if◌then◌else◌, Option, Some, None, ◌∙◌, ap, subst, arith}
 use Rattle.std.proofs.lemmas.Bool.Decides.{nat_tests}
 use Rattle.gate_state.specs.Lemmas.Counts.{sum-placed}
-use Rattle.gate_state.specs.Lemmas.Numbers.{has_number, all_uses, left_uses, enqueue_new, try_new, take_out_new, restart_new, stage_new, report_new, land_new, requeue_new, fail_new, start_new, drop_new}
+use Rattle.gate_state.specs.Lemmas.Numbers.{has_number, all_uses, left_uses, numbers_law}
 use Rattle.gate_state.specs.Lemmas.Service.{behind_first, placed_in_service, left_in_service, joined_in_service}
 use Rattle.gate_state.specs.Counts.{uses}
 use Rattle.gate_state.specs.Lanes as lanes
@@ -96,17 +96,18 @@ started_in_service now (Some batch) waiting h = h
 
 pub order_law : LawOfOrder
 order_law next lane h =
+    let news = numbers_law next lane in
     record {
       enqueue = λ size priority change.
-          in_order next lane h _ _ (enqueue_new next lane size priority change) (entered_in_service next lane h priority change (joins size priority lane.waiting));
-      enqueue_try = λ change. in_order next lane h _ _ (try_new next lane change) (tried_in_service next lane h change);
-      take_out = λ stays. in_order next lane h _ _ (take_out_new next lane stays) (taken_in_service next lane h stays lane.running);
-      restart = in_order next lane h _ _ (restart_new next lane) (restarted_in_service next lane h lane.running);
-      requeue = λ stays. in_order next lane h _ _ (requeue_new next lane stays) (requeued_in_service next lane h stays lane.running);
-      fail = in_order next lane h _ _ (fail_new next lane) (failed_in_service next lane h lane.running);
-      start = λ now. in_order_still next lane h _ (start_new next lane now) (started_in_service now lane.running lane.waiting h.service);
-      stage = λ now commit. in_order_still next lane h _ (stage_new next lane now commit) h.service;
-      report = λ name report. in_order_still next lane h _ (report_new next lane name report) h.service;
-      land = in_order_still next lane h _ (land_new next lane) h.service;
-      drop = in_order_still next lane h _ (drop_new next lane) h.service;
+          in_order next lane h _ _ (news.enqueue size priority change) (entered_in_service next lane h priority change (joins size priority lane.waiting));
+      enqueue_try = λ change. in_order next lane h _ _ (news.enqueue_try change) (tried_in_service next lane h change);
+      take_out = λ stays. in_order next lane h _ _ (news.take_out stays) (taken_in_service next lane h stays lane.running);
+      restart = in_order next lane h _ _ news.restart (restarted_in_service next lane h lane.running);
+      requeue = λ stays. in_order next lane h _ _ (news.requeue stays) (requeued_in_service next lane h stays lane.running);
+      fail = in_order next lane h _ _ news.fail (failed_in_service next lane h lane.running);
+      start = λ now. in_order_still next lane h _ (news.start now) (started_in_service now lane.running lane.waiting h.service);
+      stage = λ now commit. in_order_still next lane h _ (news.stage now commit) h.service;
+      report = λ name report. in_order_still next lane h _ (news.report name report) h.service;
+      land = in_order_still next lane h _ news.land h.service;
+      drop = in_order_still next lane h _ news.drop h.service;
     }

@@ -91,12 +91,12 @@ module _ (next : ℕ) (lane : Lane) where
   abbrev beside : Option Batch → Lane
   beside running = record { running = running; waiting = lane.waiting }
 
-  pub enqueue_new : (size : Option ℕ) (priority : ℤ) (change : ℕ) → OnlyNew next (enqueue_uses size priority lane) lane (enqueued size next priority change lane)
+  enqueue_new : (size : Option ℕ) (priority : ℤ) (change : ℕ) → OnlyNew next (enqueue_uses size priority lane) lane (enqueued size next priority change lane)
   enqueue_new size priority change =
       only_new next _ lane (enqueued size next priority change lane) (λ number. omega arith)
       (λ number. entered_new next number priority change lane.waiting (joins size priority lane.waiting))
 
-  pub try_new : (change : ℕ) → OnlyNew next 1 lane (tried next change lane)
+  try_new : (change : ℕ) → OnlyNew next 1 lane (tried next change lane)
   try_new change =
       only_new next 1 lane (tried next change lane) (λ number. omega arith)
       (λ number. omega (arith, sum-placed (has_number number) (try_of next change) lane.waiting, new_one next number))
@@ -113,19 +113,19 @@ module _ (next : ℕ) (lane : Lane) where
     by false =
         only_new next 0 (beside (Some batch)) (record { running = Some batch; waiting = waiting }) (λ number. omega arith) (λ number. omega (arith, fewer number))
 
-  pub take_out_new : (stays : ℕ → Bool) → OnlyNew next (taken_out_uses stays lane) lane (taken_out stays next lane)
+  take_out_new : (stays : ℕ → Bool) → OnlyNew next (taken_out_uses stays lane) lane (taken_out stays next lane)
   take_out_new stays = by lane.running where
     by : (running : Option Batch) → OnlyNew next (taken_out_uses stays (beside running)) (beside running) (taken_out stays next (beside running))
     by None = only_new next 0 (beside None) (taken_out stays next (beside None)) (λ number. omega arith) (λ number. omega (arith, left_uses number stays lane.waiting))
     by (Some batch) = running_back_new (lanes.loses stays batch) batch (only stays batch) (left stays lane.waiting) (λ number. left_uses number stays lane.waiting)
 
-  pub restart_new : OnlyNew next (restarted_uses lane) lane (restarted next lane)
+  restart_new : OnlyNew next (restarted_uses lane) lane (restarted next lane)
   restart_new = by lane.running where
     by : (running : Option Batch) → OnlyNew next (restarted_uses (beside running)) (beside running) (restarted next (beside running))
     by None = unchanged next (beside None)
     by (Some batch) = running_back_new true batch batch lane.waiting (λ number. omega arith)
 
-  pub requeue_new : (stays : ℕ → Bool) → OnlyNew next (requeued_uses stays lane) lane (requeued stays next lane)
+  requeue_new : (stays : ℕ → Bool) → OnlyNew next (requeued_uses stays lane) lane (requeued stays next lane)
   requeue_new stays = by lane.running where
     by : (running : Option Batch) → OnlyNew next (requeued_uses stays (beside running)) (beside running) (requeued stays next (beside running))
     by None = unchanged next (beside None)
@@ -133,7 +133,7 @@ module _ (next : ℕ) (lane : Lane) where
         only_new next (back_uses (only stays batch)) (beside (Some batch)) (requeued stays next (beside (Some batch))) (λ number. omega arith)
         (λ number. back_new next number (only stays batch) lane.waiting)
 
-  pub fail_new : OnlyNew next (failed_uses lane) lane (failed next lane)
+  fail_new : OnlyNew next (failed_uses lane) lane (failed next lane)
   fail_new = by lane.running where
     by : (running : Option Batch) → OnlyNew next (failed_uses (beside running)) (beside running) (failed next (beside running))
     by None = unchanged next (beside None)
@@ -145,11 +145,11 @@ module _ (next : ℕ) (lane : Lane) where
           (λ number. split_new next number batch lane.waiting)
       split false = only_new next 0 (beside (Some batch)) (beside None) (λ number. omega arith) (λ number. omega arith)
 
-  pub drop_new : OnlyNew next 0 lane (dropped lane)
+  drop_new : OnlyNew next 0 lane (dropped lane)
   drop_new = only_new next 0 lane (dropped lane) (λ number. omega arith) (λ number. omega arith)
 
   -- The first waiting batch runs under its number, so that all are those of before.
-  pub start_new : (now : ℕ) → OnlyNew next 0 lane (started now lane)
+  start_new : (now : ℕ) → OnlyNew next 0 lane (started now lane)
   start_new now = by lane.running lane.waiting where
     by : (running : Option Batch) (waiting : List Batch)
         → OnlyNew next 0 (record { running = running; waiting = waiting }) (started now (record { running = running; waiting = waiting }))
@@ -161,7 +161,7 @@ module _ (next : ℕ) (lane : Lane) where
         }
     by (Some batch) waiting = unchanged next (record { running = Some batch; waiting = waiting })
 
-  pub stage_new : (now : ℕ) (commit : List ℕ) → OnlyNew next 0 lane (staged now commit lane)
+  stage_new : (now : ℕ) (commit : List ℕ) → OnlyNew next 0 lane (staged now commit lane)
   stage_new now commit = by lane.running where
     by : (running : Option Batch) → OnlyNew next 0 (beside running) (staged now commit (beside running))
     by None = unchanged next (beside None)
@@ -169,7 +169,7 @@ module _ (next : ℕ) (lane : Lane) where
         let same = unchanged next (beside (Some batch)) in
         record { waiting = same.waiting; all = same.all }
 
-  pub report_new : (name : List ℕ) (report : Report) → OnlyNew next 0 lane (reported name report lane)
+  report_new : (name : List ℕ) (report : Report) → OnlyNew next 0 lane (reported name report lane)
   report_new name report = by lane.running where
     by : (running : Option Batch) → OnlyNew next 0 (beside running) (reported name report (beside running))
     by None = unchanged next (beside None)
@@ -177,7 +177,7 @@ module _ (next : ℕ) (lane : Lane) where
         let same = unchanged next (beside (Some batch)) in
         record { waiting = same.waiting; all = same.all }
 
-  pub land_new : OnlyNew next 0 lane (landing lane)
+  land_new : OnlyNew next 0 lane (landing lane)
   land_new = by lane.running where
     by : (running : Option Batch) → OnlyNew next 0 (beside running) (landing (beside running))
     by None = unchanged next (beside None)

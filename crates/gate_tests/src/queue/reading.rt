@@ -1,6 +1,6 @@
 ghost use Rattle.gate_text.specs.Limits.{KeepsLimits};
-ghost use Rattle.gate_queue.specs.Acts.{ActKeepsLimits};
 ghost use Rattle.gate_state.specs.State.{IsMoment};
+ghost use Rattle.gate_state.specs.Acts.{ActKeepsLimits};
 
 use crate::checks::{check_words, cut};
 use crate::readers::{commit, context, label, name, number, role};

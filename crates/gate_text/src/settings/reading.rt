@@ -2,7 +2,7 @@ ghost use Rattle.std.specs.Prelude.{◌≡◌, option_map};
 ghost use Rattle.toml.specs.Data.{get_member};
 ghost use Rattle.toml.specs.View.{view, table_view};
 ghost use Rattle.gate_text.specs.Settings as settings;
-ghost use Rattle.gate_text.specs.Settings.{Gives, key_name, read_at, if_there, whole_in, labels_in, statuses_in};
+ghost use Rattle.gate_text.specs.Settings.{Gives, key_name, read_at, whole_in, labels_in, statuses_in};
 ghost use Rattle.std.specs.Option.{ok_or};
 
 use super::Settings;

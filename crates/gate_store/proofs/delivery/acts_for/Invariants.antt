@@ -1,6 +1,6 @@
 use Rattle.std.proofs.Common.{◌≡◌, ◌++◌, map}
 use Rattle.std.specs.Vec.Iter.{into_iter_items}
-use Rattle.gate_queue.specs.declared.act.Act.TheVariants as act
+use Rattle.gate_state.specs.declared.act.Act.TheVariants as act
 use Rattle.gate_store.proofs.delivery.acts_for.Given as goal
 
 abbrev pub invariant-loop-spoken : goal.invariant-loop-spoken

@@ -1,8 +1,8 @@
 use Rattle.std.proofs.Common.{◌≡◌, map}
 use Rattle.std.proofs.lemmas.Result.{IfOk-weaker}
 use Rattle.std.specs.List.{All}
-use Rattle.gate_queue.specs.declared.act.Act.TheVariants as act
-use Rattle.gate_queue.specs.Acts.{ActKeepsLimits}
+use Rattle.gate_state.specs.declared.act.Act.TheVariants as act
+use Rattle.gate_state.specs.Acts.{ActKeepsLimits}
 use Rattle.gate_store.proofs.ActLimits.{all_keep}
 use Rattle.gate_store.proofs.delivery.spoken_acts.Goals as goal
 

@@ -2,7 +2,7 @@ use Rattle.std.proofs.Common.{◌≡◌, ◌≢◌, List, Result, Ok, Err, sym, 
 use Rattle.std.specs.Result.{IfErr, IsErrAnd}
 use Rattle.serde_json.specs.Data.{Data}
 use Rattle.serde_json.specs.View.{view}
-use Rattle.gate_queue.specs.declared.reply.Reply.{Reply}
+use Rattle.gate_state.specs.declared.reply.Reply.{Reply}
 use Rattle.gate_store.specs.Answers.{answer_data}
 use Rattle.gate_store.specs.Found.{Finds, answer_in}
 use Rattle.gate_store.specs.Limits.{IsAnswer}

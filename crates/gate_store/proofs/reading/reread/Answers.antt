@@ -2,7 +2,7 @@ use Rattle.std.proofs.Common.{◌≡◌, ◌≢◌, List, Option, Some, Result, 
 use Rattle.std.specs.Result.{IfOk, IfErr}
 use Rattle.serde_json.specs.Data.{Data}
 use Rattle.serde_json.specs.Read.{read}
-use Rattle.gate_queue.specs.declared.reply.Reply.{Reply}
+use Rattle.gate_state.specs.declared.reply.Reply.{Reply}
 use Rattle.gate_store.specs.Answers.{answer_data}
 use Rattle.gate_store.specs.Limits.{IsAnswer}
 use Rattle.gate_store.specs.declared.reading.AnswerFault.{AnswerFault}

@@ -5,8 +5,8 @@ use Rattle.gate_text.specs.Limits.{IsPriority, AreNames}
 use Rattle.gate_text.specs.declared.command.Command.TheVariants.{ApproveFor, Priority}
 use Rattle.gate_text.specs.declared.command.Spoken.TheVariants.{Known}
 use Rattle.gate_state.specs.State.{IsMoment}
-use Rattle.gate_queue.specs.declared.act.Act.{Act}
-use Rattle.gate_queue.specs.declared.act.Act.TheVariants.{Spoken, Role, Settings, Base, Opened, Pushed, Closed, Labeled, Unlabeled, Review, Staged, Conflict, Status, Refused, Tick}
+use Rattle.gate_state.specs.declared.act.Act.{Act}
+use Rattle.gate_state.specs.declared.act.Act.TheVariants.{Spoken, Role, Settings, Base, Opened, Pushed, Closed, Labeled, Unlabeled, Review, Staged, Conflict, Status, Refused, Tick}
 
 -- the change, if there is one
 abbrev pub subject : Act → Option ℕ

@@ -1,7 +1,7 @@
 ghost use Rattle.std.specs.Prelude.{◌≡◌, IfOk};
 
+use crate::batch::Branch;
 use gate_rules::Rule;
-use gate_state::Branch;
 use gate_text::{ChangeNo, Commit, Context, List, TryCopy};
 use std::alloc::{AllocError, Global};
 
