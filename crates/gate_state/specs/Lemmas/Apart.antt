@@ -1,16 +1,14 @@
 -- A queue in order stays so, whatever is done to one of its lanes: the numbers of both differ.
-use Rattle.std.proofs.Common.{◌≤◌, ℕ, ℤ, ◌+◌, ltb, Bool, List, if◌then◌else◌, Option, arith}
+use Rattle.std.proofs.Common.{◌≤◌, ℕ, ◌+◌, ltb, if◌then◌else◌, arith}
 use Rattle.std.proofs.lemmas.Bool.Decides.{nat_tests}
 use Rattle.gate_state.specs.Lemmas.InOrder.{order_law}
 use Rattle.gate_state.specs.Lemmas.Numbers.{numbers_law}
 use Rattle.gate_state.specs.Counts.{uses}
 use Rattle.gate_state.specs.Lanes.{batches_of}
-use Rattle.gate_state.specs.Queue as queues
 use Rattle.gate_state.specs.Queue.{lane_of, with_lane}
 use Rattle.gate_state.specs.Service.{IsInOrder, StaysInOrder, OnlyNew, UsesNewNumbers, QueueIsInOrder, QueueStaysInOrder, LawOfQueues}
 use Rattle.gate_state.specs.declared.batch.Branch.{Branch}
 use Rattle.gate_state.specs.declared.batch.Branch.TheVariants.{Staging, Trying}
-use Rattle.gate_state.specs.declared.batch.Report.{Report}
 use Rattle.gate_state.specs.declared.lane.Lane.{Lane}
 use Rattle.gate_state.specs.declared.queue.Queue.{Queue}
 
