@@ -49,6 +49,7 @@ fn words_of_delivery_faults(rt: HostRuntime) {
     );
     let fault = DeliveryFault::BadField(Field::Approves);
     check_delivery_fault(&rt, rt.alloc(), fault, r#"bad field "approves""#);
+    check_delivery_fault(&rt, rt.alloc(), DeliveryFault::Memory, "out of memory");
 }
 
 fn check_denial(rt: &impl Abort, alloc: Global, rule: Rule, text: &str) {

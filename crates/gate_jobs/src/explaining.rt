@@ -2,9 +2,8 @@ ghost use Rattle.gate_jobs.specs.Explaining.{Explains};
 
 use crate::fault::JobFault;
 use crate::outcome::Ending;
-use crate::printing::print;
 use crate::words::WordsFault;
-use gate_hook::HookFault;
+use gate_hook::{HookFault, send};
 use gate_queue::Fault;
 use std::io::Write;
 
@@ -14,13 +13,13 @@ pub fn explain<O: Write, E: Write>(fault: &WordsFault, out: &mut O, err: &mut E)
     ensures explains { Explains fault.now result (O.contents out.old) (O.contents out.new) (E.contents err.old) (E.contents err.new) }
 {
     match fault {
-        WordsFault::Help(text) => match print(out, text.as_str()) {
+        WordsFault::Help(text) => match send(out, text.as_bytes()) {
             Ok(()) => Ending::Done,
             Err(fault) => Ending::Fault(JobFault::Hook(fault)),
         },
         WordsFault::Usage(text) => {
             // If standard error fails, there is nothing left to tell it by.
-            let _ = print(err, text.as_str());
+            let _ = send(err, text.as_bytes());
             Ending::Usage
         }
         WordsFault::Memory => Ending::Fault(JobFault::Hook(HookFault::Gate(Fault::Memory))),

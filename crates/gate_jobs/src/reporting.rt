@@ -6,8 +6,7 @@ ghost use Rattle.gate_hook.specs.Lines.{MayEnd, after_lines, lines_of};
 ghost use Rattle.gate_report.specs.Queue.{queue_text_of};
 ghost use Rattle.gate_store.specs.Run.{IsOfBooks, IsOfKeepers};
 
-use crate::printing::print;
-use gate_hook::{HookFault, serve_lines};
+use gate_hook::{HookFault, send, serve_lines};
 use gate_queue::{Fault, Gate};
 use gate_report::queue_text;
 use gate_store::{Book, Keeper};
@@ -83,7 +82,7 @@ pub fn report<B: Book, R: Read, W: Write>(
     ensures was { B.is_sound keeper.new → B.is_sound keeper.old }
 {
     match text_after(alloc, keeper, reader) {
-        Ok(text) => print(writer, text.as_str()),
+        Ok(text) => send(writer, text.as_bytes()),
         Err(fault) => Err(fault),
     }
 }

@@ -5,8 +5,7 @@ ghost use Rattle.gate_hook.specs.Sending.{IsCutOff};
 
 use crate::closing::close;
 use crate::fault::JobFault;
-use crate::printing::print;
-use gate_hook::{HookFault, serve_one};
+use gate_hook::{HookFault, send, serve_one};
 use gate_queue::Fault;
 use gate_store::{Book, Keeper};
 use std::alloc::Global;
@@ -21,7 +20,7 @@ pub fn announce<W: Write>(alloc: Global, port: u16, writer: &mut W) -> Result<()
         ⊎ ((fault ≡ HookFault.Gate Fault.Memory) × (W.contents writer.new ≡ W.contents writer.old))) }
 {
     let line = format!(in alloc; "listening on 127.0.0.1:{port}\n")?;
-    print(writer, line.as_str())
+    send(writer, line.as_bytes())
 }
 
 /// Serves the request of one connection. If the connection fails, nobody is left to be told.

@@ -1,12 +1,11 @@
-ghost use Rattle.std.specs.Prelude.{◌≡◌, ◌++◌, IfOk, OnOk, decimal};
+ghost use Rattle.std.specs.Prelude.{◌≡◌, ◌++◌, map, IfOk, OnOk, decimal};
 ghost use Rattle.std.specs.Fmt.{signed_decimal};
 ghost use Rattle.std.specs.String.{string_bytes};
-ghost use Rattle.gate_state.specs.Lanes as lanes;
 ghost use Rattle.gate_report.specs.Columns as columns;
 ghost use Rattle.gate_report.specs.Queue as queue;
 
 use crate::columns::{left, right};
-use gate_state::{Batch, Branch, Lane, Stage};
+use gate_state::{Batch, Branch, Stage};
 use gate_text::ChangeNo;
 use std::alloc::{AllocError, Global};
 
@@ -108,14 +107,11 @@ fn push_row(text: &mut String, alloc: Global, batch: &Batch) -> Result<(), Alloc
     text.push_str(row.as_str())
 }
 
-/// Adds the rows of the batches of a branch, in order of service. `AllocError` if there is no memory for them.
-pub fn push_rows(text: &mut String, alloc: Global, lane: &Lane) -> Result<(), AllocError>
-    ensures { OnOk result (string_bytes text.new ≡ string_bytes text.old ++ queue.rows (lanes.batches_of lane.now)) }
+/// Adds the rows of batches, in their order. `AllocError` if there is no memory for them.
+pub fn push_rows(text: &mut String, alloc: Global, batches: &[&Batch]) -> Result<(), AllocError>
+    ensures { OnOk result (string_bytes text.new ≡ string_bytes text.old ++ queue.rows (map (λ batch. batch.now) batches.now)) }
 {
-    if let Some(batch) = &lane.running {
-        push_row(text, alloc, batch)?;
-    }
-    for batch in lane.waiting.as_slice() {
+    for batch in batches {
         push_row(text, alloc, batch)?;
     }
     Ok(())

@@ -46,7 +46,7 @@ pub fn queue_text(alloc: Global, gate: &Gate) -> Result<String, AllocError>
 {
     let state = gate.state();
     let mut text = head(alloc, &state.desk)?;
-    push_rows(&mut text, alloc, &state.queue.staging)?;
-    push_rows(&mut text, alloc, &state.queue.trying)?;
+    let batches = state.queue.batches(alloc)?;
+    push_rows(&mut text, alloc, &batches)?;
     Ok(text)
 }

@@ -56,6 +56,19 @@ fn change(rt: &impl Abort, alloc: Global, text: &str) -> String {
     }
 }
 
+// A fault, as it is printed.
+fn shown(rt: &impl Abort, alloc: Global, fault: TextFault) -> String {
+    format!(in alloc; "{fault}").expect(rt, "memory")
+}
+
+// Why a text is no change number, as it is printed.
+fn printed(rt: &impl Abort, alloc: Global, text: &str) -> String {
+    match ChangeNo::read(text) {
+        Ok(_) => kept(rt, alloc, "a number"),
+        Err(fault) => shown(rt, alloc, fault),
+    }
+}
+
 // Any text, as a copy of what was kept of it.
 fn any(rt: &impl Abort, alloc: Global, text: &str) -> String {
     let first = Text::from_str(alloc, text).expect(rt, "memory");
@@ -72,6 +85,7 @@ fn answer(rt: &impl Abort, alloc: Global, reader: &str, text: &str) -> String {
         "identifier" => identifier(rt, alloc, text),
         "commit" => commit(rt, alloc, text),
         "change" => change(rt, alloc, text),
+        "printed" => printed(rt, alloc, text),
         _ => any(rt, alloc, text),
     }
 }
@@ -156,6 +170,10 @@ const READERS: &str = "
         context <ab\u{7f}> => BadByte(2)
         context <128 x é;> => TooLong
         context <127 x é;> => 127 x é;
+        printed <> => the text is empty
+        printed <10000000000> => the text is too long
+        printed <1x> => no allowed byte at place 1
+        printed <01> => the digits begin with 0, or their number is too great
         any <> =>
         any <é\0> => é\0
     ";
@@ -179,6 +197,8 @@ fn readers(rt: HostRuntime) {
         }
     }
     check_words(&rt, "a space", label(&rt, rt.alloc(), " ").as_str(), " ");
+    let printed = shown(&rt, rt.alloc(), TextFault::Memory);
+    check_words(&rt, "no memory", printed.as_str(), "out of memory");
     let text = "bors r+\r\n";
     check_words(&rt, text, any(&rt, rt.alloc(), text).as_str(), text);
 }

@@ -1,10 +1,8 @@
 -- WHAT THE NUMBERS OF A BATCH KEEP in every state, so that the database can take them.
-use Rattle.std.specs.Prelude.{◌≤◌, ⊤, IfSome}
-use Rattle.std.specs.List.{All}
+use Rattle.std.specs.Prelude.{◌≤◌, ⊤}
 use Rattle.gate_state.specs.declared.batch.Batch.{Batch}
 use Rattle.gate_state.specs.declared.batch.Stage.{Stage}
 use Rattle.gate_state.specs.declared.batch.Stage.TheVariants.{Waiting, Ordered, Staged, Landing}
-use Rattle.gate_state.specs.declared.lane.Lane.{Lane}
 
 abbrev pub StageKeepsLimits : Stage → Type 0
 StageKeepsLimits Waiting = ⊤
@@ -15,7 +13,3 @@ StageKeepsLimits (Landing commit) = ⊤
 pub record BatchKeepsLimits (batch : Batch) : Type 0 where
   pub number : batch.number ≤ 9_000_000_000_000_000
   pub stage : StageKeepsLimits batch.stage
-
-pub record LaneKeepsLimits (lane : Lane) : Type 0 where
-  pub running : IfSome lane.running BatchKeepsLimits
-  pub waiting : All BatchKeepsLimits lane.waiting

@@ -10,9 +10,16 @@ mod numbers;
 mod people;
 mod statuses;
 
+use batches::batch_rows;
+use changes::change_rows;
+use desk::desk_row;
 use gate_queue::Gate;
 use gate_tables::{DeskRow, Rows};
 use gate_text::List;
+use marks::mark_rows;
+use members::member_rows;
+use people::person_rows;
+use statuses::status_rows;
 use std::alloc::{AllocError, Global};
 
 /// The rows of the state of a gate. `AllocError` if there is no memory for them.
@@ -20,14 +27,15 @@ pub fn rows_of(alloc: Global, gate: &Gate) -> Result<Rows, AllocError>
     ensures value { IfOk result (λ rows. rows ≡ encoding.rows_of gate.now) }
 {
     let state = gate.state();
+    let batches = state.queue.batches(alloc)?;
     Ok(Rows {
         desk: desk_rows(alloc, gate)?,
-        people: people::people(alloc, &state.desk)?,
-        changes: changes::changes(alloc, &state.desk)?,
-        marks: marks::marks(alloc, &state.desk)?,
-        batches: batches::batches(alloc, &state.queue)?,
-        members: members::members(alloc, &state.queue)?,
-        statuses: statuses::statuses(alloc, &state.queue)?,
+        people: person_rows(alloc, &state.desk)?,
+        changes: change_rows(alloc, &state.desk)?,
+        marks: mark_rows(alloc, &state.desk)?,
+        batches: batch_rows(alloc, &batches)?,
+        members: member_rows(alloc, &batches)?,
+        statuses: status_rows(alloc, &batches)?,
     })
 }
 
@@ -36,6 +44,6 @@ fn desk_rows(alloc: Global, gate: &Gate) -> Result<List<DeskRow>, AllocError>
     ensures { IfOk result (λ rows. rows ≡ encoding.desk_row gate.now ∷ []) }
 {
     let mut rows = Vec::new(alloc);
-    rows.push(desk::desk_row(alloc, gate)?)?;
+    rows.push(desk_row(alloc, gate)?)?;
     Ok(List::from(rows))
 }

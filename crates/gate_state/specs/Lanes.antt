@@ -235,7 +235,7 @@ staged_at now commit batch = record batch { stage = stage.Staged now commit fini
 abbrev pub staged : ℕ → List ℕ → Lane → Lane
 staged now commit lane = record lane { running = option_map (staged_at now commit) lane.running }
 
--- SUCCESS
+-- SUCCESS of a status: its last report is one
 abbrev pub is_success : Report → Bool
 is_success report.Success = true
 is_success report.Pending = false

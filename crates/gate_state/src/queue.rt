@@ -54,14 +54,26 @@ impl Queue {
         }
     }
 
-    /// The numbers of all batches, in order of service: those of `Staging` first, and of a branch the running batch first.
-    /// `AllocError` if there is no memory for them.
+    /// All batches, in order of service: those of `Staging` first, and of a branch the running batch first. `AllocError` if there
+    /// is no memory for the list.
+    pub fn batches(&self, alloc: Global) -> Result<Vec<&Batch>, AllocError>
+        ensures value { IfOk result (λ batches. map (λ batch. batch.now) batches.items ≡ specs.batches_of self.now) }
+    {
+        let mut batches = Vec::new(alloc);
+        push_batches(&mut batches, &self.staging)?;
+        push_batches(&mut batches, &self.trying)?;
+        Ok(batches)
+    }
+
+    /// The numbers of all batches, in order of service. `AllocError` if there is no memory for them.
     pub fn numbers(&self, alloc: Global) -> Result<Vec<u64>, AllocError>
         ensures value { IfOk result (λ numbers. numbers.items ≡ specs.numbers_of self.now) }
     {
+        let batches = self.batches(alloc)?;
         let mut numbers = Vec::new(alloc);
-        push_numbers_of(&mut numbers, &self.staging)?;
-        push_numbers_of(&mut numbers, &self.trying)?;
+        for batch in &batches {
+            numbers.push(batch.number)?;
+        }
         Ok(numbers)
     }
 
@@ -252,20 +264,15 @@ fn of_lanes(branch: Branch, lane: Lane, other: Lane, next: u64) -> Queue
     }
 }
 
-fn push_numbers(numbers: &mut Vec<u64>, batches: &[Batch]) -> Result<(), AllocError>
-    ensures { OnOk result (numbers.new.items ≡ numbers.old.items ++ map (λ batch. batch.number) batches.now) }
-{
-    for batch in batches {
-        numbers.push(batch.number)?;
-    }
-    Ok(())
-}
-
-fn push_numbers_of(numbers: &mut Vec<u64>, lane: &Lane) -> Result<(), AllocError>
-    ensures { OnOk result (numbers.new.items ≡ numbers.old.items ++ map (λ batch. batch.number) (lanes.batches_of lane.now)) }
+// Adds the batches of a branch, in order of service.
+fn push_batches<'a>(batches: &mut Vec<&'a Batch>, lane: &'a Lane) -> Result<(), AllocError>
+    ensures { OnOk result (map (λ batch. batch.now) batches.new.items ≡ map (λ batch. batch.now) batches.old.items ++ lanes.batches_of lane.now) }
 {
     if let Some(batch) = &lane.running {
-        numbers.push(batch.number)?;
+        batches.push(batch)?;
     }
-    push_numbers(numbers, lane.waiting.as_slice())
+    for batch in lane.waiting.as_slice() {
+        batches.push(batch)?;
+    }
+    Ok(())
 }

@@ -4,7 +4,7 @@ ghost use Rattle.gate_text.specs.SmallTexts.{Reads, plain_of};
 use crate::fault::TextFault;
 use crate::list::TryCopy;
 use crate::plain::read_plain;
-use crate::text::Text;
+use crate::text::{Text, Word};
 use std::alloc::{AllocError, Global};
 use std::marker::Model;
 
@@ -60,5 +60,18 @@ impl Context {
 impl TryCopy for Context {
     fn try_copy(&self, alloc: Global) -> Result<Context, AllocError> {
         self.copy(alloc)
+    }
+}
+
+impl Word for Context {
+    ghost bytes = { λ context. context };
+
+    fn as_text(&self) -> &Text {
+        &self.text
+    }
+
+    fn into_text(self) -> Text {
+        let Context { text } = self;
+        text
     }
 }

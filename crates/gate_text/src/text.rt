@@ -97,7 +97,7 @@ impl Ord for Text {
     }
 }
 
-/// A text of some rule, as a name or a label.
+/// A text of some rule, as a name, a label or the name of a status.
 pub trait Word: Sized {
     ghost use Rattle.std.specs.Prelude.{ℕ, List};
 

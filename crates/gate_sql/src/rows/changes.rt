@@ -13,7 +13,7 @@ use std::alloc::{AllocError, Global};
 use std::collections::BTreeMap;
 
 /// A row for each change.
-pub(crate) fn changes(alloc: Global, desk: &Desk) -> Result<List<ChangeRow>, AllocError>
+pub(crate) fn change_rows(alloc: Global, desk: &Desk) -> Result<List<ChangeRow>, AllocError>
     ensures { IfOk result (λ rows. rows ≡ map encoding.change_row (finite.entries desk.now.changes)) }
 {
     changes_in(alloc, desk.changes())

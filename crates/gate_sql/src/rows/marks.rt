@@ -14,10 +14,10 @@ use gate_tables::MarkRow;
 use gate_text::{ChangeNo, List, Names, Settings};
 use std::alloc::{AllocError, Global};
 use std::collections::BTreeMap;
-use words::{push_contexts, push_labels, push_names, push_set};
+use words::{push_list, push_set};
 
 /// A row for each mark of the settings and of a change.
-pub(crate) fn marks(alloc: Global, desk: &Desk) -> Result<List<MarkRow>, AllocError>
+pub(crate) fn mark_rows(alloc: Global, desk: &Desk) -> Result<List<MarkRow>, AllocError>
     ensures { IfOk result (λ rows. rows ≡ encoding.settings_marks desk.now.settings ++ flat_map encoding.marks_of (finite.entries desk.now.changes)) }
 {
     let mut rows = Vec::new(alloc);
@@ -34,8 +34,8 @@ fn push_settings(
     ensures { OnOk result (rows.new.items ≡ rows.old.items ++ encoding.settings_marks (option_copied settings.entry)) }
 {
     if let Some(settings) = settings {
-        push_contexts(alloc, rows, 0, 6, settings.status())?;
-        push_labels(alloc, rows, 0, 7, settings.block_labels())?;
+        push_list(alloc, rows, 0, 6, settings.status())?;
+        push_list(alloc, rows, 0, 7, settings.block_labels())?;
     }
     Ok(())
 }
@@ -78,7 +78,7 @@ fn push_approvers(
     ensures { OnOk result (rows.new.items ≡ rows.old.items ++ encoding.list_marks number (pos 4) (unwrap_or approved.now [])) }
 {
     match approved {
-        Some(names) => push_names(alloc, rows, number, 4, names.as_slice()),
+        Some(names) => push_list(alloc, rows, number, 4, names.as_slice()),
         None => Ok(()),
     }
 }
@@ -92,7 +92,7 @@ fn push_last(
     ensures { OnOk result (rows.new.items ≡ rows.old.items ++ encoding.list_marks number (pos 5) (encoding.names_of last.now)) }
 {
     match last {
-        Some(Repeat::ApproveFor(names)) => push_names(alloc, rows, number, 5, names.as_slice()),
+        Some(Repeat::ApproveFor(names)) => push_list(alloc, rows, number, 5, names.as_slice()),
         Some(Repeat::Approve | Repeat::Try) | None => Ok(()),
     }
 }

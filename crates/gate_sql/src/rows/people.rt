@@ -14,7 +14,7 @@ use std::alloc::{AllocError, Global};
 use std::collections::BTreeMap;
 
 /// A row for each person who has a role.
-pub(crate) fn people(alloc: Global, desk: &Desk) -> Result<List<PersonRow>, AllocError>
+pub(crate) fn person_rows(alloc: Global, desk: &Desk) -> Result<List<PersonRow>, AllocError>
     ensures { IfOk result (λ rows. rows ≡ map encoding.person_row (finite.entries desk.now.roles)) }
 {
     people_in(alloc, desk.roles())

@@ -5,52 +5,26 @@ ghost use Rattle.std.specs.List.{All, flat_map};
 ghost use Rattle.std.specs.List.Sorted.{IsStrictlySortedBy};
 ghost use Rattle.std.specs.Map.{keys_of};
 ghost use Rattle.std.specs.Ordering.{nat_cmp};
-ghost use Rattle.gate_state.specs.Lanes.{batches_of};
-ghost use Rattle.gate_state.specs.Queue as queue_specs;
 ghost use Rattle.gate_sql.specs.Encoding as encoding;
-ghost use Rattle.gate_sql.specs.Limits.{BatchKeepsLimits, LaneKeepsLimits};
+ghost use Rattle.gate_sql.specs.Limits.{BatchKeepsLimits};
 
 use crate::rows::numbers::{integer, report_number};
-use gate_state::{Batch, Lane, Queue, Report, Reports, Stage};
+use gate_state::{Batch, Report, Reports, Stage};
 use gate_tables::StatusRow;
 use gate_text::{Context, List, Text};
 use std::alloc::{AllocError, Global};
 use std::collections::BTreeMap;
 
 /// A row for each report of each batch.
-pub(crate) fn statuses(alloc: Global, queue: &Queue) -> Result<List<StatusRow>, AllocError>
-    requires staging { LaneKeepsLimits queue.now.staging }
-    requires trying { LaneKeepsLimits queue.now.trying }
-    ensures { IfOk result (λ rows. rows ≡ flat_map encoding.statuses_of (queue_specs.batches_of queue.now)) }
+pub(crate) fn status_rows(alloc: Global, batches: &[&Batch]) -> Result<List<StatusRow>, AllocError>
+    requires { All (λ batch. BatchKeepsLimits batch.now) batches.now }
+    ensures { IfOk result (λ rows. rows ≡ flat_map encoding.statuses_of (map (λ batch. batch.now) batches.now)) }
 {
     let mut rows = Vec::new(alloc);
-    push_lane(alloc, &mut rows, &queue.staging)?;
-    push_lane(alloc, &mut rows, &queue.trying)?;
-    Ok(List::from(rows))
-}
-
-fn push_lane(alloc: Global, rows: &mut Vec<StatusRow>, lane: &Lane) -> Result<(), AllocError>
-    requires { LaneKeepsLimits lane.now }
-    ensures { OnOk result (rows.new.items ≡ rows.old.items ++ flat_map encoding.statuses_of (batches_of lane.now)) }
-{
-    if let Some(batch) = &lane.running {
-        push_batch(alloc, rows, batch)?;
-    }
-    push_batches(alloc, rows, lane.waiting.as_slice())
-}
-
-fn push_batches(
-    alloc: Global,
-    rows: &mut Vec<StatusRow>,
-    batches: &[Batch],
-) -> Result<(), AllocError>
-    requires { All BatchKeepsLimits batches.now }
-    ensures { OnOk result (rows.new.items ≡ rows.old.items ++ flat_map encoding.statuses_of batches.now) }
-{
     for batch in batches {
-        push_batch(alloc, rows, batch)?;
+        push_batch(alloc, &mut rows, batch)?;
     }
-    Ok(())
+    Ok(List::from(rows))
 }
 
 fn push_batch(alloc: Global, rows: &mut Vec<StatusRow>, batch: &Batch) -> Result<(), AllocError>

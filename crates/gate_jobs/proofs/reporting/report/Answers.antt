@@ -13,8 +13,8 @@ returns-in-Ok-clause-reported g c =
       made.0,
       made.1,
       λ sound. (
-        text_told _ c.print.result c.as_str.result.now made.0 (g.R.Read.remaining c.text_after.new.reader) (g.W.Write.contents c.args.writer.now) (g.W.Write.contents c.print.new.writer)
-            (c.as_str.ensures.value ∙ (made.2 sound).0) (made.2 sound).1 c.print.ensures.ok c.print.ensures.err,
-        ok_if c.print.result _ (made.2 sound).2,
+        text_told _ c.send.result c.as_bytes.result.now made.0 (g.R.Read.remaining c.text_after.new.reader) (g.W.Write.contents c.args.writer.now) (g.W.Write.contents c.send.new.writer)
+            (c.as_bytes.ensures.value ∙ (made.2 sound).0) (made.2 sound).1 c.send.ensures.ok c.send.ensures.err,
+        ok_if c.send.result _ (made.2 sound).2,
       ),
     )

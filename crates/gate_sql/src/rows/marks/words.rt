@@ -6,7 +6,7 @@ ghost use Rattle.gate_sql.specs.Encoding as encoding;
 
 use crate::rows::numbers::place_number;
 use gate_tables::MarkRow;
-use gate_text::{Context, Label, Name, Set, Text};
+use gate_text::{Set, Text, Word};
 use std::alloc::{AllocError, Global};
 use std::collections::BTreeSet;
 
@@ -56,50 +56,19 @@ fn push_texts(
     Ok(())
 }
 
-/// Adds a row for each name of a list.
-pub(crate) fn push_names(
+/// Adds a row for each word of a list.
+pub(crate) fn push_list<W: Word>(
     alloc: Global,
     rows: &mut Vec<MarkRow>,
     change: u32,
     kind: i64,
-    names: &[Name],
+    words: &[W],
 ) -> Result<(), AllocError>
-    ensures { OnOk result (rows.new.items ≡ rows.old.items ++ encoding.list_marks change kind names.now) }
+    ensures { OnOk result (rows.new.items ≡ rows.old.items ++ encoding.list_marks change kind (map W.bytes words.now)) }
 {
-    for (place, name) in names.iter().enumerate() {
-        rows.push(mark(alloc, change, kind, place_number(place)?, name.text())?)?;
-    }
-    Ok(())
-}
-
-/// Adds a row for each label of a list.
-pub(crate) fn push_labels(
-    alloc: Global,
-    rows: &mut Vec<MarkRow>,
-    change: u32,
-    kind: i64,
-    labels: &[Label],
-) -> Result<(), AllocError>
-    ensures { OnOk result (rows.new.items ≡ rows.old.items ++ encoding.list_marks change kind labels.now) }
-{
-    for (place, label) in labels.iter().enumerate() {
-        rows.push(mark(alloc, change, kind, place_number(place)?, label.text())?)?;
-    }
-    Ok(())
-}
-
-/// Adds a row for each name of a status in a list.
-pub(crate) fn push_contexts(
-    alloc: Global,
-    rows: &mut Vec<MarkRow>,
-    change: u32,
-    kind: i64,
-    contexts: &[Context],
-) -> Result<(), AllocError>
-    ensures { OnOk result (rows.new.items ≡ rows.old.items ++ encoding.list_marks change kind contexts.now) }
-{
-    for (place, context) in contexts.iter().enumerate() {
-        rows.push(mark(alloc, change, kind, place_number(place)?, context.text())?)?;
+    for (place, word) in words.iter().enumerate() {
+        let text = word.as_text();
+        rows.push(mark(alloc, change, kind, place_number(place)?, text.as_str())?)?;
     }
     Ok(())
 }

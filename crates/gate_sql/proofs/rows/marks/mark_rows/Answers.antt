@@ -5,7 +5,7 @@ use Rattle.std.specs.List.{flat_map}
 use Rattle.gate_sql.specs.Encoding.{marks_of, settings_marks}
 use Rattle.gate_sql.proofs.Entries.{entries_are}
 use Rattle.gate_sql.proofs.Joins.{joined}
-use Rattle.gate_sql.proofs.rows.marks.marks.Goals as goal
+use Rattle.gate_sql.proofs.rows.marks.mark_rows.Goals as goal
 
 pub returns : goal.returns
 returns c =

@@ -4,7 +4,7 @@ use Rattle.std.specs.FinSet.{slice_cmp-IsAntisymmetric, nat_cmp-IsAntisymmetric}
 use Rattle.gate_rules.specs.declared.role.Role.{Role}
 use Rattle.gate_sql.specs.Encoding.{person_row}
 use Rattle.gate_sql.proofs.Entries.{entries_are}
-use Rattle.gate_sql.proofs.rows.people.people.Goals as goal
+use Rattle.gate_sql.proofs.rows.people.person_rows.Goals as goal
 
 pub returns : goal.returns
 returns c =

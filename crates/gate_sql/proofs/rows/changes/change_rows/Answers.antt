@@ -4,7 +4,7 @@ use Rattle.std.specs.FinSet.{nat_cmp-IsAntisymmetric}
 use Rattle.gate_rules.specs.declared.change.Change.{Change}
 use Rattle.gate_sql.specs.Encoding.{change_row}
 use Rattle.gate_sql.proofs.Entries.{entries_are}
-use Rattle.gate_sql.proofs.rows.changes.changes.Goals as goal
+use Rattle.gate_sql.proofs.rows.changes.change_rows.Goals as goal
 
 pub returns : goal.returns
 returns c =
