@@ -16,8 +16,8 @@ use std::net::TcpListener;
 use std::process::ExitCode;
 use std::{env, io};
 
-/// Does the job that the words ask for. The status is 0 at its end, 1 after a fault, with one line `gate: WORD` on standard
-/// error, and 2 if the words ask for no job.
+/// Does the job that the words ask for. The status is 0 at its end or after help that was asked for, 1 after a fault, with one line
+/// `gate: WORD` on standard error, and 2 if the words are wrong.
 fn main(rt: HostRuntime) -> ExitCode {
     let end = end_of(&rt);
     if let Ending::Fault(fault) = end {

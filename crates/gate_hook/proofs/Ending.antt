@@ -6,7 +6,6 @@ use Rattle.std.specs.Io.KnownBytes.{IsAtEnd}
 use Rattle.gate_queue.specs.declared.fault.Fault.{Fault}
 use Rattle.gate_store.specs.Run.{Records}
 use Rattle.gate_hook.specs.Lines.{ended_lines, open_line, last_line, lines_of, AreComplete, IsServed, IsWithinLimit, MayEnd}
-use Rattle.gate_hook.specs.Receiving.{IsRead}
 use Rattle.gate_hook.specs.Serving.{IsAnswered, IsUpTo, MayStop, StopsBehind, StopsWithin, kept_of}
 use Rattle.gate_hook.specs.declared.fault.HookFault.{HookFault}
 use Rattle.gate_hook.specs.declared.fault.HookFault.TheVariants.{Gate, Read, Write, TooMuch}
@@ -97,13 +96,6 @@ may_end may_answer (Gate fault) may = may
 may_end may_answer Write may = tt
 may_end may_answer Read may = tt
 may_end may_answer TooMuch may = tt
-
-pub reader_ends : (may_answer : Fault → Type 0) (fault : HookFault) (before after : Option (List ℕ)) (buffer : List ℕ) (room : ℕ)
-    → IsRead (Err fault) before after buffer room → MayEnd may_answer fault
-reader_ends may_answer Read before after buffer room read = tt
-reader_ends may_answer (Gate fault) before after buffer room read = absurd read
-reader_ends may_answer Write before after buffer room read = tt
-reader_ends may_answer TooMuch before after buffer room read = tt
 
 -- PAST THE LIMIT
 cut_at_limit : (m : ℕ) (input chunk : List ℕ) → length input ≡ m → take m (input ++ chunk) ≡ input

@@ -1,9 +1,8 @@
 -- When bytes show that no head comes.
-use Rattle.std.proofs.Common.{◌≡◌, ℕ, ◌≤◌, List, [], ◌++◌, length, take, drop, Option, Some, None, refl, sym, ap, subst, ◌∙◌, arith}
+use Rattle.std.proofs.Common.{◌≡◌, ℕ, ◌≤◌, List, [], ◌++◌, length, take, drop, Option, Some, None, refl, sym, ap, ◌∙◌, arith}
 use Rattle.std.proofs.Math.Seq.{take-append_seam}
-use Rattle.std.proofs.lemmas.List.{append-nil, take-append-drop, take-append-le}
-use Rattle.std.specs.Io.KnownBytes.{IsAtEnd}
-use Rattle.httparse.specs.Grammar.{ReadsRequest, HasNoRequest, print_request}
+use Rattle.std.proofs.lemmas.List.{take-append-drop, take-append-le}
+use Rattle.httparse.specs.Grammar.{HasNoRequest, print_request}
 use Rattle.httparse.specs.Spans.{RequestOverflows}
 use Rattle.gate_hook.specs.Heads.{HasNoHead, max_fields, max_head}
 use Rattle.gate_hook.specs.Receiving.{IsLeft}
@@ -11,11 +10,6 @@ use Rattle.gate_hook.specs.Receiving.{IsLeft}
 -- with what is left of the input, these bytes have no head
 abbrev pub NoHeadFor : Option (List ℕ) → List ℕ → Type 0
 NoHeadFor after bytes = (rest : List ℕ) × IsLeft after rest × HasNoHead (bytes ++ rest)
-
--- nothing is left
-none-left : (after : Option (List ℕ)) → IsAtEnd after → IsLeft after []
-none-left None end = tt
-none-left (Some known) end = sym end
 
 -- what is left, or nothing if that isn't known
 abbrev pub left_of : Option (List ℕ) → List ℕ
@@ -25,10 +19,6 @@ left_of (Some known) = known
 pub is-left : (after : Option (List ℕ)) → IsLeft after (left_of after)
 is-left None = tt
 is-left (Some known) = refl
-
-pub none-at-end : (after : Option (List ℕ)) (bytes : List ℕ) → IsAtEnd after → HasNoRequest bytes → NoHeadFor after bytes
-none-at-end after bytes end none =
-    ([], none-left after end, λ head rest begins. none head rest (subst (λ (all : List ℕ). ReadsRequest all head rest) (append-nil bytes) begins.reads))
 
 pub none-ever : (after : Option (List ℕ)) (bytes : List ℕ) → RequestOverflows max_fields bytes → NoHeadFor after bytes
 none-ever after bytes overflows =

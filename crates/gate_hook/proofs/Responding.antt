@@ -7,7 +7,7 @@ use Rattle.gate_queue.specs.declared.fault.Fault.TheVariants.{Memory, Store, Ful
 use Rattle.gate_store.specs.Run.{Records}
 use Rattle.gate_hook.specs.Receiving.{IsInput, IsUnread}
 use Rattle.gate_hook.specs.Requests.{Asks}
-use Rattle.gate_hook.specs.Responding.{Answers, HasSent, MayFail, Responds}
+use Rattle.gate_hook.specs.Responding.{Answers, HasSent, Responds}
 use Rattle.gate_hook.specs.Responses.{Response, fault_response, response_text}
 use Rattle.gate_hook.specs.Served.{AnswersOne, AsksNoDelivery, Breaks, IsDue, after_wish, report_in, response_to, response_to_report}
 use Rattle.gate_hook.specs.declared.fault.HookFault.{HookFault}
@@ -28,10 +28,6 @@ some-input before after (taken, consumed) = (taken ++ left_of after, (taken, lef
 pub answers-unread : (fault : HookFault) (input : List ℕ) (records : Records) → IsUnread fault → Answers (Err fault) input records records
 answers-unread fault input records (inl read) = rw read refl
 answers-unread fault input records (inr memory) = rw memory (inl refl)
-
-pub may_fail-unread : (may_answer : Fault → Type 0) (fault : HookFault) → IsUnread fault → MayFail may_answer fault
-may_fail-unread may_answer fault (inl read) = rw read tt
-may_fail-unread may_answer fault (inr memory) = rw memory (inl (inl refl))
 
 -- ONE THAT WAS READ
 pub answers-read : (result : Result Made HookFault) (input : List ℕ) (wish : Result Request Refusal) (old new : Records)

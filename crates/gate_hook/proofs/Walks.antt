@@ -44,9 +44,6 @@ unfolding seek
 seek-end key [] = refl
 seek-end {K} key (b ∷ path) = seek-byte {K = K} (([], key) ∷ []) b path refl refl ∙ seek-none {K = K} 0 path
 
-step-same : {K : Type 0} (b x : ℕ) (t : List ℕ) (key : K) → (x == b) ≡ true → step b ((x ∷ t, key) ∷ []) ≡ (t, key) ∷ []
-step-same b x t key same = rw same refl
-
 step-other : {K : Type 0} (b x : ℕ) (t : List ℕ) (key : K) → (x == b) ≡ false → step b ((x ∷ t, key) ∷ []) ≡ []
 step-other b x t key other = rw other refl
 

@@ -8,7 +8,8 @@
 --     Requests     what a request asks for, or why it is refused
 --     Responses    a response as bytes, and which one a refusal has
 --     Served       what is sent for one request, and the records after it
--- The other files are of functions within the crate.
+-- Of the other files Sending (`IsCutOff`) and Receiving (`IsInput`) have one word each of public clauses; the rest is of functions
+-- within the crate.
 pub mod Deliveries
 pub mod Errors
 pub mod Heads

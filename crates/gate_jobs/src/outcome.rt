@@ -12,7 +12,7 @@ pub enum Ending {
     Done,
     /// A fault stopped it.
     Fault(JobFault),
-    /// The words ask for no job.
+    /// The words are wrong.
     Usage,
 }
 
@@ -26,7 +26,7 @@ pub fn ended(job: Result<(), JobFault>) -> Ending
     }
 }
 
-/// The exit status: 0 at the end, 1 after a fault, and 2 if the words ask for no job.
+/// The exit status: 0 at the end of a job or after help, 1 after a fault, and 2 if the words are wrong.
 pub fn status(ending: Ending) -> u8
     ensures value { result ≡ status_of ending }
 {

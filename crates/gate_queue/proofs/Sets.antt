@@ -13,10 +13,6 @@ use Rattle.gate_queue.specs.History.{Event, Mark, put, taken, marked, Delegation
 use Rattle.gate_queue.specs.Words.{mark_of, marks, is_labeled, has_reviewed, names_person, takes_back, is_delegated}
 
 -- SETS AND TESTS
-contains_if : (b : Bool) (one other : Texts) (q : List ℕ) → set.contains (cond b one other) q ≡ cond b (set.contains one q) (set.contains other q)
-contains_if true one other q = refl
-contains_if false one other q = refl
-
 inserted : (s : Texts) (k q : List ℕ) → set.contains (set.insert s k) q ≡ (bytes_eq q k || set.contains s q)
 inserted s k q = set.contains-insert nat_list_cmp_total s k q ∙ ap (λ (b : Bool). b || set.contains s q) (is_eq-slice_cmp q k)
 

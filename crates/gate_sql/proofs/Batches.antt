@@ -73,9 +73,6 @@ report_again Pending = refl
 module _ (all : List Batch) (apart : (one other : Batch) → Among one all → Among other all → one.number ≡ other.number → one ≡ other) where
   -- the rows of one batch among those of all
   module _ {Item Row : Type 0} (row_of : ℕ → Item → Row) (number : Row → ℤ) (is : (n : ℕ) (item : Item) → number (row_of n item) ≡ pos n) (items : Batch → List Item) where
-    of_batch : Batch → List Row
-    of_batch batch = map (row_of batch.number) (items batch)
-
     own : (rows : List Row) → HaveSame rows (flat_map (λ (batch : Batch). map (row_of batch.number) (items batch)) all) → (b : Batch) → Among b all
         → HaveSame (filter (λ row. int_eq (number row) (pos b.number)) rows) (map (row_of b.number) (items b))
     own rows same b there = same-trans (filter test rows) (filter test (flat_map rows_of all)) (map (row_of b.number) (items b)) (same-filter test rows (flat_map rows_of all) same)

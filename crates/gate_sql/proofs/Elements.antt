@@ -25,9 +25,6 @@ module _ {X : Type 0} where
   among-append x (z ∷ xs) ys (inl is) = inl (inl is)
   among-append x (z ∷ xs) ys (inr there) = elim (among-append x xs ys there) [ inl first ↦ inl (inr first) | inr second ↦ inr second ]
 
-  pub same-itself : (xs : List X) → HaveSame xs xs
-  same-itself xs x = (λ there. there, λ there. there)
-
   pub same-sym : (xs ys : List X) → HaveSame xs ys → HaveSame ys xs
   same-sym xs ys same x = ((same x).1, (same x).0)
 

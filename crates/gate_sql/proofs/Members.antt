@@ -36,12 +36,6 @@ and_so a b one other = ap (λ (c : Bool). c && b) one ∙ other
 -- A CHANGE IS A MEMBER of a batch that passes a test.
 module _ (all : List Batch) (apart : (one other : Batch) → Among one all → Among other all → one.number ≡ other.number → one ≡ other)
     (rows : Rows) (members : HaveSame rows.members (flat_map members_of all)) (batches : HaveSame rows.batches (map batch_row all)) (test : BatchRow → Bool) (n : ℕ) where
-  IsIn : Type 0
-  IsIn = (b : Batch) × Among b all × (test (batch_row b) ≡ true) × Among n b.changes
-
-  batch_test : MemberRow → BatchRow → Bool
-  batch_test row batch = int_eq batch.number row.batch && test batch
-
   member_there : is_member (pos n) test rows ≡ true → (b : Batch) × Among b all × (test (batch_row b) ≡ true) × Among n b.changes
   member_there is =
       let row = any-among (λ row. int_eq row.change_no (pos n) && list_any (λ batch. int_eq batch.number row.batch && test batch) rows.batches) rows.members is in

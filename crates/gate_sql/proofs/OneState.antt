@@ -1,5 +1,6 @@
 -- The rows of a state are read as that state.
 use Rattle.std.proofs.Common.{◌≡◌, ◌⊎◌, inl, inr, ◌≤◌, ◌==◌, ℕ, pos, nat_abs, Bool, true, false, cond, not, ◌&&◌, ◌||◌, List, [], ◌∷◌, ◌++◌, map, Option, Some, None, Ok, is_some, IfSome, nat_le, leb-true, refl, sym, ◌∙◌, ap, subst, append-nil, arith}
+use Rattle.std.proofs.lemmas.List.{map-append}
 use Rattle.std.proofs.lemmas.List.Elements.{filter-append}
 use Rattle.std.specs.Cmp.{first_so, second_so, nat_cmp_total, unsigned_Decides}
 use Rattle.std.specs.Cmp.Lexicographic.{slice_cmp, nat_list_cmp_total}
@@ -276,10 +277,6 @@ settings_again (Some settings) changes rows same within =
       required_approvals = settings.required_approvals;
       max_batch_size = size_again settings.max_batch_size size i;
     }))
-
-map-append : {X Y : Type 0} (f : X → Y) (xs ys : List X) → map f (xs ++ ys) ≡ map f xs ++ map f ys
-map-append f [] ys = refl
-map-append f (x ∷ xs) ys = ap (λ rest. f x ∷ rest) (map-append f xs ys)
 
 -- THE STATE
 module _ (s : State) (rows : Rows) (fit : Fits s) (limits : KeepsLimits s.desk) (same : AreSame (rows_of s) rows) where

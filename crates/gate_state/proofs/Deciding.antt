@@ -97,9 +97,6 @@ module _ {X : Type 0} (number : X → ℕ) where
   tally-cons : (n : ℕ) (x : X) (xs : List X) → tally number n (x ∷ xs) ≡ once n x + tally number n xs
   tally-cons n x xs = sum_by-cons (once n) x xs
 
-  same_once : (n : ℕ) (x : X) → 1 ≤ once n x → n ≡ number x
-  same_once n x some = grind (arith, nat_tests)
-
   once_itself : (x : X) → once (number x) x ≡ 1
   once_itself x = grind (arith, nat_tests)
 

@@ -7,9 +7,8 @@ use Rattle.gate_text.specs.Steps.{◌>>=◌}
 use Rattle.serde_json.specs.Data.{Data}
 use Rattle.serde_json.specs.View.{view, items_view}
 use Rattle.serde_json.specs.declared.value.Value.{Value}
-use Rattle.gate_store.specs.Found.{Finds, each_in}
+use Rattle.gate_store.specs.Found.{each_in}
 use Rattle.gate_store.specs.declared.reading.AnswerFault.{AnswerFault}
-use Rattle.gate_store.specs.declared.reading.AnswerFault.TheVariants.{NotAnswer, Memory}
 use Rattle.gate_store.proofs.Places.{here, up_to}
 
 abbrev pub then_more : {X : Type 0} → (Data → Result X AnswerFault) → List X → List Value → Result (List X) AnswerFault
@@ -26,12 +25,6 @@ module _ {X : Type 0} (one_in : Data → Result X AnswerFault) (values : List Va
   found_next one taken all is before = before ∙ ap (then_more one_in taken) (here values place value at within)
       ∙ ap (λ (found : Result X AnswerFault). (found >>= λ first. each_in one_in (items_view (drop (place + 1) values)) >>= λ rest. Ok (first ∷ rest)) >>= λ rest. Ok (taken ++ rest)) is
       ∙ one_more one taken (each_in one_in (items_view (drop (place + 1) values)))
-
-  pub not_found : (fault : AnswerFault) (taken : List X) (all : Result (List X) AnswerFault) → Finds {X = X} (Err fault) (one_in (view value))
-      → all ≡ then_more one_in taken (drop place values) → Finds {X = List X} (Err fault) all
-  not_found NotAnswer taken all is before = before ∙ ap (then_more one_in taken) (here values place value at within)
-      ∙ ap (λ (found : Result X AnswerFault). (found >>= λ first. each_in one_in (items_view (drop (place + 1) values)) >>= λ rest. Ok (first ∷ rest)) >>= λ rest. Ok (taken ++ rest)) is
-  not_found Memory taken all is before = tt
 
 module _ {X : Type 0} (data_of : X → Data) (Is : X → Type 0) (xs : List X) (place : ℕ) (x : X) (at : x ≡ get_or xs place x) (within : place < length xs) where
   pub written_next : (values pushed : List Value) (value : Value) → pushed ≡ values ++ value ∷ []

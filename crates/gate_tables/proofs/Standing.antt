@@ -1,5 +1,5 @@
 -- What tables keep true of their connection.
-use Rattle.std.proofs.Common.{◌≡◌, ℕ, [], ◌∷◌, List, map, false, IsPermutation, None, Result, Ok, Err, OnOk, OnErr, refl, sym, ap, subst}
+use Rattle.std.proofs.Common.{◌≡◌, ℕ, [], ◌∷◌, List, map, false, IsPermutation, None, Result, Ok, Err, OnOk, OnErr, refl, sym, subst}
 use Rattle.std.specs.List.{AllByRecursion, IsDistinct}
 use Rattle.std.specs.Cmp.Lexicographic.{slice_cmp}
 use Rattle.std.specs.Ordering.{nat_cmp, eq_by_cmp}
@@ -8,11 +8,10 @@ use Rattle.std.proofs.lemmas.List.Elements.{All-from_recursion, recursion_from_A
 use Rattle.std.proofs.lemmas.List.Sorted.{IsPermutation-map, All-permutation}
 use Rattle.gate_tables.proofs.Answering.{still_apart, one_more}
 use Rattle.gate_tables.proofs.Leaving.{ready_after}
-use Rattle.gate_tables.specs.Contents.{rows_at, answers_at}
 use Rattle.gate_tables.specs.Database.{cells}
 use Rattle.gate_tables.specs.Effects.{IsReady, Leaves, Made, Wrote}
 use Rattle.gate_tables.specs.Forms.{answers, rows_of}
-use Rattle.gate_tables.specs.Tables.{is_sound, rows_in, answers_in, AreAnswers, IsBook, Stands}
+use Rattle.gate_tables.specs.Tables.{is_sound, answers_in, AreAnswers, IsBook, Stands}
 use Rattle.gate_tables.specs.declared.row.Rows.{Rows}
 use Rattle.gate_tables.specs.declared.fault.TablesFault.{TablesFault}
 use Rattle.sqlite.specs.Effect.{Database}
@@ -31,13 +30,6 @@ module _ {S : Type 0} (g : Ghosts S) (old new : Held S) where
         let after = ready_after (state g old) (state g new) book.ready (left sound.0 book.ready) sound.1 in
         record { ready = after.0; answered = subst (λ (d : Database). AreAnswers d.trees) (sym after.1) book.answered };
   }
-
-  pub left_same : Stands g old → (is_sound g new → is_sound g old) → (HasCleanDisk (state g new) → IsReady (state g old) → Leaves (state g old) (state g new)) → is_sound g new
-      → (rows_in g new ≡ rows_in g old) × (answers_in g new ≡ answers_in g old)
-  left_same stands was left sound =
-      let book = stands.book (was sound) in
-      let after = ready_after (state g old) (state g new) book.ready (left sound.0 book.ready) sound.1 in
-      (ap (λ (d : Database). rows_at d.trees) after.1, ap (λ (d : Database). answers_at d.trees) after.1)
 
 module _ {S : Type 0} (g : Ghosts S) (new : Held S) (rows : Rows) where
   no_answers : (cs : List Row) → cs ≡ [] → AllByRecursion (λ c. answers.values (answers.read c) ≡ c) cs

@@ -1,8 +1,8 @@
 -- Statements in a transaction, one after the other.
 use Rattle.std.proofs.Common.{◌≡◌, ℕ, List, [], ◌∷◌, ◌++◌, map, IsPermutation, refl, sym, ap, subst, ◌∙◌, append-nil}
 use Rattle.std.specs.List.{AllByRecursion}
-use Rattle.std.proofs.lemmas.List.{append_assoc}
-use Rattle.std.proofs.lemmas.List.Sorted.{IsPermutation-refl, IsPermutation-cons, IsPermutation-trans, IsPermutation-middle, IsPermutation-map}
+use Rattle.std.proofs.lemmas.List.{append_assoc, map-append}
+use Rattle.std.proofs.lemmas.List.Sorted.{IsPermutation-cons, IsPermutation-trans, IsPermutation-middle, IsPermutation-map}
 use Rattle.gate_tables.proofs.Selecting.{map_map, map_same}
 use Rattle.gate_tables.specs.Database.{all_schema, cells}
 use Rattle.gate_tables.specs.Effects.{Adds, AddsAll, Empties, Replaces}
@@ -20,18 +20,7 @@ pub spares_then : (P : ℕ → Type 0) (a b c : Trees) (tables : List Table) →
 spares_then P a b c [] p q = tt
 spares_then P a b c (t ∷ ts) p q = ((λ other. q.0 other ∙ p.0 other), spares_then P a b c ts p.1 q.1)
 
-spares_self : (P : ℕ → Type 0) (a : Trees) (tables : List Table) → AllByRecursion (λ t. ¬ P t.tree → a t.tree ≡ a t.tree) tables
-spares_self P a [] = tt
-spares_self P a (t ∷ ts) = ((λ other. refl), spares_self P a ts)
-
-map-append : {A B : Type 0} (f : A → B) (xs ys : List A) → map f (xs ++ ys) ≡ map f xs ++ map f ys
-map-append f [] ys = refl
-map-append f (x ∷ xs) ys = ap (λ l. f x ∷ l) (map-append f xs ys)
-
 module _ {R : Type 0} (form : Form R) where
-  pub adds_none : (a : Trees) → AddsAll all_schema form [] a a
-  adds_none a = record { added = IsPermutation-refl (cells form.layout a); others = spares_self (λ t. t ≡ form.layout.tree) a all_schema.tables }
-
   pub adds_more : (a b c : Trees) (rs : List R) (r : R) → AddsAll all_schema form rs a b → Adds all_schema form r b c → AddsAll all_schema form (rs ++ r ∷ []) a c
   adds_more a b c rs r p q =
       let old = cells form.layout a in
