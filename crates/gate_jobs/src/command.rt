@@ -11,8 +11,9 @@ use std::alloc::{AllocError, Global};
 /// The greatest count of connections.
 pub const MAX_COUNT: u32 = 1_000_000;
 
-// What is told of the whole program.
+// What is told of the whole program. Its version comes first, and CHANGELOG.md begins with the same.
 const ABOUT: &str = "\
+gate 0.9.0
 A merge bot: it is told what happened to the changes of a project, and answers each delivery with what is to be done.
 It keeps its records in memory, so they are gone when it ends.";
 
