@@ -4,6 +4,7 @@ pub mod Canonical
 pub mod Elements
 pub mod Entries
 pub mod Joins
+pub mod Keys
 pub mod Lanes
 pub mod Limits
 pub mod Marks

@@ -62,7 +62,7 @@ pub record Fits (s : State) : Type 0 where
   pub trying_places : fit_places (marks_on Trying s.desk) s.queue.trying (finite.entries s.desk.changes) ≡ true
   pub alone : are_alone s.queue.trying ≡ true
 
-facts : (s : State) → fits s ≡ true → Fits s
+pub facts : (s : State) → fits s ≡ true → Fits s
 facts s is =
     let staging = s.queue.staging in
     let trying = s.queue.trying in

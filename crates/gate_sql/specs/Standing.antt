@@ -6,6 +6,7 @@ use Rattle.gate_rules.specs.View.{DeskView}
 use Rattle.gate_state.specs.State.{IsState}
 use Rattle.gate_state.specs.declared.state.State.{State}
 use Rattle.gate_tables.specs.Contents.{AreSame}
+use Rattle.gate_tables.specs.Differences.{HaveKeys}
 use Rattle.gate_sql.specs.Decoding.{state_in}
 use Rattle.gate_sql.specs.Encoding.{rows_of}
 use Rattle.gate_tables.specs.declared.row.Rows.{Rows}
@@ -17,3 +18,7 @@ pub record KeepsLimits (desk : DeskView) : Type 0 where
 
 abbrev pub LawOfRows : Type 0
 LawOfRows = (s : State) (rows : Rows) → IsState s → KeepsLimits s.desk → AreSame (rows_of s) rows → state_in rows ≡ s
+
+-- In the rows of a state no two rows of a table have one key.
+abbrev pub LawOfKeys : Type 0
+LawOfKeys = (s : State) → IsState s → KeepsLimits s.desk → HaveKeys (rows_of s)

@@ -2,7 +2,7 @@ ghost use Rattle.std.specs.Prelude.{◌≡◌};
 ghost use Rattle.gate_tables.specs.Contents.{AreSame};
 ghost use Rattle.gate_sql.specs.Decoding.{state_in};
 ghost use Rattle.gate_sql.specs.Encoding.{rows_of};
-ghost use Rattle.gate_sql.specs.Standing.{KeepsLimits, LawOfRows};
+ghost use Rattle.gate_sql.specs.Standing.{KeepsLimits, LawOfKeys, LawOfRows};
 ghost use Rattle.gate_tables.specs.declared.row.Rows.{Rows};
 
 use gate_queue::Gate;
@@ -11,6 +11,14 @@ use gate_state::law_of_checks;
 /// The law of rows: rows stand for at most one state. The rows of a state, in any order, are read as that state.
 pub fn law_of_rows()
     ensures { LawOfRows }
+{
+    law_of_checks();
+}
+
+/// The law of keys: in the rows of a state no two rows of a table have one key. So what differs between the rows of two states is
+/// told by keys.
+pub fn law_of_keys()
+    ensures { LawOfKeys }
 {
     law_of_checks();
 }

@@ -10,6 +10,6 @@ mod rows;
 mod sorting;
 
 pub use book::{Refused, SqlBook};
-pub use laws::law_of_rows;
+pub use laws::{law_of_keys, law_of_rows};
 pub use reading::gate_of;
 pub use rows::rows_of;

@@ -1,17 +1,18 @@
 -- What a DELETE of all rows makes of the tables.
-use Rattle.std.proofs.Common.{◌≡◌, ℕ, zero, suc, ℤ, List, [], ◌∷◌, ◌++◌, map, filter, slice_get, Bool, true, false, not, ◌||◌, ◌&&◌, Option, Some, None, Ok, if◌then◌else◌, IsPermutation, refl, sym, ap, subst, ◌∙◌}
-use Rattle.std.specs.List.{AllByRecursion, list_any, list_all}
+use Rattle.std.proofs.Common.{◌≡◌, ℤ, List, [], ◌∷◌, ◌++◌, map, filter, Bool, true, false, not, ◌||◌, ◌&&◌, Option, None, Ok, if◌then◌else◌, IsPermutation, refl, sym, ap, subst, ◌∙◌}
+use Rattle.std.specs.List.{list_any, list_all}
 use Rattle.std.specs.Ordering.{is_eq, ordering_reverse}
 use Rattle.std.specs.declared.cmp.Ordering.{Ordering}
 use Rattle.std.specs.declared.cmp.Ordering.TheVariants.{Less, Equal, Greater}
 use Rattle.std.proofs.lemmas.List.{append_assoc}
 use Rattle.std.proofs.lemmas.List.Sorted.{IsPermutation-map, list_any-IsPermutation}
 use Rattle.gate_tables.proofs.Inserting.{went, same_value}
-use Rattle.gate_tables.proofs.Placing.{first_true, second_true, keyed_still}
+use Rattle.gate_tables.proofs.Placing.{first_true, second_true, still_kept, kept_one}
 use Rattle.gate_tables.proofs.Selecting.{picks_all, map_map}
 use Rattle.gate_tables.specs.Database.{all_schema, table_of, columns_of}
 use Rattle.gate_tables.specs.Effects.{RanInside, IsInside, Empties}
 use Rattle.gate_tables.specs.Forms.{Form}
+use Rattle.gate_tables.specs.Kept.{IsKept}
 use Rattle.gate_tables.specs.Known.{IsKnown, picked, program}
 use Rattle.sqlite.proofs.Callers.{statement_of, runs_as, one_step}
 use Rattle.sqlite.specs.Command.TheVariants.{Delete}
@@ -25,21 +26,22 @@ use Rattle.sqlite.specs.Rows.{Written}
 use Rattle.sqlite.specs.State.{State, mode_of}
 use Rattle.sqlite.specs.Table.{Table}
 use Rattle.sqlite.specs.Term.{col}
-use Rattle.sqlite.specs.Tree.{Trees, rowid, has_rowid, without_rowid}
+use Rattle.sqlite.specs.Tree.{rowid, has_rowid, without_rowid}
 use Rattle.sqlite.specs.declared.types.Value.{Value}
 use Rattle.sqlite.specs.declared.types.Value.TheVariants.{Null, Int, Real, Text, Blob}
 use Rattle.sqlite_rules.specs.Calls.{ids_of}
+use Rattle.sqlite_schema.specs.declared.schema.Constraint.TheVariants.{Unique}
 use Rattle.sqlite_schema.specs.declared.schema.Keys.TheVariants.{Enforced}
 use Rattle.sqlite_trees.specs.View.{is_int}
 use Rattle.sqlite_value.proofs.OrderLemmas.{value_cmp_total}
 use Rattle.sqlite_value.specs.Order.{value_cmp}
 
-tied : (o : Ordering) → o ≡ ordering_reverse o → is_eq o ≡ true
+pub tied : (o : Ordering) → o ≡ ordering_reverse o → is_eq o ≡ true
 tied Less e = cc
 tied Equal e = refl
 tied Greater e = cc
 
-own : (v : Value) → is_int v ≡ true → is_eq (value_cmp v (Int (id_in v))) ≡ true
+pub own : (v : Value) → is_int v ≡ true → is_eq (value_cmp v (Int (id_in v))) ≡ true
 own (Int n) h = tied (value_cmp (Int n) (Int n)) (value_cmp_total.antisymm (Int n) (Int n))
 own Null h = cc
 own (Real x) h = cc
@@ -132,24 +134,23 @@ module _ {R : Type 0} (form : Form R) (known : IsKnown form) where
         subst (λ next. Applies all_schema Enforced db (edit_of db table (ids_of given.0) Given 0 []) next) (sym same) it,
       )
 
-  had_keys : (db : Trees) (tables : List Table) (at : ℕ) (t : Table) → slice_get tables at ≡ Some t → AllByRecursion (λ t. have_rowids (db t.tree) ≡ true) tables → have_rowids (db t.tree) ≡ true
-  had_keys db [] at t is all = cc
-  had_keys db (x ∷ xs) zero t is all = let same : x ≡ t = cc in subst (λ (y : Table). have_rowids (db y.tree) ≡ true) same all.0
-  had_keys db (x ∷ xs) (suc at) t is all = had_keys db xs at t is all.1
-
   -- the table has no row, and no other table differs
   pub clear_empties : (old new : State) → IsInside all_schema old → RanInside form.clear [] old new → IsInside all_schema new × Empties all_schema form old.now.trees new.now.trees
   clear_empties old new inside ran =
       let both = edits old new inside.schema_is ran in
       let it = both.3 in
       let rows = old.now.trees form.layout.tree in
-      let had = had_keys old.now.trees all_schema.tables form.at (table_of form.layout) known.listed inside.keyed in
-      let empty : new.now.trees form.layout.tree ≡ [] = it.rows ∙ none_left rows both.1 had both.2 in (
+      let had = kept_one old.now.trees all_schema.tables form.at (table_of form.layout) known.listed inside.kept.tables in
+      let empty : new.now.trees form.layout.tree ≡ [] = it.rows ∙ none_left rows both.1 had.rowids both.2 in (
         record {
           is_open = ran.2.is_open;
           within = ran.2.mode;
           schema_is = both.0;
-          keyed = keyed_still form.layout.tree old.now.trees new.now.trees all_schema.tables inside.keyed it.tables (λ _. ap have_rowids empty);
+          kept = record {
+            tables = still_kept old.now.trees new.now.trees (table_of form.layout) all_schema.tables form.at known.listed refl inside.kept.tables it.tables
+                (λ _. subst (IsKept (table_of form.layout)) (sym empty) (record { rowids = refl; rising = tt; whole = refl }));
+            unique = it.fits.rules Unique (λ e. cc);
+          };
         },
         record { none = ap (map (columns_of form.layout)) empty; others = it.tables },
       )

@@ -10,11 +10,11 @@ use Rattle.sqlite.specs.declared.error.Error.{Error}
 
 pub begins : {S : Type 0} (g : Ghosts S) (old begun : Held S) → begun ≡ record old { in_transaction = true } → IsReady (state g old) → IsTrue (state g old).is_open → IsInside all_schema (state g begun)
 begins g old begun is ready is_open =
-    subst (λ h. IsInside all_schema (state g h)) (sym is) (record { is_open = is_open; within = refl; schema_is = ready.schema_is; keyed = ready.keyed })
+    subst (λ h. IsInside all_schema (state g h)) (sym is) (record { is_open = is_open; within = refl; schema_is = ready.schema_is; kept = ready.kept })
 
 pub begins_blank : {S : Type 0} (g : Ghosts S) (old begun : Held S) → begun ≡ record old { in_transaction = true } → (state g old).now.schema ≡ schema_of [] → IsTrue (state g old).is_open → IsInside (schema_of []) (state g begun)
 begins_blank g old begun is blank is_open =
-    subst (λ h. IsInside (schema_of []) (state g h)) (sym is) (record { is_open = is_open; within = refl; schema_is = blank; keyed = tt })
+    subst (λ h. IsInside (schema_of []) (state g h)) (sym is) (record { is_open = is_open; within = refl; schema_is = blank; kept = record { tables = tt; unique = tt } })
 
 -- what is kept since the beginning is kept since before
 pub keeps_since : {S : Type 0} (g : Ghosts S) (old begun : Held S) (now : State) → begun ≡ record old { in_transaction = true } → KeepsCommit (state g begun) now → KeepsCommit (state g old) now

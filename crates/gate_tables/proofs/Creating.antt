@@ -1,25 +1,27 @@
 -- What a CREATE TABLE makes of the tables.
-use Rattle.std.proofs.Common.{◌≡◌, ℕ, List, [], ◌∷◌, ◌++◌, true, false, None, sym, ap, subst, ◌∙◌}
+use Rattle.std.proofs.Common.{◌≡◌, ℕ, List, [], ◌∷◌, ◌++◌, false, None, refl, sym, ap, subst, ◌∙◌}
 use Rattle.std.specs.List.{AllByRecursion}
 use Rattle.gate_tables.proofs.Inserting.{went, same_value}
 use Rattle.gate_tables.specs.Database.{Layout, table_of}
 use Rattle.gate_tables.specs.Effects.{RanInside, IsInside}
+use Rattle.gate_tables.specs.Kept.{IsKept}
 use Rattle.gate_tables.specs.Known.{Creates}
 use Rattle.sqlite.proofs.Callers.{runs_as}
 use Rattle.sqlite.specs.Change.{created, next_tree}
 use Rattle.sqlite.specs.Command.TheVariants.{CreateTable}
 use Rattle.sqlite.specs.Does.{Tally, lacks_sequence}
-use Rattle.sqlite.specs.Edit.{have_rowids}
 use Rattle.sqlite.specs.Effect.{Database}
 use Rattle.sqlite.specs.Schema.{Schema}
 use Rattle.sqlite.specs.State.{State, Writes}
 use Rattle.sqlite.specs.Table.{Table}
 use Rattle.sqlite.specs.Tree.{Trees}
+use Rattle.sqlite_schema.specs.Rules.{Keeps}
+use Rattle.sqlite_schema.specs.declared.schema.Constraint.TheVariants.{Unique}
 
-keyed_kept : (old new : Trees) (tables : List Table) (t : Table) → AllByRecursion (λ t. have_rowids (old t.tree) ≡ true) tables → AllByRecursion (λ t. new t.tree ≡ old t.tree) tables
-    → new t.tree ≡ [] → AllByRecursion (λ t. have_rowids (new t.tree) ≡ true) (tables ++ t ∷ [])
-keyed_kept old new [] t had kept none = (ap have_rowids none, tt)
-keyed_kept old new (x ∷ xs) t had kept none = (ap have_rowids kept.0 ∙ had.0, keyed_kept old new xs t had.1 kept.1 none)
+all_kept : (old new : Trees) (tables : List Table) (t : Table) → AllByRecursion (λ t. IsKept t (old t.tree)) tables → AllByRecursion (λ t. new t.tree ≡ old t.tree) tables
+    → new t.tree ≡ [] → AllByRecursion (λ t. IsKept t (new t.tree)) (tables ++ t ∷ [])
+all_kept old new [] t had kept none = (subst (IsKept t) (sym none) (record { rowids = refl; rising = tt; whole = refl }), tt)
+all_kept old new (x ∷ xs) t had kept none = (subst (IsKept x) (sym kept.0) had.0, all_kept old new xs t had.1 kept.1 none)
 
 module _ (front : Schema) (layout : Layout) (after : Schema) (sql : List ℕ) (known : Creates front layout after sql) where
   -- the schema has one more table, which is empty
@@ -37,13 +39,17 @@ module _ (front : Schema) (layout : Layout) (after : Schema) (sql : List ℕ) (k
       let plain : lacks_sequence first.0.schema ≡ false = ap lacks_sequence schema ∙ known.uncounted in
       let now : new.now ≡ first.0 = ap (λ (p : Tally × Database). p.1) (same_value all.2) ∙ same_value (rw plain at first.2) in
       let empty : new.now.trees layout.tree ≡ [] = ap (λ (d : Database). d.trees layout.tree) now ∙ subst (λ n. first.0.trees n ≡ []) (ap next_tree inside.schema_is ∙ known.next) made.empty in
+      let after_is = ap (λ (d : Database). d.schema) now ∙ schema in
       let kept = subst (λ (s : Schema). AllByRecursion (λ t. new.now.trees t.tree ≡ old.now.trees t.tree) s.tables) inside.schema_is
       (subst (λ (d : Database). AllByRecursion (λ t. d.trees t.tree ≡ old.now.trees t.tree) old.now.schema.tables) (sym now) made.others) in (
         record {
           is_open = ran.2.is_open;
           within = ran.2.mode;
-          schema_is = ap (λ (d : Database). d.schema) now ∙ schema;
-          keyed = subst (λ ts. AllByRecursion (λ t. have_rowids (new.now.trees t.tree) ≡ true) ts) (sym known.tables) (keyed_kept old.now.trees new.now.trees front.tables (table_of layout) inside.keyed kept empty);
+          schema_is = after_is;
+          kept = record {
+            tables = subst (λ ts. AllByRecursion (λ t. IsKept t (new.now.trees t.tree)) ts) (sym known.tables) (all_kept old.now.trees new.now.trees front.tables (table_of layout) inside.kept.tables kept empty);
+            unique = subst (λ s. Keeps Unique s new.now.trees) after_is (w.sound.obeys.rules Unique);
+          };
         },
         empty,
       )

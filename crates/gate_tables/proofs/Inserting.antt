@@ -1,17 +1,19 @@
 -- What an INSERT of one row makes of the tables.
 use Rattle.std.proofs.Common.{◌≡◌, ◌⊎◌, inl, inr, List, [], ◌∷◌, map, length, Option, None, Ok, Err, Result, IsPermutation, refl, sym, ap, subst, subst₂, ◌∙◌, append-nil, ◌/◌}
-use Rattle.gate_tables.proofs.Placing.{put_adds, put_keyed, fresh_one, keyed_still}
+use Rattle.gate_tables.proofs.Placing.{put_adds, put_keyed, fresh_one, still_kept, all_moved}
+use Rattle.std.proofs.lemmas.Bool.{and_from}
 use Rattle.std.proofs.lemmas.List.Sorted.{IsPermutation-map}
 use Rattle.gate_tables.specs.Database.{all_schema, table_of, columns_of, cells}
 use Rattle.gate_tables.specs.Effects.{RanInside, IsInside, Adds}
 use Rattle.gate_tables.specs.Forms.{Form}
+use Rattle.gate_tables.specs.Kept.{IsKept, is_whole}
 use Rattle.gate_tables.specs.Known.{IsKnown}
 use Rattle.sqlite.proofs.Callers.{statement_of, runs_as, one_step}
 use Rattle.sqlite.specs.Cast.{cast_row}
 use Rattle.sqlite.specs.Command.TheVariants.{Insert}
 use Rattle.sqlite.specs.Does.{Tally, Does, AtPlace, OnRows}
 use Rattle.sqlite.specs.Listing.{understood}
-use Rattle.sqlite.specs.Edit.{edit_of, with_rowid, Applies, have_rowids}
+use Rattle.sqlite.specs.Edit.{edit_of, with_rowid, Applies}
 use Rattle.sqlite.specs.Effect.{Database, value_rows}
 use Rattle.sqlite.specs.Order.{Row}
 use Rattle.sqlite.specs.Rowids.TheVariants.{Chosen}
@@ -21,7 +23,9 @@ use Rattle.sqlite.specs.State.{State, mode_of}
 use Rattle.sqlite.specs.Table.{Table}
 use Rattle.sqlite.specs.Term.{eval_all}
 use Rattle.sqlite.specs.Tree.{put_row}
+use Rattle.sqlite_schema.specs.declared.schema.Constraint.TheVariants.{Unique}
 use Rattle.sqlite_schema.specs.declared.schema.Keys.TheVariants.{Enforced}
+use Rattle.sqlite_trees.proofs.TreeLemmas.{IsTable-put_row}
 
 -- a part that gave a value did not stop on the way
 pub went : {B E R : Type 0} {b : B} {Stops : E → Type 0} → ((stop : E) × Stops stop × (Ok b ≡ Err stop)) ⊎ R → R
@@ -71,12 +75,21 @@ module _ {R : Type 0} (form : Form R) (known : IsKnown form) (r : R) where
       let added = put_adds one rows (fresh_one rows one it.fresh) in
       let same : columns_of form.layout one ≡ form.values r = known.inserts.stored r rows in
       let cells_are : map (columns_of form.layout) (put_row one rows) ≡ cells form.layout new.now.trees = ap (map (columns_of form.layout)) (sym placed) in
-      let moved = IsPermutation-map (columns_of form.layout) (one ∷ rows) (put_row one rows) added in (
+      let moved = IsPermutation-map (columns_of form.layout) (one ∷ rows) (put_row one rows) added in
+      let own : IsKept (table_of form.layout) rows → IsKept (table_of form.layout) (new.now.trees form.layout.tree) =
+      λ had. subst (IsKept (table_of form.layout)) (sym placed) (record {
+        rowids = put_keyed one rows it.keyed had.rowids;
+        rising = IsTable-put_row one rows had.rising;
+        whole = all_moved (λ row. is_whole form.layout.columns (columns_of form.layout row)) (one ∷ rows) (put_row one rows) added (and_from _ _ (ap (is_whole form.layout.columns) same ∙ known.wholes r) had.whole);
+      }) in (
         record {
           is_open = ran.2.is_open;
           within = ran.2.mode;
           schema_is = both.0;
-          keyed = keyed_still form.layout.tree old.now.trees new.now.trees all_schema.tables inside.keyed it.tables (λ had. ap have_rowids placed ∙ put_keyed one rows it.keyed had);
+          kept = record {
+            tables = still_kept old.now.trees new.now.trees (table_of form.layout) all_schema.tables form.at known.listed refl inside.kept.tables it.tables own;
+            unique = it.fits.rules Unique (λ e. cc);
+          };
         },
         record {
           added = subst₂ (λ c cs. IsPermutation (c ∷ cells form.layout old.now.trees) cs) same cells_are moved;

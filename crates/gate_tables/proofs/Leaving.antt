@@ -1,7 +1,8 @@
 -- A query leaves the database as it was.
 use Rattle.std.proofs.Common.{◌≡◌, inl, inr, ℕ, List, Option, Some, None, IsTrue, sym, ap, subst, ◌∙◌}
 use Rattle.gate_tables.specs.Database.{all_schema}
-use Rattle.gate_tables.specs.Effects.{AreKeyed, IsReady, Leaves}
+use Rattle.gate_tables.specs.Effects.{IsReady, Leaves}
+use Rattle.gate_tables.specs.Kept.{AreKept}
 use Rattle.sqlite.proofs.Callers.{IsPlain}
 use Rattle.sqlite.specs.Clock.{timed}
 use Rattle.sqlite.specs.Effect.{Database}
@@ -54,7 +55,7 @@ ready_after old new ready left is_open =
       record {
         schema_is = ap (λ (d : Database). d.schema) same.0 ∙ ready.schema_is;
         settled = same.0 ∙ ready.settled ∙ sym same.1;
-        keyed = subst (λ (d : Database). AreKeyed all_schema d.trees) (sym same.0) ready.keyed;
+        kept = subst (λ (d : Database). AreKept all_schema d.trees) (sym same.0) ready.kept;
       },
       same.0,
       same.1,

@@ -9,7 +9,7 @@ use Rattle.std.proofs.lemmas.List.Sorted.{IsPermutation-map, All-permutation}
 use Rattle.gate_tables.proofs.Answering.{still_apart, one_more}
 use Rattle.gate_tables.proofs.Leaving.{ready_after}
 use Rattle.gate_tables.specs.Database.{cells}
-use Rattle.gate_tables.specs.Effects.{IsReady, Leaves, Made, Wrote}
+use Rattle.gate_tables.specs.Effects.{IsReady, Leaves, Made, Commits}
 use Rattle.gate_tables.specs.Forms.{answers, rows_of}
 use Rattle.gate_tables.specs.Tables.{is_sound, answers_in, AreAnswers, IsBook, Stands}
 use Rattle.gate_tables.specs.declared.row.Rows.{Rows}
@@ -51,18 +51,18 @@ module _ {S : Type 0} (g : Ghosts S) (new : Held S) (rows : Rows) where
         };
   }
 
-module _ {S : Type 0} (g : Ghosts S) (old new : Held S) (rows : Rows) (id body : List ℕ) (stands : Stands g old) (free : is_sound g old → get (answers_in g old) id ≡ None) (was : is_sound g new → is_sound g old) where
+module _ {S : Type 0} (g : Ghosts S) (old new : Held S) (Became : Rows → Rows → Type 0) (id body : List ℕ) (stands : Stands g old) (free : is_sound g old → get (answers_in g old) id ≡ None) (was : is_sound g new → is_sound g old) where
   abbrev was_state : State
   was_state = state g old
 
   abbrev now_state : State
   now_state = state g new
 
-  entries_moved : Wrote rows id body was_state now_state → IsPermutation ((id, body) ∷ rows_of answers was_state.now.trees) (rows_of answers now_state.now.trees)
+  entries_moved : Commits Became id body was_state now_state → IsPermutation ((id, body) ∷ rows_of answers was_state.now.trees) (rows_of answers now_state.now.trees)
   entries_moved wrote = IsPermutation-map answers.read (answers.values (id, body) ∷ cells answers.layout was_state.now.trees) (cells answers.layout now_state.now.trees) wrote.added
 
-  wrote_book : is_sound g new → Wrote rows id body was_state now_state → IsBook now_state
-  wrote_book sound wrote =
+  committed_book : is_sound g new → Commits Became id body was_state now_state → IsBook now_state
+  committed_book sound wrote =
       let book = stands.book (was sound) in
       let before = answers.values (id, body) ∷ cells answers.layout was_state.now.trees in
       let all = All-from_recursion (λ c. answers.values (answers.read c) ≡ c) before (refl, book.answered.whole) in
@@ -76,14 +76,14 @@ module _ {S : Type 0} (g : Ghosts S) (old new : Held S) (rows : Rows) (id body :
       }
 
   module _ (mode : new.in_transaction ≡ false) where
-    pub write_stands : (r : Result (Unit {0}) TablesFault) → (HasCleanDisk now_state → OnOk r (IsReady was_state → Wrote rows id body was_state now_state))
+    pub commit_stands : (r : Result (Unit {0}) TablesFault) → (HasCleanDisk now_state → OnOk r (IsReady was_state → Commits Became id body was_state now_state))
         → (HasCleanDisk now_state → IsReady was_state → OnErr r (Leaves was_state now_state)) → Stands g new
-    write_stands (Ok x) wrote left = record { autocommit = mode; book = λ sound. wrote_book sound (wrote sound.0 (stands.book (was sound)).ready) }
-    write_stands (Err e) wrote left = left_stands g old new stands mode was left
+    commit_stands (Ok x) wrote left = record { autocommit = mode; book = λ sound. committed_book sound (wrote sound.0 (stands.book (was sound)).ready) }
+    commit_stands (Err e) wrote left = left_stands g old new stands mode was left
 
-  pub write_answers : (r : Result (Unit {0}) TablesFault) → (HasCleanDisk now_state → OnOk r (IsReady was_state → Wrote rows id body was_state now_state)) → is_sound g new
+  pub commit_answers : (r : Result (Unit {0}) TablesFault) → (HasCleanDisk now_state → OnOk r (IsReady was_state → Commits Became id body was_state now_state)) → is_sound g new
       → OnOk r (answers_in g new ≡ insert (answers_in g old) id body)
-  write_answers (Ok x) wrote sound =
+  commit_answers (Ok x) wrote sound =
       let book = stands.book (was sound) in
       one_more id body (rows_of answers was_state.now.trees) (rows_of answers now_state.now.trees) (entries_moved (wrote sound.0 book.ready)) book.answered.apart (free (was sound))
-  write_answers (Err e) wrote sound = tt
+  commit_answers (Err e) wrote sound = tt

@@ -43,4 +43,4 @@ unfolding understood everything
 clears = record { is = refl; plain = (refl, refl) }
 
 pub known : IsKnown forms.answers
-known = record { listed = refl; reads = λ r. refl; inserts = inserts; selects = selects; clears = clears }
+known = record { listed = refl; reads = λ r. refl; wholes = λ r. refl; inserts = inserts; selects = selects; clears = clears }

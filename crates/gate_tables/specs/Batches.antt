@@ -1,14 +1,15 @@
 -- The statements on `batches`, understood.
-use Rattle.std.proofs.Common.{◌≡◌, List, [], ◌∷◌, codes, refl}
-use Rattle.gate_tables.specs.Casts.{cast_null, cast_int}
+use Rattle.std.proofs.Common.{◌≡◌, List, [], ◌∷◌, true, codes, refl}
+use Rattle.gate_tables.specs.Casts.{cast_null, cast_int, int_kept, int_again, text_again, each}
 use Rattle.gate_tables.specs.Database.{columns_of, table_of}
 use Rattle.gate_tables.specs.Forms as forms
-use Rattle.gate_tables.specs.Known.{Inserts, Selects, Clears, IsKnown}
+use Rattle.gate_tables.specs.Kept.{is_whole}
+use Rattle.gate_tables.specs.Known.{Inserts, Selects, Clears, Updates, Deletes, IsKnown, IsKeyed}
 use Rattle.gate_tables.specs.declared.row.BatchRow.{BatchRow}
 use Rattle.sqlite.specs.Cast.{cast_row}
 use Rattle.sqlite.specs.Edit.{with_rowid}
 use Rattle.sqlite.specs.Listing.{understood}
-use Rattle.sqlite.specs.Order.{Row}
+use Rattle.sqlite.specs.Order.{Row, column}
 use Rattle.sqlite.specs.Rowids.TheVariants.{Chosen}
 use Rattle.sqlite.specs.Term.{lit, col}
 use Rattle.sqlite.specs.declared.types.Value.TheVariants.{Null, Int, Text}
@@ -43,5 +44,26 @@ clears : Clears forms.batches
 unfolding understood everything
 clears = record { is = refl; plain = (refl, refl) }
 
+-- what is read of a whole row is all of it
+again : (row : Row) → is_whole forms.batches.layout.columns (columns_of forms.batches.layout row) ≡ true → forms.batches.values (forms.batches.read (columns_of forms.batches.layout row)) ≡ columns_of forms.batches.layout row
+again row whole = let kinds = each forms.batches.layout.columns (columns_of forms.batches.layout row) whole in λ i. int_again (column row 0) kinds.0 i ∷ int_again (column row 2) kinds.1.0 i ∷ int_again (column row 3) kinds.1.1.0 i ∷ int_again (column row 4) kinds.1.1.1.0 i ∷ int_again (column row 5) kinds.1.1.1.1.0 i ∷ int_again (column row 6) kinds.1.1.1.1.1.0 i ∷ text_again (column row 7) kinds.1.1.1.1.1.1.0 i ∷ []
+
+updates : Updates forms.batches
+unfolding understood everything
+updates = record {
+  terms = col 1 0 ∷ lit Null ∷ col 0 1 ∷ col 0 2 ∷ col 0 3 ∷ col 0 4 ∷ col 0 5 ∷ col 0 6 ∷ [];
+  is = refl;
+  plain = (refl, refl);
+  given = λ r. (refl, tt);
+  stored = λ r row whole. let kinds = each forms.batches.layout.columns (columns_of forms.batches.layout row) whole in λ i. int_kept (column row 0) kinds.0 i ∷ cast_int r.branch i ∷ cast_int r.priority i ∷ cast_int r.again i ∷ cast_int r.phase i ∷ cast_int r.since i ∷ Text r.sha ∷ [];
+}
+
+deletes : Deletes forms.batches
+unfolding understood everything
+deletes = record { is = refl; plain = (refl, refl) }
+
 pub known : IsKnown forms.batches
-known = record { listed = refl; reads = λ r. refl; inserts = inserts; selects = selects; clears = clears }
+known = record { listed = refl; reads = λ r. refl; wholes = λ r. refl; inserts = inserts; selects = selects; clears = clears }
+
+pub keyed : IsKeyed forms.batches
+keyed = record { known = known; places = (2 ∷ 3 ∷ 4 ∷ 5 ∷ 6 ∷ 7 ∷ [], refl); fronts = λ r. (refl, refl); whole_again = again; updates = updates; deletes = deletes }

@@ -95,13 +95,16 @@ abbrev pub all_schema : Schema
 all_schema = schema_of all_layouts
 
 -- where a stored row has its columns, behind the rowid; a column that is the rowid stands there alone
-abbrev pub places_from : Layout → ℕ → List Column → List ℕ
-places_from layout at [] = []
-places_from layout at (c ∷ more) = place_of (table_of layout) at ∷ places_from layout (suc at) more
+abbrev pub places_from : Table → ℕ → List Column → List ℕ
+places_from table at [] = []
+places_from table at (c ∷ more) = place_of table at ∷ places_from table (suc at) more
 
 -- the values of a stored row, in the order of the columns
+abbrev pub columns_in : Table → Row → Row
+columns_in table row = map (column row) (places_from table 0 table.columns)
+
 abbrev pub columns_of : Layout → Row → Row
-columns_of layout row = map (column row) (places_from layout 0 layout.columns)
+columns_of layout row = columns_in (table_of layout) row
 
 -- the rows of a table
 abbrev pub cells : Layout → Trees → List Row

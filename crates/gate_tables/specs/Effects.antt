@@ -1,40 +1,41 @@
 -- What statements in a transaction make of the tables. For private clauses.
 use Rattle.std.specs.Prelude.{◌≡◌, ℕ, true, List, [], ◌∷◌, ◌++◌, map, Ok, IsTrue, IsPermutation}
 use Rattle.std.specs.List.{AllByRecursion}
+use Rattle.gate_tables.specs.Applied.{put, without, applied}
 use Rattle.gate_tables.specs.Database.{all_schema, cells}
 use Rattle.gate_tables.specs.Contents.{AreSame, rows_at}
 use Rattle.gate_tables.specs.Database as database
 use Rattle.gate_tables.specs.Forms as forms
+use Rattle.gate_tables.specs.Kept.{AreKept}
 use Rattle.gate_tables.specs.Forms.{Form, rows_of}
+use Rattle.gate_tables.specs.declared.change.RowChange.{RowChange}
 use Rattle.gate_tables.specs.declared.row.Rows.{Rows}
 use Rattle.gate_tables.specs.declared.read.First.{First}
 use Rattle.gate_tables.specs.declared.read.Last.{Last}
-use Rattle.sqlite.specs.Edit.{have_rowids}
 use Rattle.sqlite.specs.Order.{Row}
 use Rattle.sqlite.specs.Schema.{Schema}
 use Rattle.sqlite.specs.State.{State, Executes, Shows}
 use Rattle.sqlite.specs.Tree.{Trees}
 
--- a statement ran in a transaction, and ended nothing
+-- a statement ran in a transaction, and ended nothing; it tells how many rows it wrote
+abbrev pub RanOn : ℕ → List ℕ → Row → State → State → Type 0
+RanOn count sql params old new = Executes sql params old new (Ok count) × Shows old new new.now old.committed true
+
 abbrev pub RanInside : List ℕ → Row → State → State → Type 0
 RanInside sql params old new = (count : ℕ) × Executes sql params old new (Ok count) × Shows old new new.now old.committed true
-
--- each row has an integer as its rowid, so that it can be deleted
-abbrev pub AreKeyed : Schema → Trees → Type 0
-AreKeyed schema db = AllByRecursion (λ t. have_rowids (db t.tree) ≡ true) schema.tables
 
 -- an open transaction over these tables
 pub record IsInside (schema : Schema) (s : State) : Type 0 where
   pub is_open : IsTrue s.is_open
   pub within : IsTrue s.in_transaction
   pub schema_is : s.now.schema ≡ schema
-  pub keyed : AreKeyed schema s.now.trees
+  pub kept : AreKept schema s.now.trees
 
 -- a database of all tables, with nothing under way
 pub record IsReady (s : State) : Type 0 where
   pub schema_is : s.now.schema ≡ all_schema
   pub settled : s.now ≡ s.committed
-  pub keyed : AreKeyed all_schema s.now.trees
+  pub kept : AreKept all_schema s.now.trees
 
 -- Where nothing was under way, nothing changed. A connection that is shut says nothing.
 pub record Leaves (old new : State) : Type 0 where
@@ -64,6 +65,21 @@ module _ {R : Type 0} (schema : Schema) (form : Form R) where
     pub rows : IsPermutation rs (rows_of form new)
     pub others : Spares schema (λ t. t ≡ form.layout.tree) old new
 
+  -- a row in place of the one that has its key, or one row more
+  pub record Puts (r : R) (old new : Trees) : Type 0 where
+    pub rows : IsPermutation (put form r (rows_of form old)) (rows_of form new)
+    pub others : Spares schema (λ t. t ≡ form.layout.tree) old new
+
+  -- the row of a key is gone
+  pub record Drops (key : Row) (old new : Trees) : Type 0 where
+    pub rows : without form key (rows_of form old) ≡ rows_of form new
+    pub others : Spares schema (λ t. t ≡ form.layout.tree) old new
+
+-- row changes were applied, and the answers are as they were
+pub record Changes (changes : List RowChange) (old new : Trees) : Type 0 where
+  pub rows_are : AreSame (rows_at new) (applied changes (rows_at old))
+  pub answers : new database.answers.tree ≡ old database.answers.tree
+
 -- the first four tables have these rows, and the answers are as they were
 pub record FillsFirst (rows : Rows) (old new : Trees) : Type 0 where
   pub desk : IsPermutation rows.desk (rows_of forms.desk new)
@@ -88,11 +104,19 @@ pub record Fills (rows : Rows) (old new : Trees) : Type 0 where
   pub rows_are : AreSame (rows_at new) rows
   pub answers : new database.answers.tree ≡ old database.answers.tree
 
--- the rows were written, and one answer more
-pub record Wrote (rows : Rows) (id body : List ℕ) (old new : State) : Type 0 where
+-- The rows became others, and there is one answer more.
+pub record Commits (Became : Rows → Rows → Type 0) (id body : List ℕ) (old new : State) : Type 0 where
   pub ready : IsReady new
-  pub rows_are : AreSame (rows_at new.now.trees) rows
+  pub rows_are : Became (rows_at old.now.trees) (rows_at new.now.trees)
   pub added : IsPermutation (forms.answers.values (id, body) ∷ cells forms.answers.layout old.now.trees) (cells forms.answers.layout new.now.trees)
+
+-- they are these rows
+abbrev pub Wrote : Rows → List ℕ → List ℕ → State → State → Type 0
+Wrote rows = Commits (λ before now. AreSame now rows)
+
+-- they are those before with row changes applied
+abbrev pub Applied : List RowChange → List ℕ → List ℕ → State → State → Type 0
+Applied changes = Commits (λ before now. AreSame now (applied changes before))
 
 -- the tables were made with these rows, and no answer
 pub record Made (rows : Rows) (new : State) : Type 0 where

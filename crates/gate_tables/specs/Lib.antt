@@ -3,9 +3,13 @@
 --     Forms       the rows of a table as records
 --     Contents    what rows and what answers a database has
 --     Tables      the same of a connection, and when it may be relied on
+--     Keys        the key of a row
+--     Applied     what row changes make of rows
+--     Differences the row changes that lead from rows to others
 -- For the code: Faults; Answers, Batches, Changes, Desk, Marks, Members, People, Statuses, the statements on each table; Casts,
--- Creation, Effects, Known, what statements do.
+-- Creation, Effects, Kept, Known, Texts, what statements do.
 pub mod Answers
+pub mod Applied
 pub mod Batches
 pub mod Casts
 pub mod Changes
@@ -13,12 +17,16 @@ pub mod Contents
 pub mod Creation
 pub mod Database
 pub mod Desk
+pub mod Differences
 pub mod Effects
 pub mod Faults
 pub mod Forms
+pub mod Kept
+pub mod Keys
 pub mod Known
 pub mod Marks
 pub mod Members
 pub mod People
 pub mod Statuses
 pub mod Tables
+pub mod Texts

@@ -1,14 +1,15 @@
 -- The statements on `statuses`, understood.
-use Rattle.std.proofs.Common.{◌≡◌, List, [], ◌∷◌, codes, refl}
-use Rattle.gate_tables.specs.Casts.{cast_null, cast_int}
+use Rattle.std.proofs.Common.{◌≡◌, List, [], ◌∷◌, true, codes, refl}
+use Rattle.gate_tables.specs.Casts.{cast_null, cast_int, int_kept, text_kept, int_again, text_again, each}
 use Rattle.gate_tables.specs.Database.{columns_of, table_of}
 use Rattle.gate_tables.specs.Forms as forms
-use Rattle.gate_tables.specs.Known.{Inserts, Selects, Clears, IsKnown}
+use Rattle.gate_tables.specs.Kept.{is_whole}
+use Rattle.gate_tables.specs.Known.{Inserts, Selects, Clears, Updates, Deletes, IsKnown, IsKeyed}
 use Rattle.gate_tables.specs.declared.row.StatusRow.{StatusRow}
 use Rattle.sqlite.specs.Cast.{cast_row}
 use Rattle.sqlite.specs.Edit.{with_rowid}
 use Rattle.sqlite.specs.Listing.{understood}
-use Rattle.sqlite.specs.Order.{Row}
+use Rattle.sqlite.specs.Order.{Row, column}
 use Rattle.sqlite.specs.Rowids.TheVariants.{Chosen}
 use Rattle.sqlite.specs.Term.{lit, col}
 use Rattle.sqlite.specs.declared.types.Value.TheVariants.{Null}
@@ -43,5 +44,26 @@ clears : Clears forms.statuses
 unfolding understood everything
 clears = record { is = refl; plain = (refl, refl) }
 
+-- what is read of a whole row is all of it
+again : (row : Row) → is_whole forms.statuses.layout.columns (columns_of forms.statuses.layout row) ≡ true → forms.statuses.values (forms.statuses.read (columns_of forms.statuses.layout row)) ≡ columns_of forms.statuses.layout row
+again row whole = let kinds = each forms.statuses.layout.columns (columns_of forms.statuses.layout row) whole in λ i. int_again (column row 1) kinds.0 i ∷ text_again (column row 2) kinds.1.0 i ∷ int_again (column row 3) kinds.1.1.0 i ∷ []
+
+updates : Updates forms.statuses
+unfolding understood everything
+updates = record {
+  terms = col 1 0 ∷ col 1 1 ∷ col 1 2 ∷ col 0 2 ∷ [];
+  is = refl;
+  plain = (refl, refl);
+  given = λ r. (refl, (refl, tt));
+  stored = λ r row whole. let kinds = each forms.statuses.layout.columns (columns_of forms.statuses.layout row) whole in λ i. int_kept (column row 1) kinds.0 i ∷ text_kept (column row 2) kinds.1.0 i ∷ cast_int r.report i ∷ [];
+}
+
+deletes : Deletes forms.statuses
+unfolding understood everything
+deletes = record { is = refl; plain = (refl, refl) }
+
 pub known : IsKnown forms.statuses
-known = record { listed = refl; reads = λ r. refl; inserts = inserts; selects = selects; clears = clears }
+known = record { listed = refl; reads = λ r. refl; wholes = λ r. refl; inserts = inserts; selects = selects; clears = clears }
+
+pub keyed : IsKeyed forms.statuses
+keyed = record { known = known; places = (3 ∷ [], refl); fronts = λ r. (refl, refl); whole_again = again; updates = updates; deletes = deletes }

@@ -4,7 +4,7 @@ ghost use Rattle.gate_tables.specs.Batches as texts;
 use crate::fault::TablesFault;
 use crate::kind::TableRow;
 use crate::row::BatchRow;
-use crate::statement::{run, text_at};
+use crate::statement::{run, run_counting, text_at};
 use sqlite::{Alter, Row, Transaction, params};
 
 impl TableRow for BatchRow {
@@ -18,10 +18,30 @@ impl TableRow for BatchRow {
         "DELETE FROM batches"
     }
 
+    fn delete_text() -> &'static str {
+        "DELETE FROM batches WHERE number = ?1"
+    }
+
     fn put<S: Alter>(&self, tx: &mut Transaction<'_, S>) -> Result<(), TablesFault> {
         run(
             tx,
             "INSERT INTO batches (number, branch, priority, again, phase, since, sha) VALUES (?1, ?2, ?3, ?4, ?5, ?6, ?7)",
+            params![
+                &self.number,
+                &self.branch,
+                &self.priority,
+                &self.again,
+                &self.phase,
+                &self.since,
+                self.sha.as_str()
+            ],
+        )
+    }
+
+    fn update<S: Alter>(&self, tx: &mut Transaction<'_, S>) -> Result<usize, TablesFault> {
+        run_counting(
+            tx,
+            "UPDATE batches SET branch = ?2, priority = ?3, again = ?4, phase = ?5, since = ?6, sha = ?7 WHERE number = ?1",
             params![
                 &self.number,
                 &self.branch,
@@ -46,5 +66,5 @@ impl TableRow for BatchRow {
         })
     }
 
-    ghost known = { texts.known };
+    ghost keyed = { texts.keyed };
 }

@@ -4,7 +4,7 @@ ghost use Rattle.gate_tables.specs.Changes as texts;
 use crate::fault::TablesFault;
 use crate::kind::TableRow;
 use crate::row::ChangeRow;
-use crate::statement::{run, text_at};
+use crate::statement::{run, run_counting, text_at};
 use sqlite::{Alter, Row, Transaction, params};
 
 impl TableRow for ChangeRow {
@@ -18,10 +18,30 @@ impl TableRow for ChangeRow {
         "DELETE FROM changes"
     }
 
+    fn delete_text() -> &'static str {
+        "DELETE FROM changes WHERE number = ?1"
+    }
+
     fn put<S: Alter>(&self, tx: &mut Transaction<'_, S>) -> Result<(), TablesFault> {
         run(
             tx,
             "INSERT INTO changes (number, author, head, phase, priority, approved, last_command) VALUES (?1, ?2, ?3, ?4, ?5, ?6, ?7)",
+            params![
+                &self.number,
+                self.author.as_str(),
+                self.head.as_str(),
+                &self.phase,
+                &self.priority,
+                &self.approved,
+                &self.last_command
+            ],
+        )
+    }
+
+    fn update<S: Alter>(&self, tx: &mut Transaction<'_, S>) -> Result<usize, TablesFault> {
+        run_counting(
+            tx,
+            "UPDATE changes SET author = ?2, head = ?3, phase = ?4, priority = ?5, approved = ?6, last_command = ?7 WHERE number = ?1",
             params![
                 &self.number,
                 self.author.as_str(),
@@ -46,5 +66,5 @@ impl TableRow for ChangeRow {
         })
     }
 
-    ghost known = { texts.known };
+    ghost keyed = { texts.keyed };
 }

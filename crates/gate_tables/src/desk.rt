@@ -4,7 +4,7 @@ ghost use Rattle.gate_tables.specs.Desk as texts;
 use crate::fault::TablesFault;
 use crate::kind::TableRow;
 use crate::row::DeskRow;
-use crate::statement::{run, text_at};
+use crate::statement::{run, run_counting, text_at};
 use sqlite::{Alter, Row, Transaction, params};
 
 impl TableRow for DeskRow {
@@ -18,10 +18,31 @@ impl TableRow for DeskRow {
         "DELETE FROM desk"
     }
 
+    fn delete_text() -> &'static str {
+        "DELETE FROM desk WHERE one = ?1"
+    }
+
     fn put<S: Alter>(&self, tx: &mut Transaction<'_, S>) -> Result<(), TablesFault> {
         run(
             tx,
             "INSERT INTO desk (one, version, next_batch, clock, base, timeout_sec, required_approvals, max_batch_size) VALUES (?1, ?2, ?3, ?4, ?5, ?6, ?7, ?8)",
+            params![
+                &self.one,
+                &self.version,
+                &self.next_batch,
+                &self.clock,
+                self.base.as_str(),
+                &self.timeout_sec,
+                &self.required_approvals,
+                &self.max_batch_size
+            ],
+        )
+    }
+
+    fn update<S: Alter>(&self, tx: &mut Transaction<'_, S>) -> Result<usize, TablesFault> {
+        run_counting(
+            tx,
+            "UPDATE desk SET version = ?2, next_batch = ?3, clock = ?4, base = ?5, timeout_sec = ?6, required_approvals = ?7, max_batch_size = ?8 WHERE one = ?1",
             params![
                 &self.one,
                 &self.version,
@@ -48,5 +69,5 @@ impl TableRow for DeskRow {
         })
     }
 
-    ghost known = { texts.known };
+    ghost keyed = { texts.keyed };
 }

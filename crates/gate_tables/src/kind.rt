@@ -1,7 +1,8 @@
 ghost use Rattle.std.specs.Prelude.{◌≡◌, map, false, IsTrue, IfOk, OnOk, IsPermutation};
 ghost use Rattle.gate_tables.specs.Database.{all_schema};
-ghost use Rattle.gate_tables.specs.Effects.{RanInside, IsInside, AddsAll, Empties, Replaces, Leaves};
+ghost use Rattle.gate_tables.specs.Effects.{RanInside, RanOn, IsInside, AddsAll, Empties, Replaces, Leaves};
 ghost use Rattle.gate_tables.specs.Forms.{rows_of};
+ghost use Rattle.gate_tables.specs.Texts.{delete_text, update_text};
 ghost use Rattle.sqlite.specs.Held.{state};
 ghost use Rattle.sqlite.specs.State.{HasCleanDisk, KeepsCommit};
 
@@ -14,7 +15,7 @@ use std::alloc::Global;
 // A row of one of the tables, with the statements on that table.
 pub(crate) trait TableRow: Sized + Drop {
     ghost use Rattle.gate_tables.specs.Forms.{Form};
-    ghost use Rattle.gate_tables.specs.Known.{IsKnown};
+    ghost use Rattle.gate_tables.specs.Known.{IsKeyed};
 
     // How the rows of the table are seen.
     ghost form: { Form Self };
@@ -27,6 +28,17 @@ pub(crate) trait TableRow: Sized + Drop {
     fn clear_text() -> &'static str
         ensures text { result.now ≡ form.clear };
 
+    // The text that deletes the row of a key.
+    fn delete_text() -> &'static str
+        ensures text { result.now ≡ delete_text form.layout };
+
+    // Changes the row that has the key of this one, and tells how many rows those were.
+    fn update<S: Alter>(&self, tx: &mut Transaction<'_, S>) -> Result<usize, TablesFault>
+        ensures same_reference { tx.new.conn.ghost_name ≡ tx.old.conn.ghost_name }
+        ensures ran { HasCleanDisk (state S.Store tx.new.conn.now) → IfOk result (λ count. RanOn count (update_text form.layout) (form.values self.now) (state S.Store tx.old.conn.now) (state S.Store tx.new.conn.now)) }
+        ensures kept { HasCleanDisk (state S.Store tx.new.conn.now) → KeepsCommit (state S.Store tx.old.conn.now) (state S.Store tx.new.conn.now) }
+        ensures clean { HasCleanDisk (state S.Store tx.new.conn.now) → HasCleanDisk (state S.Store tx.old.conn.now) };
+
     // Adds the row.
     fn put<S: Alter>(&self, tx: &mut Transaction<'_, S>) -> Result<(), TablesFault>
         ensures same_reference { tx.new.conn.ghost_name ≡ tx.old.conn.ghost_name }
@@ -38,7 +50,7 @@ pub(crate) trait TableRow: Sized + Drop {
     fn read(row: &Row) -> Result<Self, TablesFault>
         ensures value { IfOk result (λ read. read ≡ form.read row.now) };
 
-    ghost known: { IsKnown form };
+    ghost keyed: { IsKeyed form };
 }
 
 // Adds rows to their table.

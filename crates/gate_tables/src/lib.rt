@@ -3,13 +3,16 @@
 #![tactic(auto)]
 
 mod answers;
+mod apply;
 mod batches;
+mod change;
 mod changes;
 mod create;
 mod desk;
 mod fault;
 mod fill;
 mod kind;
+mod laws;
 mod marks;
 mod members;
 mod people;
@@ -20,7 +23,9 @@ mod statuses;
 mod tables;
 mod write;
 
+pub use change::{Row, RowChange, RowKey};
 pub use fault::TablesFault;
+pub use laws::law_of_differences;
 pub use row::{BatchRow, ChangeRow, DeskRow, MarkRow, MemberRow, PersonRow, Rows, StatusRow};
 pub use tables::{NotMade, Tables};
 pub use write::is_blank;

@@ -4,7 +4,7 @@ ghost use Rattle.gate_tables.specs.Members as texts;
 use crate::fault::TablesFault;
 use crate::kind::TableRow;
 use crate::row::MemberRow;
-use crate::statement::run;
+use crate::statement::{run, run_counting};
 use sqlite::{Alter, Row, Transaction, params};
 
 impl TableRow for MemberRow {
@@ -18,10 +18,22 @@ impl TableRow for MemberRow {
         "DELETE FROM members"
     }
 
+    fn delete_text() -> &'static str {
+        "DELETE FROM members WHERE batch = ?1 AND place = ?2"
+    }
+
     fn put<S: Alter>(&self, tx: &mut Transaction<'_, S>) -> Result<(), TablesFault> {
         run(
             tx,
             "INSERT INTO members (batch, place, change_no) VALUES (?1, ?2, ?3)",
+            params![&self.batch, &self.place, &self.change_no],
+        )
+    }
+
+    fn update<S: Alter>(&self, tx: &mut Transaction<'_, S>) -> Result<usize, TablesFault> {
+        run_counting(
+            tx,
+            "UPDATE members SET change_no = ?3 WHERE batch = ?1 AND place = ?2",
             params![&self.batch, &self.place, &self.change_no],
         )
     }
@@ -34,5 +46,5 @@ impl TableRow for MemberRow {
         })
     }
 
-    ghost known = { texts.known };
+    ghost keyed = { texts.keyed };
 }

@@ -4,7 +4,7 @@ ghost use Rattle.gate_tables.specs.People as texts;
 use crate::fault::TablesFault;
 use crate::kind::TableRow;
 use crate::row::PersonRow;
-use crate::statement::{run, text_at};
+use crate::statement::{run, run_counting, text_at};
 use sqlite::{Alter, Row, Transaction, params};
 
 impl TableRow for PersonRow {
@@ -18,10 +18,22 @@ impl TableRow for PersonRow {
         "DELETE FROM people"
     }
 
+    fn delete_text() -> &'static str {
+        "DELETE FROM people WHERE name = ?1"
+    }
+
     fn put<S: Alter>(&self, tx: &mut Transaction<'_, S>) -> Result<(), TablesFault> {
         run(
             tx,
             "INSERT INTO people (name, role) VALUES (?1, ?2)",
+            params![self.name.as_str(), &self.role],
+        )
+    }
+
+    fn update<S: Alter>(&self, tx: &mut Transaction<'_, S>) -> Result<usize, TablesFault> {
+        run_counting(
+            tx,
+            "UPDATE people SET role = ?2 WHERE name = ?1",
             params![self.name.as_str(), &self.role],
         )
     }
@@ -33,5 +45,5 @@ impl TableRow for PersonRow {
         })
     }
 
-    ghost known = { texts.known };
+    ghost keyed = { texts.keyed };
 }

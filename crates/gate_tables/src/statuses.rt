@@ -4,7 +4,7 @@ ghost use Rattle.gate_tables.specs.Statuses as texts;
 use crate::fault::TablesFault;
 use crate::kind::TableRow;
 use crate::row::StatusRow;
-use crate::statement::{run, text_at};
+use crate::statement::{run, run_counting, text_at};
 use sqlite::{Alter, Row, Transaction, params};
 
 impl TableRow for StatusRow {
@@ -18,10 +18,22 @@ impl TableRow for StatusRow {
         "DELETE FROM statuses"
     }
 
+    fn delete_text() -> &'static str {
+        "DELETE FROM statuses WHERE batch = ?1 AND name = ?2"
+    }
+
     fn put<S: Alter>(&self, tx: &mut Transaction<'_, S>) -> Result<(), TablesFault> {
         run(
             tx,
             "INSERT INTO statuses (batch, name, report) VALUES (?1, ?2, ?3)",
+            params![&self.batch, self.name.as_str(), &self.report],
+        )
+    }
+
+    fn update<S: Alter>(&self, tx: &mut Transaction<'_, S>) -> Result<usize, TablesFault> {
+        run_counting(
+            tx,
+            "UPDATE statuses SET report = ?3 WHERE batch = ?1 AND name = ?2",
             params![&self.batch, self.name.as_str(), &self.report],
         )
     }
@@ -34,5 +46,5 @@ impl TableRow for StatusRow {
         })
     }
 
-    ghost known = { texts.known };
+    ghost keyed = { texts.keyed };
 }

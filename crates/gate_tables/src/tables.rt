@@ -1,11 +1,14 @@
 ghost use Rattle.std.specs.Prelude.{◌≡◌, [], None, false, IfOk, IfErr, OnOk, OnErr};
 ghost use Rattle.std.specs.FinMap.{empty, get, insert};
+ghost use Rattle.gate_tables.specs.Applied.{applied};
 ghost use Rattle.gate_tables.specs.Contents.{AreSame};
 ghost use Rattle.gate_tables.specs.Database.{schema_of};
 ghost use Rattle.gate_tables.specs.Tables.{is_sound, rows_in, answers_in};
 ghost use Rattle.sqlite.specs.Held.{state};
 
 use crate::answers::find_answer;
+use crate::apply::apply_all;
+use crate::change::RowChange;
 use crate::fault::TablesFault;
 use crate::read::read_rows;
 use crate::row::Rows;
@@ -109,5 +112,18 @@ impl<S: Alter> Tables<S> {
         ensures was { is_sound S.Store self.new → is_sound S.Store self.old }
     {
         write_all(&mut self.connection, rows, id, body)
+    }
+
+    /// Makes row changes, in their order, and adds an answer under an identifier that has none, all or nothing: if it is refused,
+    /// nothing changed. A row is found by its key alone, and no other row is touched. `Store` if the database fails, and `Memory`
+    /// if there is no memory for it.
+    pub fn apply(&mut self, changes: &[RowChange], id: &str, body: &str) -> Result<(), TablesFault>
+        requires free { is_sound S.Store self.old → get (answers_in S.Store self.old) id.now ≡ None }
+        ensures rows { is_sound S.Store self.new → OnOk result (AreSame (rows_in S.Store self.new) (applied changes.now (rows_in S.Store self.old))) }
+        ensures answers { is_sound S.Store self.new → OnOk result (answers_in S.Store self.new ≡ insert (answers_in S.Store self.old) id.now body.now) }
+        ensures same { is_sound S.Store self.new → OnErr result ((rows_in S.Store self.new ≡ rows_in S.Store self.old) × (answers_in S.Store self.new ≡ answers_in S.Store self.old)) }
+        ensures was { is_sound S.Store self.new → is_sound S.Store self.old }
+    {
+        apply_all(&mut self.connection, changes, id, body)
     }
 }

@@ -12,7 +12,7 @@ use Rattle.gate_tables.proofs.kind.all.Goals as goal
 pub returns-clause-rows : goal.returns-clause-rows
 returns-clause-rows g c clean has =
     let form = g.R.TableRow.form in
-    let known = g.met.R.TableRow.known in
+    let known = g.met.R.TableRow.keyed.known in
     let old = state g.S.Store c.args.conn.now in
     let new = state g.S.Store c.select.new.conn in
     let asked = c.select_text.ensures.text in
@@ -22,8 +22,8 @@ returns-clause-rows g c clean has =
 
 pub returns-in_err-rows-clause-left : goal.returns-in_err-rows-clause-left
 returns-in_err-rows-clause-left g c clean has =
-    let known = g.met.R.TableRow.known in c.select.ensures.left clean (subst (λ s. IsPlain (understood s c.select_text.result.now)) (sym has) (subst (λ t. IsPlain (understood all_schema t)) (sym c.select_text.ensures.text) known.selects.plain))
+    let known = g.met.R.TableRow.keyed.known in c.select.ensures.left clean (subst (λ s. IsPlain (understood s c.select_text.result.now)) (sym has) (subst (λ t. IsPlain (understood all_schema t)) (sym c.select_text.ensures.text) known.selects.plain))
 
 pub returns-clause-left : goal.returns-clause-left
 returns-clause-left g c clean has =
-    let known = g.met.R.TableRow.known in c.select.ensures.left clean (subst (λ s. IsPlain (understood s c.select_text.result.now)) (sym has) (subst (λ t. IsPlain (understood all_schema t)) (sym c.select_text.ensures.text) known.selects.plain))
+    let known = g.met.R.TableRow.keyed.known in c.select.ensures.left clean (subst (λ s. IsPlain (understood s c.select_text.result.now)) (sym has) (subst (λ t. IsPlain (understood all_schema t)) (sym c.select_text.ensures.text) known.selects.plain))

@@ -20,7 +20,7 @@ loop-row-preserved g c =
       (λ clean. keeps_then first mid last (had.2 (c.put.ensures.clean clean)) (c.put.ensures.kept clean)),
       (λ clean inside.
           let so_far = had.3 (c.put.ensures.clean clean) inside in
-          let one = insert_adds form g.met.R.TableRow.known c.row-item.result mid last so_far.0 (c.in_ok-put.ensures.ran clean) in
+          let one = insert_adds form g.met.R.TableRow.keyed.known c.row-item.result mid last so_far.0 (c.in_ok-put.ensures.ran clean) in
           let all = adds_more form first.now.trees mid.now.trees last.now.trees (take at c.args.rows.now) c.row-item.result so_far.1 one.1 in
           let more : take at c.args.rows.now ++ c.row-item.result ∷ [] ≡ take (at + 1) c.args.rows.now = search (rules, take_more) in
           (one.0, subst (λ rs. AddsAll all_schema form rs first.now.trees last.now.trees) more all)),

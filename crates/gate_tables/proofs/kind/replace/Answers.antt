@@ -11,4 +11,4 @@ returns-clause-replaced g c clean =
     let emptied = c.in_ok-clear.ensures.emptied (c.put_all.ensures.clean clean) in
     on_ok_weaker c.put_all.result (λ added inside.
     let none = emptied inside in
-    let all = added none.0 in (all.0, replaces g.R.TableRow.form g.met.R.TableRow.known first.now.trees mid.now.trees last.now.trees c.args.rows.now none.1 all.1)) (c.put_all.ensures.added clean)
+    let all = added none.0 in (all.0, replaces g.R.TableRow.form g.met.R.TableRow.keyed.known first.now.trees mid.now.trees last.now.trees c.args.rows.now none.1 all.1)) (c.put_all.ensures.added clean)
