@@ -3,11 +3,12 @@
 //!
 //! `gate_books plain` serves them over a book without a database, `gate_books loaded` loads the state from the tables before
 //! each line, and `gate_books tables` prints the rows of the tables in place of the answers. `.ci/test_rows` starts it so.
-//! `gate_books refusals` prints what is answered to rows and to a database that no delivery makes.
+//! `gate_books refusals` prints what is answered to rows and to a database that no delivery makes, and what row changes leave.
 #![tactic(auto)]
 
 mod fault;
 mod refusals;
+mod row_changes;
 mod serving;
 mod tables;
 

@@ -1,6 +1,7 @@
 ghost use Rattle.std.specs.Prelude.{◌≡◌, false, IfOk};
 
 use crate::fault::BooksFault;
+use crate::row_changes::print_row_changes;
 use crate::serving::served;
 use crate::tables::print_table;
 use gate_hook::{HookFault, serve_lines};
@@ -19,7 +20,8 @@ const LINE: &str = r#"{"id":"1","event":"role","person":"alice","role":"reviewer
 
 /// Serves all lines, drops the answers, and prints what is answered to rows and to a database that no delivery makes: to the
 /// rows of the gate without those of one table, and to a database that has a table before there is a book. Of this, and of a gate
-/// whose batch numbers are used up, it prints the line with which the program would end.
+/// whose batch numbers are used up, it prints the line with which the program would end. Behind that it prints what row changes
+/// leave.
 pub(crate) fn print_refusals<R: Read, W: Write>(
     alloc: Global,
     reader: &mut R,
@@ -27,7 +29,8 @@ pub(crate) fn print_refusals<R: Read, W: Write>(
 ) -> Result<(), BooksFault> {
     print_without_rows(alloc, reader, writer)?;
     print_taken(alloc, writer)?;
-    print_full(alloc, writer)
+    print_full(alloc, writer)?;
+    print_row_changes(alloc, writer)
 }
 
 // Nothing has to be told of a batch that is tested, so the rows without its status are those of another gate. But no gate has
