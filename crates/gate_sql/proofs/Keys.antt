@@ -1,5 +1,5 @@
 -- In the rows of a state no two rows of a table have one key.
-use Rattle.std.proofs.Common.{◌≡◌, ◌≢◌, inl, inr, ℕ, suc, ℤ, pos, List, [], ◌∷◌, ◌++◌, map, flat_map, Bool, true, false, not, ◌&&◌, T, ◌||◌, ◌<◌, Some, None, Option, IfSome, length, nat_le, ◌==◌, bytes_eq, refl, sym, ap, subst, ◌∙◌, arith}
+use Rattle.std.proofs.Common.{◌≡◌, ◌≢◌, ℕ, suc, ℤ, pos, List, [], ◌∷◌, ◌++◌, map, flat_map, Bool, true, false, not, ◌&&◌, T, ◌||◌, ◌<◌, Some, None, Option, IfSome, length, nat_le, ◌==◌, bytes_eq, refl, sym, ap, subst, ◌∙◌, arith}
 use Rattle.std.specs.Cmp.{IsTotalOrder, eq_by_cmp_equiv, first_so, second_so, nat_cmp_total, unsigned_Decides}
 use Rattle.std.specs.Cmp.Lexicographic.{slice_cmp, nat_list_cmp_total}
 use Rattle.std.specs.FinMap as finite
@@ -345,10 +345,11 @@ each_change ready (e ∷ entries) is =
     let change = e.1 in
     let own = first_so (fits_change ready change) (fit_changes ready entries) is in
     let front = first_so (fits_priority change.priority && fits_approval ready change change.approved && fits_try ready change) (fits_repeat change.last) own in
-    let middle = first_so (fits_priority change.priority && fits_approval ready change change.approved) (fits_try ready change) front in
-    (change_apart e (approvers_apart ready change change.approved (second_so (fits_priority change.priority) (fits_approval ready change change.approved) middle))
-    (last_apart change.last (second_so (fits_priority change.priority && fits_approval ready change change.approved && fits_try ready change) (fits_repeat change.last) own)),
-    each_change ready entries (second_so (fits_change ready change) (fit_changes ready entries) is))
+    let middle = first_so (fits_priority change.priority && fits_approval ready change change.approved) (fits_try ready change) front in (
+      change_apart e (approvers_apart ready change change.approved (second_so (fits_priority change.priority) (fits_approval ready change change.approved) middle))
+          (last_apart change.last (second_so (fits_priority change.priority && fits_approval ready change change.approved && fits_try ready change) (fits_repeat change.last) own)),
+      each_change ready entries (second_so (fits_change ready change) (fit_changes ready entries) is),
+    )
 
 settings_apart : (settings : Option SettingsView) → IfSome settings (λ settings. are_settings settings ≡ true) → Apart mark_key (settings_marks settings)
 settings_apart None is = tt
