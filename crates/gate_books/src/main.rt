@@ -2,10 +2,13 @@
 //! program holds at the end.
 //!
 //! `gate_books plain` serves them over a book without a database, `gate_books loaded` loads the state from the tables before
-//! each line, and `gate_books tables` prints the rows of the tables in place of the answers. `.ci/test_rows` starts it so.
+//! each line. `gate_books tables` prints the rows of the tables in place of the answers, and `gate_books changed` the row changes
+//! of each line. `.ci/test_rows` starts it so.
+//!
 //! `gate_books refusals` prints what is answered to rows and to a database that no delivery makes, and what row changes leave.
 #![tactic(auto)]
 
+mod changed;
 mod fault;
 mod refusals;
 mod row_changes;
@@ -38,6 +41,7 @@ fn run(rt: &HostRuntime) -> Result<(), BooksFault> {
         "plain" => serving::serve_plain(rt.alloc(), &mut reader, &mut writer),
         "loaded" => serving::serve_loaded(rt.alloc(), &mut reader, &mut writer),
         "tables" => tables::print_tables(rt.alloc(), &mut reader, &mut writer),
+        "changed" => changed::print_changed(rt.alloc(), &mut reader, &mut writer),
         "refusals" => refusals::print_refusals(rt.alloc(), &mut reader, &mut writer),
         _ => Err(BooksFault::Usage),
     }

@@ -5,16 +5,14 @@ ghost use Rattle.sqlite.specs.Steps.{over_memory};
 
 use crate::fault::BooksFault;
 use crate::tables::print_table;
-use gate_queue::Gate;
-use gate_sql::rows_of;
 use gate_tables::{PersonRow, Row, RowChange, RowKey, Tables, is_blank};
 use gate_text::Text;
 use sqlite::{Connection, MemStore};
 use std::alloc::{AllocError, Global};
 use std::io::Write;
 
-/// Makes row changes in the tables of a new gate, with one answer, and prints the rows of people and the answers then. Of the
-/// changes one adds a row and one takes the place of another; one deletes a row, and one deletes none.
+/// Makes row changes in tables without rows, with one answer, and prints the rows of people and the answers then. Of the changes
+/// one adds a row and one takes the place of another; one deletes a row, and one deletes none.
 pub(crate) fn print_row_changes<W: Write>(alloc: Global, writer: &mut W) -> Result<(), BooksFault> {
     let mut tables = new_tables(alloc)?;
     let changes = row_changes(alloc)?;
@@ -24,16 +22,15 @@ pub(crate) fn print_row_changes<W: Write>(alloc: Global, writer: &mut W) -> Resu
     }
 }
 
-// The tables of a new gate, in a new database in memory.
+// Tables without rows, in a new database in memory.
 fn new_tables(alloc: Global) -> Result<Tables<MemStore>, BooksFault>
     ensures { IfOk result (λ tables. is_sound over_memory tables → answers_in over_memory tables ≡ empty) }
 {
-    let first = rows_of(alloc, &Gate::new(alloc))?;
     let connection = Connection::open_in_memory(alloc)?;
     if !is_blank(connection.schema()) {
         return Err(BooksFault::Rows);
     }
-    match Tables::new(connection, &first) {
+    match Tables::new(connection, &[]) {
         Ok(tables) => Ok(tables),
         Err(_) => Err(BooksFault::Rows),
     }

@@ -1,6 +1,6 @@
 -- Lists that are equal item by item, and rows of one sorted list.
 use Rattle.std.proofs.Common.{◌≡◌, Bool, true, IsTrue, List, [], ◌∷◌, refl, sym, subst}
-use Rattle.std.proofs.lemmas.List.Sorted.{IsPermutation-sym, IsPermutation-trans}
+use Rattle.std.proofs.lemmas.List.Sorted.{IsPermutation-refl, IsPermutation-sym, IsPermutation-trans}
 use Rattle.std.specs.Cmp.{first_so, second_so}
 use Rattle.std.specs.Cmp.Lexicographic.{pointwise}
 use Rattle.std.specs.Prelude.{IsPermutation}
@@ -42,3 +42,14 @@ same_then a b c one other = record {
   members = IsPermutation-trans a.members b.members c.members one.members other.members;
   statuses = IsPermutation-trans a.statuses b.statuses c.statuses one.statuses other.statuses;
 }
+
+pub same_rows : (a b : Rows) → a ≡ b → AreSame a b
+same_rows a b is = subst (AreSame a) is (record {
+  desk = IsPermutation-refl a.desk;
+  people = IsPermutation-refl a.people;
+  changes = IsPermutation-refl a.changes;
+  marks = IsPermutation-refl a.marks;
+  batches = IsPermutation-refl a.batches;
+  members = IsPermutation-refl a.members;
+  statuses = IsPermutation-refl a.statuses;
+})

@@ -19,7 +19,7 @@ not_equal Less is = refl
 not_equal Equal is = absurd is
 not_equal Greater is = absurd is
 
-both : (a b : Bool) → T (a && b) → T a × T b
+pub both : (a b : Bool) → T (a && b) → T a × T b
 both true b is = (tt, is)
 both false b is = absurd is
 

@@ -1,5 +1,6 @@
 -- In the rows of a state no two rows of a table have one key.
 use Rattle.std.proofs.Common.{◌≡◌, ◌≢◌, ℕ, suc, ℤ, pos, List, [], ◌∷◌, ◌++◌, map, flat_map, Bool, true, false, not, ◌&&◌, T, ◌||◌, ◌<◌, Some, None, Option, IfSome, length, nat_le, ◌==◌, bytes_eq, refl, sym, ap, subst, ◌∙◌, arith}
+use Rattle.std.proofs.lemmas.Bool.{and_parts, not-true}
 use Rattle.std.specs.Cmp.{IsTotalOrder, eq_by_cmp_equiv, first_so, second_so, nat_cmp_total, unsigned_Decides}
 use Rattle.std.specs.Cmp.Lexicographic.{slice_cmp, nat_list_cmp_total}
 use Rattle.std.specs.FinMap as finite
@@ -22,6 +23,8 @@ use Rattle.gate_rules.specs.Rules.{is_open_phase}
 use Rattle.gate_rules.specs.declared.change.Repeat.{Repeat}
 use Rattle.gate_rules.specs.declared.change.Repeat.TheVariants as repeat
 use Rattle.gate_rules.specs.declared.role.Role.{Role}
+use Rattle.gate_sql.proofs.Canonical.{both}
+use Rattle.gate_sql.proofs.Each.{all_flat, all_joined, all_mapped, all_of, all_pass, all_weaker, none_pass}
 use Rattle.gate_sql.proofs.OneState.{Fits, facts}
 use Rattle.gate_sql.specs.Encoding.{batch_row, change_row, from_place, list_marks, mark, marks_of, member_row, members_of, names_of, person_row, placed, reports_of, rows_of, set_marks, settings_marks, status_row, statuses_of, words_of}
 use Rattle.gate_sql.specs.Standing.{KeepsLimits}
@@ -46,26 +49,6 @@ module _ {X K : Type 0} (key : X → K) where
   abbrev pub Apart : List X → Type 0
   Apart [] = Unit {0}
   Apart (x ∷ xs) = AllByRecursion (λ y. key y ≢ key x) xs × Apart xs
-
-all_joined : {X : Type 0} (P : X → Type 0) (xs ys : List X) → AllByRecursion P xs → AllByRecursion P ys → AllByRecursion P (xs ++ ys)
-all_joined P [] ys p q = q
-all_joined P (x ∷ xs) ys p q = (p.0, all_joined P xs ys p.1 q)
-
-all_flat : {X Y : Type 0} (P : Y → Type 0) (f : X → List Y) (xs : List X) → AllByRecursion (λ x. AllByRecursion P (f x)) xs → AllByRecursion P (flat_map f xs)
-all_flat P f [] p = tt
-all_flat P f (x ∷ xs) p = all_joined P (f x) (flat_map f xs) p.0 (all_flat P f xs p.1)
-
-all_mapped : {X Y : Type 0} (P : Y → Type 0) (f : X → Y) (xs : List X) → AllByRecursion (λ x. P (f x)) xs → AllByRecursion P (map f xs)
-all_mapped P f [] p = tt
-all_mapped P f (x ∷ xs) p = (p.0, all_mapped P f xs p.1)
-
-all_weaker : {X : Type 0} (P Q : X → Type 0) → ((x : X) → P x → Q x) → (xs : List X) → AllByRecursion P xs → AllByRecursion Q xs
-all_weaker P Q to [] p = tt
-all_weaker P Q to (x ∷ xs) p = (to x p.0, all_weaker P Q to xs p.1)
-
-all_of : {X : Type 0} (P : X → Type 0) → ((x : X) → P x) → (xs : List X) → AllByRecursion P xs
-all_of P each [] = tt
-all_of P each (x ∷ xs) = (each x, all_of P each xs)
 
 -- what each of some rows owes to each of others
 module _ {X Y : Type 0} (P : X → Y → Type 0) where
@@ -107,10 +90,6 @@ flat_apart own key f other (x ∷ xs) each apart =
     (across_flat (λ r q. key q ≢ key r) f (f x) xs (all_weaker (λ y. own y ≢ own x) (λ y. AllAcross (λ r q. key q ≢ key r) (f x) (f y)) (λ y unlike. other x y unlike) xs apart.0))
 
 -- the entries of a map, by their keys
-both : (a b : Bool) → T (a && b) → T a × T b
-both true b is = (tt, is)
-both false b is = absurd is
-
 less_or_tied : (o : Ordering) → T (is_lt o) → is_eq o ≡ true → ⊥
 less_or_tied Less p q = let e : false ≡ true = q in cc
 less_or_tied Equal p q = p
@@ -139,33 +118,20 @@ across_of P Q S apart xs ys p q = all_weaker Q (λ x. AllByRecursion (P x) ys) (
 other_text : (one other : List ℕ) → bytes_eq one other ≡ false → other ≢ one
 other_text one other is same = cc (is, ap (λ (x : List ℕ). bytes_eq one x) same, (bytes_eq-Decides one one).1 refl)
 
-negated : (b : Bool) → not b ≡ true → b ≡ false
-negated true h = cc
-negated false h = refl
+-- items of which a test of pairs says that they are apart
+pairs_apart : {X K : Type 0} (key : X → K) (test : X → X → Bool) → ((x y : X) → test x y ≡ true → key y ≢ key x) → (xs : List X) → all_pairs test xs ≡ true → Apart key xs
+pairs_apart key test other [] is = tt
+pairs_apart key test other (x ∷ xs) is =
+    let parts = and_parts (list_all (test x) xs) (all_pairs test xs) is in (all_pass (test x) (λ y. key y ≢ key x) (other x) xs parts.0, pairs_apart key test other xs parts.1)
 
 names_apart : (names : List (List ℕ)) → all_pairs is_other_name names ≡ true → Apart (λ (w : List ℕ). w) names
-names_apart [] is = tt
-names_apart (x ∷ xs) is = (others xs (first_so (list_all (is_other_name x) xs) (all_pairs is_other_name xs) is), names_apart xs (second_so (list_all (is_other_name x) xs) (all_pairs is_other_name xs) is))
-  where
-    others : (ys : List (List ℕ)) → list_all (is_other_name x) ys ≡ true → AllByRecursion (λ (y : List ℕ). y ≢ x) ys
-    others [] is = tt
-    others (y ∷ ys) is = (other_text x y (negated (bytes_eq x y) (first_so (is_other_name x y) (list_all (is_other_name x) ys) is)), others ys (second_so (is_other_name x y) (list_all (is_other_name x) ys) is))
+names_apart = pairs_apart (λ (w : List ℕ). w) is_other_name (λ x y is. other_text x y (not-true (bytes_eq x y) is))
 
 texts_apart : (texts : List (List ℕ)) → are_distinct bytes_eq texts ≡ true → Apart (λ (w : List ℕ). w) texts
 texts_apart [] is = tt
-texts_apart (x ∷ xs) is = (others xs (negated (list_any (bytes_eq x) xs) (first_so (not (list_any (bytes_eq x) xs)) (are_distinct bytes_eq xs) is)), texts_apart xs (second_so (not (list_any (bytes_eq x) xs)) (are_distinct bytes_eq xs) is))
-  where
-    left : (a b : Bool) → a || b ≡ false → a ≡ false
-    left true b h = cc
-    left false b h = refl
-
-    right : (a b : Bool) → a || b ≡ false → b ≡ false
-    right true b h = cc
-    right false b h = h
-
-    others : (ys : List (List ℕ)) → list_any (bytes_eq x) ys ≡ false → AllByRecursion (λ (y : List ℕ). y ≢ x) ys
-    others [] is = tt
-    others (y ∷ ys) is = (other_text x y (left (bytes_eq x y) (list_any (bytes_eq x) ys) is), others ys (right (bytes_eq x y) (list_any (bytes_eq x) ys) is))
+texts_apart (x ∷ xs) is =
+    let parts = and_parts (not (list_any (bytes_eq x) xs)) (are_distinct bytes_eq xs) is in
+    (none_pass (bytes_eq x) (λ (y : List ℕ). y ≢ x) (other_text x) xs (not-true (list_any (bytes_eq x) xs) parts.0), texts_apart xs parts.1)
 
 -- items behind their places: apart by their places, and by themselves if they are
 places_after : {X : Type 0} (at n : ℕ) (xs : List X) → at < n → AllByRecursion (λ (e : ℤ × X). e.0 ≢ pos at) (from_place n xs)
@@ -207,20 +173,11 @@ unlike_batches : (one other : Batch) → has_other_number one other ≡ true →
 unlike_batches one other is same = cc (is, (unsigned_Decides one.number other.number).1 (sym same))
 
 lane_apart : (batches : List Batch) → all_pairs has_other_number batches ≡ true → Apart (λ (b : Batch). b.number) batches
-lane_apart [] is = tt
-lane_apart (b ∷ batches) is = (others batches (first_so (list_all (has_other_number b) batches) (all_pairs has_other_number batches) is), lane_apart batches (second_so (list_all (has_other_number b) batches) (all_pairs has_other_number batches) is))
-  where
-    others : (bs : List Batch) → list_all (has_other_number b) bs ≡ true → AllByRecursion (λ (o : Batch). o.number ≢ b.number) bs
-    others [] is = tt
-    others (o ∷ bs) is = (unlike_batches b o (first_so (has_other_number b o) (list_all (has_other_number b) bs) is), others bs (second_so (has_other_number b o) (list_all (has_other_number b) bs) is))
+lane_apart = pairs_apart (λ (b : Batch). b.number) has_other_number unlike_batches
 
 lanes_apart : (ones others : List Batch) → have_other_numbers ones others ≡ true → AllAcross (λ (b o : Batch). o.number ≢ b.number) ones others
-lanes_apart [] others is = tt
-lanes_apart (b ∷ ones) others is = (each others (first_so (list_all (has_other_number b) others) (have_other_numbers ones others) is), lanes_apart ones others (second_so (list_all (has_other_number b) others) (have_other_numbers ones others) is))
-  where
-    each : (bs : List Batch) → list_all (has_other_number b) bs ≡ true → AllByRecursion (λ (o : Batch). o.number ≢ b.number) bs
-    each [] is = tt
-    each (o ∷ bs) is = (unlike_batches b o (first_so (has_other_number b o) (list_all (has_other_number b) bs) is), each bs (second_so (has_other_number b o) (list_all (has_other_number b) bs) is))
+lanes_apart ones others =
+    all_pass (λ b. list_all (has_other_number b) others) (λ b. AllByRecursion (λ (o : Batch). o.number ≢ b.number) others) (λ b. all_pass (has_other_number b) (λ (o : Batch). o.number ≢ b.number) (unlike_batches b) others) ones
 
 module _ (s : State) (fit : Fits s) where
   numbers_apart : Apart (λ (b : Batch). b.number) (batches_of s.queue)

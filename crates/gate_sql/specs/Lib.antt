@@ -2,8 +2,10 @@
 --     Encoding    the rows of a state of the machine
 --     Decoding    the state that rows stand for
 --     Standing    the law of both: the rows of a state, in any order, stand for it
---     Shown       what a book over the tables shows
+--     Changed     the rows that differ between two states, as row changes
+--     Shown       what a book over the tables shows, and that its tables hold nothing besides
 -- For the code: Faults; Limits, what the numbers of batches keep; Same, that `==` of rows is equality.
+pub mod Changed
 pub mod Decoding
 pub mod Encoding
 pub mod Faults

@@ -1,26 +1,30 @@
-ghost use Rattle.std.specs.Prelude.{◌≡◌, ◌≢◌, [], false, IfOk, IfErr, IsErrAnd};
+ghost use Rattle.std.specs.Prelude.{◌≡◌, ◌≢◌, [], None, false, IfOk, IfErr, IsErrAnd, OnOk, OnErr};
 ghost use Rattle.std.specs.FinMap.{empty};
 ghost use Rattle.std.specs.Option.{option_map};
 ghost use Rattle.std.specs.String.{string_bytes};
 ghost use Rattle.gate_queue.specs.Machine.{empty_state};
+ghost use Rattle.gate_tables.specs.Applied.{applied, no_rows as no_rows_at_all};
 ghost use Rattle.gate_tables.specs.Contents.{AreSame};
 ghost use Rattle.gate_tables.specs.Database.{schema_of};
-ghost use Rattle.gate_sql.specs.Decoding.{state_in};
-ghost use Rattle.gate_sql.specs.Shown.{shown};
-ghost use Rattle.gate_tables.specs.Tables.{is_sound};
-ghost use Rattle.gate_tables.specs.declared.row.Rows.{Rows as RowsOf};
+ghost use Rattle.gate_sql.specs.Encoding as encoding;
+ghost use Rattle.gate_sql.specs.Shown.{shown, Holds, IsHeld};
+ghost use Rattle.gate_tables.specs.Tables.{is_sound, rows_in, answers_in, IsBook};
+ghost use Rattle.gate_store.specs.Answers.{answer_text_of};
 ghost use Rattle.gate_store.specs.Reading.{answer_of};
-ghost use Rattle.gate_store.specs.Run.{IsOfBooks};
+ghost use Rattle.gate_store.specs.Run.{IsOfBooks, kept_under, with_answer};
 ghost use Rattle.sqlite.specs.Held.{state};
 
+use crate::changed::row_changes;
 use crate::fault::told;
-use crate::laws::law_of_rows_of;
+use crate::laws::{
+    is_of_machine, law_of_changed_rows, law_of_keys, law_of_keys_of, law_of_rows_of,
+};
 use crate::reading::gate_of;
 use crate::rows::rows_of;
 use gate_queue::{Fault, Gate};
 use gate_store::{Answer, AnswerFault, Book, answer_text, law_of_texts, read_answer};
-use gate_tables::{Rows, Tables, is_blank};
-use gate_text::{DeliveryId, Text};
+use gate_tables::{RowChange, Rows, Tables, TablesFault, is_blank, law_of_differences};
+use gate_text::{DeliveryId, List, Text};
 use sqlite::{Alter, Connection};
 use std::alloc::{AllocError, Global};
 use std::marker::Model;
@@ -42,12 +46,16 @@ pub struct SqlBook<S: Alter> {
 
 impl<S: Alter> Model for SqlBook<S> {
     ghost use Rattle.sqlite.specs.Held.{Held, held_code};
+    ghost use Rattle.gate_sql.specs.Shown.{Keeps};
 
     ghost Value = { Held S };
 
     ghost coded = { held_code S.code };
 
     ghost view = { λ book. book.tables };
+
+    // Its tables hold the rows and texts of what it shows, and nothing besides.
+    ghost invariant = { λ book. Keeps S.Store book.tables };
 }
 
 impl<S: Alter> SqlBook<S> {
@@ -58,6 +66,7 @@ impl<S: Alter> SqlBook<S> {
     pub fn new(alloc: Global, connection: Connection<S>) -> Result<SqlBook<S>, Refused<S>>
         requires { connection.in_transaction ≡ false }
         ensures value { IfOk result (λ book. is_sound S.Store book → shown S.Store book ≡ record { state = empty_state 1; kept = empty }) }
+        ensures holds { IfOk result (λ book. is_sound S.Store book → Holds S.Store book) }
         ensures taken { (state S.Store connection).now.schema ≢ schema_of [] → IsErrAnd result (λ refused. refused.fault ≡ Fault.Store) }
         ensures same { IfErr result (λ refused. is_sound S.Store refused.connection → (state S.Store refused.connection).now ≡ (state S.Store connection).now) }
         ensures mode { IfErr result (λ refused. refused.connection.in_transaction ≡ false) }
@@ -71,7 +80,12 @@ impl<S: Alter> SqlBook<S> {
                 connection,
             });
         }
-        let first = match first_rows(alloc) {
+        let gate = Gate::new(alloc);
+        law_of_rows_of(&gate);
+        is_of_machine(&gate);
+        let first = first_changes(alloc, &gate);
+        drop(gate);
+        let first = match first {
             Ok(first) => first,
             Err(_) => {
                 return Err(Refused {
@@ -80,8 +94,11 @@ impl<S: Alter> SqlBook<S> {
                 });
             }
         };
-        match Tables::new(connection, &first) {
-            Ok(tables) => Ok(SqlBook { tables }),
+        match Tables::new(connection, first.as_slice()) {
+            Ok(tables) => {
+                tables.connection();
+                Ok(SqlBook { tables })
+            }
             Err(refused) => Err(Refused {
                 fault: told(refused.fault),
                 connection: refused.connection,
@@ -89,11 +106,15 @@ impl<S: Alter> SqlBook<S> {
         }
     }
 
-    /// Hands back the connection as it is.
+    /// Hands back the connection as it is. No transaction is open, and if the connection is sound, its tables hold the rows and
+    /// texts of what the book shows, and nothing besides.
     pub fn into_connection(self) -> Connection<S>
         ensures value { result ≡ self }
+        ensures mode { result.in_transaction ≡ false }
+        ensures holds { is_sound S.Store result → Holds S.Store result }
     {
         let SqlBook { tables } = self;
+        tables.connection();
         tables.into_connection()
     }
 }
@@ -126,18 +147,36 @@ impl<S: Alter> Book for SqlBook<S> {
         answer_in(alloc, body)
     }
 
+    /// Keeps the state of a gate in place of the one before, and an answer under an identifier that has none, both or neither. It
+    /// reads the rows that stand, and writes those that differ from the gate's. If the connection is sound, the tables then hold
+    /// the rows and texts of what the book shows, and nothing besides.
     fn commit(
         &mut self,
         alloc: Global,
         gate: &Gate,
         id: &DeliveryId,
         answer: &Answer,
-    ) -> Result<(), Fault> {
+    ) -> Result<(), Fault>
+        requires free { is_sound S.Store self.old → kept_under (shown S.Store self.old) id.now ≡ None }
+        ensures ok { is_sound S.Store self.new → OnOk result (shown S.Store self.new ≡ with_answer (shown S.Store self.old) gate.now id.now answer.now) }
+        ensures err { is_sound S.Store self.new → OnErr result (shown S.Store self.new ≡ shown S.Store self.old) }
+        ensures holds { is_sound S.Store self.new → Holds S.Store self.new }
+        ensures was { is_sound S.Store self.new → is_sound S.Store self.old }
+        ensures cause { IfErr result IsOfBooks }
+        ensures fault { IfErr result IsOfBooks }
+    {
         law_of_rows_of(gate);
+        is_of_machine(gate);
+        let changes = match changes_to(alloc, &mut self.tables, gate) {
+            Ok(changes) => changes,
+            Err(fault) => return Err(told(fault)),
+        };
         let body = body_of(alloc, answer)?;
-        let rows = rows_of(alloc, gate)?;
-        let written = self.tables.write(&rows, id.text(), body.as_str());
-        drop(rows);
+        let written = self
+            .tables
+            .apply(changes.as_slice(), id.text(), body.as_str());
+        drop(changes);
+        self.tables.connection();
         match written {
             Ok(()) => Ok(()),
             Err(fault) => Err(told(fault)),
@@ -145,15 +184,51 @@ impl<S: Alter> Book for SqlBook<S> {
     }
 }
 
-// The rows of the empty state, which stand for it.
-fn first_rows(alloc: Global) -> Result<Rows, AllocError>
-    ensures { IfOk result (λ first. (rows : RowsOf) → AreSame rows first → state_in rows ≡ empty_state 1) }
+// The row changes that lead from no rows to those of a gate.
+fn first_changes(alloc: Global, gate: &Gate) -> Result<Vec<RowChange>, AllocError>
+    ensures { IfOk result (λ first. AreSame (applied first.items no_rows_at_all) (encoding.rows_of gate.now)) }
 {
-    let gate = Gate::new(alloc);
-    law_of_rows_of(&gate);
-    let first = rows_of(alloc, &gate);
-    drop(gate);
-    Ok(first?)
+    law_of_differences();
+    law_of_keys_of(gate);
+    let rows = rows_of(alloc, gate)?;
+    row_changes(alloc, no_rows(alloc), rows)
+}
+
+fn no_rows(alloc: Global) -> Rows
+    ensures { result ≡ no_rows_at_all }
+{
+    Rows {
+        desk: List::from(Vec::new(alloc)),
+        people: List::from(Vec::new(alloc)),
+        changes: List::from(Vec::new(alloc)),
+        marks: List::from(Vec::new(alloc)),
+        batches: List::from(Vec::new(alloc)),
+        members: List::from(Vec::new(alloc)),
+        statuses: List::from(Vec::new(alloc)),
+    }
+}
+
+// The row changes that lead from the rows of the tables, if they are those of a state, to the rows of a gate.
+fn changes_to<S: Alter>(
+    alloc: Global,
+    tables: &mut Tables<S>,
+    gate: &Gate,
+) -> Result<Vec<RowChange>, TablesFault>
+    ensures led { is_sound S.Store tables.new → IsHeld (rows_in S.Store tables.old) (answers_in S.Store tables.old)
+        → IfOk result (λ changes. AreSame (applied changes.items (rows_in S.Store tables.old)) (encoding.rows_of gate.now)) }
+    ensures same { is_sound S.Store tables.new → (rows_in S.Store tables.new ≡ rows_in S.Store tables.old) × (answers_in S.Store tables.new ≡ answers_in S.Store tables.old) }
+    ensures was { is_sound S.Store tables.new → is_sound S.Store tables.old }
+    ensures book { is_sound S.Store tables.new → IsBook (state S.Store tables.new) }
+{
+    law_of_changed_rows();
+    law_of_keys();
+    is_of_machine(gate);
+    let read = tables.read(alloc);
+    // Its contract tells what the database is.
+    tables.connection();
+    let rows = read?;
+    let now = rows_of(alloc, gate)?;
+    Ok(row_changes(alloc, rows, now)?)
 }
 
 // The answer whose text this is, if there is one. `Store` if it is the text of none.
@@ -174,7 +249,8 @@ fn answer_in(alloc: Global, body: Option<Text>) -> Result<Option<Answer>, Fault>
 
 // The text of an answer, which is read as that answer.
 fn body_of(alloc: Global, answer: &Answer) -> Result<String, AllocError>
-    ensures { IfOk result (λ body. answer_of (string_bytes body) ≡ answer.now) }
+    ensures reads { IfOk result (λ body. answer_of (string_bytes body) ≡ answer.now) }
+    ensures text { IfOk result (λ body. string_bytes body ≡ answer_text_of answer.now) }
 {
     law_of_texts();
     let body = answer_text(alloc, answer)?;

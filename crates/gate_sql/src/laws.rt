@@ -1,5 +1,8 @@
 ghost use Rattle.std.specs.Prelude.{◌≡◌};
+ghost use Rattle.gate_state.specs.State.{IsState};
 ghost use Rattle.gate_tables.specs.Contents.{AreSame};
+ghost use Rattle.gate_tables.specs.Differences.{HaveKeys};
+ghost use Rattle.gate_sql.specs.Changed.{LawOfChangedRows};
 ghost use Rattle.gate_sql.specs.Decoding.{state_in};
 ghost use Rattle.gate_sql.specs.Encoding.{rows_of};
 ghost use Rattle.gate_sql.specs.Standing.{KeepsLimits, LawOfKeys, LawOfRows};
@@ -7,6 +10,7 @@ ghost use Rattle.gate_tables.specs.declared.row.Rows.{Rows};
 
 use gate_queue::Gate;
 use gate_state::law_of_checks;
+use gate_tables::law_of_differences;
 
 /// The law of rows: rows stand for at most one state. The rows of a state, in any order, are read as that state.
 pub fn law_of_rows()
@@ -23,13 +27,38 @@ pub fn law_of_keys()
     law_of_checks();
 }
 
+/// The law of changed rows: those between two states of the machine whose settings and base keep their limits, applied to the rows
+/// of the first in any order, lead to the rows of the second.
+pub fn law_of_changed_rows()
+    ensures { LawOfChangedRows }
+{
+    law_of_keys();
+    law_of_differences();
+}
+
 /// The law of rows for a gate: those of its state, in any order, are read as that state.
 pub(crate) fn law_of_rows_of(gate: &Gate)
     ensures { (rows : Rows) → AreSame (rows_of gate.now) rows → state_in rows ≡ gate.now }
 {
     law_of_rows();
+    is_of_machine(gate);
+}
+
+/// The state of a gate is one of the machine, and keeps the limits of the types that it is made of.
+pub(crate) fn is_of_machine(gate: &Gate)
+    ensures state { IsState gate.now }
+    ensures limits { KeepsLimits gate.now.desk }
+{
     gate.state();
     keeps_limits(gate);
+}
+
+/// The law of keys for a gate: no two of its rows of a table have one key.
+pub(crate) fn law_of_keys_of(gate: &Gate)
+    ensures { HaveKeys (rows_of gate.now) }
+{
+    law_of_keys();
+    is_of_machine(gate);
 }
 
 // What the settings and the base of a gate keep by their types.

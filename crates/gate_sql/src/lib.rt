@@ -1,8 +1,9 @@
-//! The records of the merge bot in a SQLite database: a book over eight tables. One transaction writes all rows and an answer,
-//! or nothing; and by a law the rows of a state stand for that state alone.
+//! The records of the merge bot in a SQLite database: a book over eight tables. One transaction writes the rows that differ and an
+//! answer, or nothing. By a law the rows of a state stand for that state alone.
 #![tactic(auto)]
 
 mod book;
+mod changed;
 mod fault;
 mod laws;
 mod reading;
@@ -10,6 +11,8 @@ mod rows;
 mod sorting;
 
 pub use book::{Refused, SqlBook};
-pub use laws::{law_of_keys, law_of_rows};
+pub use changed::changed_rows;
+pub use gate_tables::{Row, RowChange, RowKey};
+pub use laws::{law_of_changed_rows, law_of_keys, law_of_rows};
 pub use reading::gate_of;
 pub use rows::rows_of;

@@ -5,8 +5,8 @@ use gate_tables::{BatchRow, ChangeRow, DeskRow, MarkRow, MemberRow, PersonRow, R
 use gate_text::List;
 use std::cmp::Reverse;
 
-// A row of which `==` says that it is the same.
-trait Same: Ord + Drop {
+/// A row of which `==` says that it is the same.
+pub(crate) trait Same: Ord + Drop {
     ghost use Rattle.std.specs.Prelude.{◌≡◌, IsTrue};
 
     ghost same: { (one other : Self) → IsTrue (Self.eq one other) → one ≡ other };

@@ -1,14 +1,13 @@
 -- Answers under identifiers that are apart.
 use Rattle.std.proofs.Common.{◌≡◌, ℕ, List, [], ◌∷◌, map, Bool, true, false, cond, Option, Some, None, IsPermutation, refl, sym, ap, ◌∙◌}
-use Rattle.std.specs.Cmp.{eq_by_cmp_equiv}
+use Rattle.std.specs.Cmp.{eq_by_cmp_equiv, Equal-is}
 use Rattle.std.specs.Cmp.Lexicographic.{slice_cmp, nat_list_cmp_total}
 use Rattle.std.specs.FinMap.{IsAntisymmetric, from_entries, insert, get, find, get-from_entries, same_map}
 use Rattle.std.specs.FinSet.{slice_cmp-IsAntisymmetric, nat_cmp-IsAntisymmetric}
 use Rattle.std.specs.List.{AllByRecursion, IsDistinct}
 use Rattle.std.specs.Map.{lookup}
-use Rattle.std.specs.Ordering.{eq_by_cmp, is_eq, nat_cmp}
+use Rattle.std.specs.Ordering.{eq_by_cmp, nat_cmp}
 use Rattle.std.specs.declared.cmp.Ordering.{Ordering}
-use Rattle.std.specs.declared.cmp.Ordering.TheVariants.{Less, Equal, Greater}
 use Rattle.std.proofs.lemmas.List.Sorted.{IsPermutation-sym, IsPermutation-map, Contains-permutation}
 use Rattle.std.proofs.lemmas.Map.Keys.{IsDistinct-IsPermutation}
 use Rattle.std.proofs.lemmas.Map.Views.{Contains-from_lookup, lookup-from_Contains}
@@ -22,16 +21,11 @@ by = slice_cmp nat_cmp
 abbrev same : Bytes → Bytes → Bool
 same = eq_by_cmp by
 
-equal : (o : Ordering) → is_eq o ≡ true → o ≡ Equal
-equal Less h = cc
-equal Equal h = refl
-equal Greater h = cc
-
 one_order : IsAntisymmetric by
 one_order = slice_cmp-IsAntisymmetric nat_cmp-IsAntisymmetric
 
 pub exact : (x y : Bytes) → same x y ≡ true → x ≡ y
-exact x y h = one_order x y (equal (by x y) h)
+exact x y h = one_order x y ((Equal-is (by x y)).0 h)
 
 find-lookup : (q : Bytes) (es : List (Bytes × Bytes)) → find by q es ≡ lookup (same q) es
 find-lookup q [] = refl

@@ -1,22 +1,15 @@
 -- Lists of which no two items are alike, by a test, and what is put into them and taken out.
 use Rattle.std.proofs.Common.{◌≡◌, ◌⊎◌, inl, inr, List, [], ◌∷◌, ◌++◌, map, filter, Bool, true, false, not, ◌||◌, cond, if◌then◌else◌, IsPermutation, refl, sym, ap, subst, ◌∙◌}
 use Rattle.std.specs.List.{list_any}
-use Rattle.std.proofs.lemmas.Bool.{cases_Bool}
+use Rattle.std.proofs.lemmas.Bool.{cases_Bool, not-true}
 use Rattle.std.proofs.lemmas.List.Sorted.{IsPermutation-refl, IsPermutation-sym, IsPermutation-trans, IsPermutation-cons, IsPermutation-middle}
+use Rattle.sqlite_trees.proofs.TreeLemmas.{not_true}
 use Rattle.sqlite_rules.proofs.ListLemmas.{some_has, some_from, has_filtered, has_kept, has_either, has_left, has_right}
 use Rattle.sqlite_rules.specs.Lists.{Has}
 
 true_or_false : {P : Type 0} (b : Bool) → b ≡ true → b ≡ false → P
 true_or_false true p q = absurd cc
 true_or_false false p q = absurd cc
-
-pub not_true : (b : Bool) → (b ≡ true → ⊥) → b ≡ false
-not_true true h = absurd (h refl)
-not_true false h = refl
-
-negated : (b : Bool) → not b ≡ true → b ≡ false
-negated true h = absurd cc
-negated false h = refl
 
 module _ {R : Type 0} (alike : R → R → Bool) (own : (r : R) → alike r r ≡ true) (back : (r x : R) → alike r x ≡ true → alike x r ≡ true)
     (on : (r x y : R) → alike r x ≡ true → alike x y ≡ true → alike r y ≡ true) where
@@ -69,7 +62,7 @@ module _ {R : Type 0} (alike : R → R → Bool) (own : (r : R) → alike r r �
   stays (g ∷ rs) rows x has =
       let more = stays rs (take_out g rows) x has in
       let was = has_filtered (λ y. not (alike g y)) rows x more.0 in
-      (was.0, λ r there. elim there [ inl same ↦ subst (λ z. alike z x ≡ false) (sym same) (negated (alike g x) was.1) | inr later ↦ more.1 r later ])
+      (was.0, λ r there. elim there [ inl same ↦ subst (λ z. alike z x ≡ false) (sym same) (not-true (alike g x) was.1) | inr later ↦ more.1 r later ])
 
   pub left_in : (rs rows : List R) (x : R) → Has rows x → ((r : R) → Has rs r → alike r x ≡ false) → Has (take_out_all rs rows) x
   left_in [] rows x has unlike = has
@@ -254,10 +247,10 @@ module _ {R : Type 0} (alike : R → R → Bool) (own : (r : R) → alike r r �
           let there : Has old x = subst (Has old) (sym (equal_is x twin.0 twin.2)) twin.1 in
           to_all differing left x
           (left_in gone old x there (λ r is_gone. not_true (alike r x) (λ like.
-          let lacking = negated (list_any (alike r) new) (has_filtered (λ z. not (list_any (alike z) new)) old r is_gone).1 in true_or_false (list_any (alike r) new) (some_from (alike r) new x has like) lacking)))
+          let lacking = not-true (list_any (alike r) new) (has_filtered (λ z. not (list_any (alike z) new)) old r is_gone).1 in true_or_false (list_any (alike r) new) (some_from (alike r) new x has like) lacking)))
           (λ r differs. not_true (alike r x) (λ like.
           let it = has_filtered (λ z. not (list_any (equal z) old)) new r differs in
-          let one : r ≡ x = one_of new r x now it.0 has like in true_or_false (list_any (equal r) old) (some_from (equal r) old r (subst (Has old) (sym one) there) (equals r)) (negated (list_any (equal r) old) it.1)))
+          let one : r ≡ x = one_of new r x now it.0 has like in true_or_false (list_any (equal r) old) (some_from (equal r) old r (subst (Has old) (sym one) there) (equals r)) (not-true (list_any (equal r) old) it.1)))
     ]
 
     pub leads : IsPermutation (put_in_all (filter (λ r. not (list_any (equal r) old)) new) (take_out_all (filter (λ r. not (list_any (alike r) new)) old) old)) new

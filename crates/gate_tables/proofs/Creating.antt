@@ -3,7 +3,7 @@ use Rattle.std.proofs.Common.{◌≡◌, ℕ, List, [], ◌∷◌, ◌++◌, fal
 use Rattle.std.specs.List.{AllByRecursion}
 use Rattle.gate_tables.proofs.Inserting.{went, same_value}
 use Rattle.gate_tables.specs.Database.{Layout, table_of}
-use Rattle.gate_tables.specs.Effects.{RanInside, IsInside}
+use Rattle.gate_tables.specs.Effects.{RanInside, IsBare}
 use Rattle.gate_tables.specs.Kept.{IsKept}
 use Rattle.gate_tables.specs.Known.{Creates}
 use Rattle.sqlite.proofs.Callers.{runs_as}
@@ -18,17 +18,23 @@ use Rattle.sqlite.specs.Tree.{Trees}
 use Rattle.sqlite_schema.specs.Rules.{Keeps}
 use Rattle.sqlite_schema.specs.declared.schema.Constraint.TheVariants.{Unique}
 
-all_kept : (old new : Trees) (tables : List Table) (t : Table) → AllByRecursion (λ t. IsKept t (old t.tree)) tables → AllByRecursion (λ t. new t.tree ≡ old t.tree) tables
-    → new t.tree ≡ [] → AllByRecursion (λ t. IsKept t (new t.tree)) (tables ++ t ∷ [])
-all_kept old new [] t had kept none = (subst (IsKept t) (sym none) (record { rowids = refl; rising = tt; whole = refl }), tt)
-all_kept old new (x ∷ xs) t had kept none = (subst (IsKept x) (sym kept.0) had.0, all_kept old new xs t had.1 kept.1 none)
+-- tables without rows, and one more
+still_none : (old new : Trees) (tables : List Table) (t : Table) → AllByRecursion (λ t. old t.tree ≡ []) tables → AllByRecursion (λ t. new t.tree ≡ old t.tree) tables → new t.tree ≡ []
+    → AllByRecursion (λ t. new t.tree ≡ []) (tables ++ t ∷ [])
+still_none old new [] t had same none = (none, tt)
+still_none old new (x ∷ xs) t had same none = (same.0 ∙ had.0, still_none old new xs t had.1 same.1 none)
+
+-- a table without rows keeps what rows keep
+none_kept : (db : Trees) (tables : List Table) → AllByRecursion (λ t. db t.tree ≡ []) tables → AllByRecursion (λ t. IsKept t (db t.tree)) tables
+none_kept db [] none = tt
+none_kept db (t ∷ ts) none = (subst (IsKept t) (sym none.0) (record { rowids = refl; rising = tt; whole = refl }), none_kept db ts none.1)
 
 module _ (front : Schema) (layout : Layout) (after : Schema) (sql : List ℕ) (known : Creates front layout after sql) where
-  -- the schema has one more table, which is empty
-  pub creates : (old new : State) → IsInside front old → RanInside sql [] old new → IsInside after new × (new.now.trees layout.tree ≡ [])
-  creates old new inside ran =
+  -- there is one table more, and none has rows
+  pub creates : (old new : State) → IsBare front old → RanInside sql [] old new → IsBare after new
+  creates old new bare ran =
+      let inside = bare.inside in
       let count = ran.0 in
-      let is = known.is in
       let w = subst (λ t. Writes old new None CreateTable t [] count) known.whole (runs_as sql [] old new front inside.schema_is CreateTable known.is known.plain count ran.1) in
       let all = went w.changed in
       let first = went all.1 in
@@ -41,15 +47,17 @@ module _ (front : Schema) (layout : Layout) (after : Schema) (sql : List ℕ) (k
       let empty : new.now.trees layout.tree ≡ [] = ap (λ (d : Database). d.trees layout.tree) now ∙ subst (λ n. first.0.trees n ≡ []) (ap next_tree inside.schema_is ∙ known.next) made.empty in
       let after_is = ap (λ (d : Database). d.schema) now ∙ schema in
       let kept = subst (λ (s : Schema). AllByRecursion (λ t. new.now.trees t.tree ≡ old.now.trees t.tree) s.tables) inside.schema_is
-      (subst (λ (d : Database). AllByRecursion (λ t. d.trees t.tree ≡ old.now.trees t.tree) old.now.schema.tables) (sym now) made.others) in (
-        record {
+      (subst (λ (d : Database). AllByRecursion (λ t. d.trees t.tree ≡ old.now.trees t.tree) old.now.schema.tables) (sym now) made.others) in
+      let none = subst (AllByRecursion (λ t. new.now.trees t.tree ≡ [])) (sym known.tables) (still_none old.now.trees new.now.trees front.tables (table_of layout) bare.none kept empty) in
+      record {
+        inside = record {
           is_open = ran.2.is_open;
           within = ran.2.mode;
           schema_is = after_is;
           kept = record {
-            tables = subst (λ ts. AllByRecursion (λ t. IsKept t (new.now.trees t.tree)) ts) (sym known.tables) (all_kept old.now.trees new.now.trees front.tables (table_of layout) inside.kept.tables kept empty);
+            tables = none_kept new.now.trees after.tables none;
             unique = subst (λ s. Keeps Unique s new.now.trees) after_is (w.sound.obeys.rules Unique);
           };
-        },
-        empty,
-      )
+        };
+        none = none;
+      }

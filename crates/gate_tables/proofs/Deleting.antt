@@ -5,7 +5,7 @@ use Rattle.std.proofs.lemmas.List.Sorted.{IsPermutation-map}
 use Rattle.gate_tables.proofs.Inserting.{went, same_value}
 use Rattle.gate_tables.proofs.Picking.{finds}
 use Rattle.gate_tables.proofs.Placing.{still_kept, kept_one}
-use Rattle.gate_tables.proofs.Selecting.{picks, map_map}
+use Rattle.gate_tables.proofs.Selecting.{picks}
 use Rattle.gate_tables.proofs.Taking.{filter_same, without_picked, filter_all_true}
 use Rattle.gate_tables.specs.Database.{all_schema, table_of, columns_of, cells}
 use Rattle.gate_tables.specs.Effects.{RanInside, IsInside, Spares}
@@ -31,7 +31,7 @@ use Rattle.sqlite_rules.proofs.ListLemmas.{test_has}
 use Rattle.sqlite_rules.specs.Calls.{ids_of}
 use Rattle.sqlite_schema.specs.declared.schema.Constraint.TheVariants.{Unique}
 use Rattle.sqlite_schema.specs.declared.schema.Keys.TheVariants.{Enforced}
-use Rattle.sqlite_trees.proofs.ListLemmas.{filter-map, ascending-filter}
+use Rattle.sqlite_trees.proofs.ListLemmas.{filter-map, ascending-filter, map-map}
 
 module _ {R : Type 0} (form : Form R) (known : IsKeyed form) (key : Row) (given : IsGivenAt 0 key key) (front : is_front form.layout.columns key ≡ true) (wide : length key ≡ key_width form.layout) where
   abbrev passes : Row → Bool
@@ -59,7 +59,7 @@ module _ {R : Type 0} (form : Form R) (known : IsKeyed form) (key : Row) (given 
       let same = ap (λ (d : Database). d.trees) now ∙ trees in
       let rows = filter passes (db form.layout.tree) in
       let shown = picks form.layout.tree test (col 1 0 ∷ []) (record { schema = all_schema; trees = db }) key found.0 found.1 in
-      let ids = subst (λ ids. IsPermutation ids (ids_of found.0)) (map_map (λ (r : Row). id_in (rowid r)) (λ (r : Row). rowid r ∷ []) rows) (IsPermutation-map (λ (r : Row). id_in (rowid r)) _ found.0 shown) in (
+      let ids = subst (λ ids. IsPermutation ids (ids_of found.0)) (map-map (λ (r : Row). id_in (rowid r)) (λ (r : Row). rowid r ∷ []) rows) (IsPermutation-map (λ (r : Row). id_in (rowid r)) _ found.0 shown) in (
         ap (λ (d : Database). d.schema) now,
         ids_of found.0,
         ids,
@@ -68,7 +68,7 @@ module _ {R : Type 0} (form : Form R) (known : IsKeyed form) (key : Row) (given 
 
   -- the rows that begin with the key are gone, and no other table differs
   pub delete_drops : (old new : State) → IsInside all_schema old → RanInside (delete_text form.layout) key old new
-      → IsInside all_schema new × (cells form.layout new.now.trees ≡ filter (λ c. not (begin_with key c)) (cells form.layout old.now.trees)) × Spares all_schema (λ t. t ≡ form.layout.tree) old.now.trees new.now.trees
+      → IsInside all_schema new × (cells form.layout new.now.trees ≡ filter (λ c. not (begin_with key c)) (cells form.layout old.now.trees)) × Spares form.layout.tree old.now.trees new.now.trees
   delete_drops old new inside ran =
       let all = edits old new inside.schema_is ran in
       let it = all.3 in

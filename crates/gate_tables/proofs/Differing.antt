@@ -1,11 +1,11 @@
 -- The differences of rows, applied, lead from one to the other: table by table, by keys that are compared column by column.
 use Rattle.std.proofs.Common.{◌≡◌, ◌≢◌, ℕ, zero, suc, List, [], ◌∷◌, take, length, Bool, true, false, ◌||◌, IsPermutation, refl, sym, ap, subst, ◌∙◌}
 use Rattle.std.specs.List.{AllByRecursion, list_any}
+use Rattle.std.specs.Cmp.{eq_by_cmp_equiv}
 use Rattle.std.specs.Ordering.{is_eq}
-use Rattle.std.proofs.lemmas.Bool.{and_from}
-use Rattle.gate_tables.proofs.ByKey.{not_true, Apart, put_in_all, take_out_all, leads}
-use Rattle.gate_tables.proofs.Clearing.{tied}
-use Rattle.gate_tables.proofs.Placing.{first_true, second_true}
+use Rattle.std.proofs.Math.Seq.{take-length}
+use Rattle.std.proofs.lemmas.Bool.{and_from, and_parts}
+use Rattle.gate_tables.proofs.ByKey.{Apart, put_in_all, take_out_all, leads}
 use Rattle.gate_tables.proofs.Testing.{begins}
 use Rattle.gate_tables.specs.Applied.{put, without}
 use Rattle.gate_tables.specs.Differences.{gone, differing, is_same, AreApart}
@@ -14,6 +14,7 @@ use Rattle.gate_tables.specs.Kept.{is_of_kind, is_whole}
 use Rattle.gate_tables.specs.Keys.{key_of, begin_with, has_key, is_front}
 use Rattle.gate_tables.specs.Known.{IsKeyed}
 use Rattle.gate_tables.specs.Texts.{key_width}
+use Rattle.sqlite_trees.proofs.TreeLemmas.{not_true}
 use Rattle.sqlite.specs.Order.{Row}
 use Rattle.sqlite_schema.specs.declared.schema.Column.{Column}
 use Rattle.sqlite_value.proofs.OrderLemmas.{value_cmp_total}
@@ -23,13 +24,13 @@ use Rattle.sqlite_value.specs.Order.{value_cmp}
 begins_itself : (n : ℕ) (row : Row) → begin_with (take n row) row ≡ true
 begins_itself zero row = refl
 begins_itself (suc n) [] = refl
-begins_itself (suc n) (v ∷ row) = and_from (is_eq (value_cmp v v)) _ (tied (value_cmp v v) (value_cmp_total.antisymm v v)) (begins_itself n row)
+begins_itself (suc n) (v ∷ row) = and_from (is_eq (value_cmp v v)) _ ((eq_by_cmp_equiv value_cmp_total).refl v) (begins_itself n row)
 
 whole_front : (columns : List Column) (row : Row) → is_whole columns row ≡ true → is_front columns row ≡ true
 whole_front [] [] h = refl
 whole_front [] (v ∷ row) h = absurd cc
 whole_front (c ∷ columns) [] h = refl
-whole_front (c ∷ columns) (v ∷ row) h = and_from (is_of_kind c.kind v) _ (first_true (is_of_kind c.kind v) _ h) (whole_front columns row (second_true (is_of_kind c.kind v) _ h))
+whole_front (c ∷ columns) (v ∷ row) h = and_from (is_of_kind c.kind v) _ (and_parts (is_of_kind c.kind v) _ h).0 (whole_front columns row (and_parts (is_of_kind c.kind v) _ h).1)
 
 same_width : (columns : List Column) (a b : Row) → is_whole columns a ≡ true → is_whole columns b ≡ true → length a ≡ length b
 same_width [] [] [] p q = refl
@@ -37,7 +38,7 @@ same_width [] [] (v ∷ b) p q = absurd cc
 same_width [] (v ∷ a) b p q = absurd cc
 same_width (c ∷ columns) [] b p q = absurd cc
 same_width (c ∷ columns) (v ∷ a) [] p q = absurd cc
-same_width (c ∷ columns) (v ∷ a) (w ∷ b) p q = ap suc (same_width columns a b (second_true (is_of_kind c.kind v) _ p) (second_true (is_of_kind c.kind w) _ q))
+same_width (c ∷ columns) (v ∷ a) (w ∷ b) p q = ap suc (same_width columns a b (and_parts (is_of_kind c.kind v) _ p).1 (and_parts (is_of_kind c.kind w) _ q).1)
 
 -- what is done for each of some rows, one after the other
 abbrev pub act_all : {R : Type 0} → (R → List R → List R) → List R → List R → List R
@@ -49,7 +50,7 @@ module _ {R : Type 0} (form : Form R) (known : IsKeyed form) where
   alike r x = has_key form (key_of form r) x
 
   -- rows are alike if and only if they have one key
-  alike_is : (r x : R) → alike r x ≡ true → key_of form x ≡ key_of form r
+  pub alike_is : (r x : R) → alike r x ≡ true → key_of form x ≡ key_of form r
   alike_is r x h =
       ap (λ n. take n (form.values x)) (sym (known.fronts r).1) ∙ begins form.layout.columns (form.values x) (key_of form r) (known.fronts r).0 (known.known.wholes x) h
 
@@ -65,22 +66,17 @@ module _ {R : Type 0} (form : Form R) (known : IsKeyed form) where
   on : (r x y : R) → alike r x ≡ true → alike x y ≡ true → alike r y ≡ true
   on r x y p q = one_key r y (alike_is x y q ∙ alike_is r x p)
 
-  whole_begins : (row : Row) → begin_with row row ≡ true
-  whole_begins [] = refl
-  whole_begins (v ∷ row) = and_from (is_eq (value_cmp v v)) _ (tied (value_cmp v v) (value_cmp_total.antisymm v v)) (whole_begins row)
+  pub same_as_itself : (r : R) → is_same form r r ≡ true
+  same_as_itself r = let row = form.values r in ap (λ front. begin_with front row) (sym (take-length row)) ∙ begins_itself (length row) row
 
-  same_is : (r x : R) → is_same form r x ≡ true → r ≡ x
+  pub same_is : (r x : R) → is_same form r x ≡ true → r ≡ x
   same_is r x h =
       let a = form.values r in
       let b = form.values x in
       let front = begins form.layout.columns b a (whole_front form.layout.columns a (known.known.wholes r)) (known.known.wholes x) h in
       let wide : length a ≡ length b = same_width form.layout.columns a b (known.known.wholes r) (known.known.wholes x) in
-      let all : b ≡ a = sym (take_whole b) ∙ ap (λ n. take n b) (sym wide) ∙ front in
+      let all : b ≡ a = sym (take-length b) ∙ ap (λ n. take n b) (sym wide) ∙ front in
       sym (known.known.reads r) ∙ ap form.read (sym all) ∙ known.known.reads x
-    where
-      take_whole : (xs : Row) → take (length xs) xs ≡ xs
-      take_whole [] = refl
-      take_whole (x ∷ xs) = ap (λ l. x ∷ l) (take_whole xs)
 
   abbrev pub drop_all : List R → List R → List R
   drop_all = act_all (λ g rows. without form (key_of form g) rows)
@@ -111,4 +107,4 @@ module _ {R : Type 0} (form : Form R) (known : IsKeyed form) where
   pub table_leads : (old new : List R) → AreApart form old → AreApart form new → IsPermutation (put_all (differing form old new) (drop_all (gone form old new) old)) new
   table_leads old new was now =
       subst (λ l. IsPermutation l new) (sym (puts_are (differing form old new) (drop_all (gone form old new) old) ∙ ap (put_in_all alike own back on (differing form old new)) (drops_are (gone form old new) old)))
-      (leads alike own back on (is_same form) same_is (λ r. whole_begins (form.values r)) old new (apart_is old was) (apart_is new now))
+      (leads alike own back on (is_same form) same_is same_as_itself old new (apart_is old was) (apart_is new now))

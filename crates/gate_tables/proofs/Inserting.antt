@@ -1,8 +1,8 @@
 -- What an INSERT of one row makes of the tables.
 use Rattle.std.proofs.Common.{◌≡◌, ◌⊎◌, inl, inr, List, [], ◌∷◌, map, length, Option, None, Ok, Err, Result, IsPermutation, refl, sym, ap, subst, subst₂, ◌∙◌, append-nil, ◌/◌}
-use Rattle.gate_tables.proofs.Placing.{put_adds, put_keyed, fresh_one, still_kept, all_moved}
 use Rattle.std.proofs.lemmas.Bool.{and_from}
 use Rattle.std.proofs.lemmas.List.Sorted.{IsPermutation-map}
+use Rattle.gate_tables.proofs.Placing.{put_adds, put_keyed, fresh_one, still_kept, all_moved}
 use Rattle.gate_tables.specs.Database.{all_schema, table_of, columns_of, cells}
 use Rattle.gate_tables.specs.Effects.{RanInside, IsInside, Adds}
 use Rattle.gate_tables.specs.Forms.{Form}
@@ -65,7 +65,7 @@ module _ {R : Type 0} (form : Form R) (known : IsKnown form) (r : R) where
       )
 
   -- the row is added, and no other table differs
-  pub insert_adds : (old new : State) → IsInside all_schema old → RanInside form.insert (form.values r) old new → IsInside all_schema new × Adds all_schema form r old.now.trees new.now.trees
+  pub insert_adds : (old new : State) → IsInside all_schema old → RanInside form.insert (form.values r) old new → IsInside all_schema new × Adds form r old.now.trees new.now.trees
   insert_adds old new inside ran =
       let both = edits old new inside.schema_is ran in
       let it = both.1 in

@@ -1,12 +1,14 @@
 -- The differences of all rows, applied, lead from one to the other: the deletions table by table, and then the puts.
 use Rattle.std.proofs.Common.{◌≡◌, List, [], ◌∷◌, ◌++◌, map, refl, sym, ap, subst, ◌∙◌}
-use Rattle.gate_tables.proofs.Differing.{act_all, table_leads}
+use Rattle.gate_tables.proofs.Applying.{applied_both, applied_same, then_same}
+use Rattle.gate_tables.proofs.Differing.{act_all, drop_all, put_all, table_leads}
 use Rattle.gate_tables.specs.Applied.{put, without, applied, changed}
 use Rattle.gate_tables.specs.Contents.{AreSame}
-use Rattle.gate_tables.specs.Differences.{gone, differing, deletions, puts, LawOfDifferences}
+use Rattle.gate_tables.specs.Differences.{gone, differing, differences, LawOfDifferences}
 use Rattle.gate_tables.specs.Forms as forms
 use Rattle.gate_tables.specs.Forms.{Form}
 use Rattle.gate_tables.specs.Keys.{key_of}
+use Rattle.gate_tables.specs.Known.{IsKeyed}
 use Rattle.gate_tables.specs.Desk as desk_texts
 use Rattle.gate_tables.specs.People as people_texts
 use Rattle.gate_tables.specs.Changes as changes_texts
@@ -27,147 +29,155 @@ use Rattle.gate_tables.specs.declared.row.MemberRow.{MemberRow}
 use Rattle.gate_tables.specs.declared.row.StatusRow.{StatusRow}
 use Rattle.gate_tables.specs.declared.row.Rows.{Rows}
 
--- the rows of one table among all
+-- the rows of one table among all, and the changes of one of them
 record Part (R : Type 0) : Type 0 where
-  get : Rows → List R
-  set : List R → Rows → Rows
-  got : (xs : List R) (rows : Rows) → get (set xs rows) ≡ xs
-  again : (xs ys : List R) (rows : Rows) → set xs (set ys rows) ≡ set xs rows
-  itself : (rows : Rows) → set (get rows) rows ≡ rows
+  form : Form R
+  keyed : IsKeyed form
+  rows_in : Rows → List R
+  over : (List R → List R) → Rows → Rows
+  putting : R → RowChange
+  deleting : R → RowChange
+  nothing : (rows : Rows) → over (λ xs. xs) rows ≡ rows
+  twice : (f g : List R → List R) (rows : Rows) → over f (over g rows) ≡ over (λ xs. f (g xs)) rows
+  puts : (r : R) (rows : Rows) → changed (putting r) rows ≡ over (put form r) rows
+  deletes : (r : R) (rows : Rows) → changed (deleting r) rows ≡ over (without form (key_of form r)) rows
 
-applied_both : (cs ds : List RowChange) (rows : Rows) → applied (cs ++ ds) rows ≡ applied ds (applied cs rows)
-applied_both [] ds rows = refl
-applied_both (c ∷ cs) ds rows = applied_both cs ds (changed c rows)
+-- row changes lead from some rows to others
+record Leads (cs : List RowChange) (from to : Rows) : Type 0 where
+  is : applied cs from ≡ to
 
-module _ {R : Type 0} (part : Part R) (act : R → List R → List R) (change : R → RowChange) (each : (r : R) (rows : Rows) → changed (change r) rows ≡ part.set (act r (part.get rows)) rows) where
+none_lead : (rows : Rows) → Leads [] rows rows
+none_lead rows = record { is = refl }
+
+lead_on : {cs ds : List RowChange} {a b c : Rows} → Leads cs a b → Leads ds b c → Leads (cs ++ ds) a c
+lead_on {cs} {ds} {a} p q = record { is = applied_both cs ds a ∙ ap (applied ds) p.is ∙ q.is }
+
+module _ {R : Type 0} (part : Part R) where
   -- changes of one table, one after the other
-  applied_to : (rs : List R) (rows : Rows) → applied (map change rs) rows ≡ part.set (act_all act rs (part.get rows)) rows
-  applied_to [] rows = sym (part.itself rows)
-  applied_to (r ∷ rs) rows =
-      let next = part.set (act r (part.get rows)) rows in
-      ap (applied (map change rs)) (each r rows) ∙ applied_to rs next ∙ ap (λ xs. part.set (act_all act rs xs) next) (part.got (act r (part.get rows)) rows)
-      ∙ part.again (act_all act rs (act r (part.get rows))) (act r (part.get rows)) rows
+  changes_lead : (change : R → RowChange) (act : R → List R → List R) → ((r : R) (rows : Rows) → changed (change r) rows ≡ part.over (act r) rows) → (rs : List R) (rows : Rows)
+      → Leads (map change rs) rows (part.over (act_all act rs) rows)
+  changes_lead change act each [] rows = record { is = sym (part.nothing rows) }
+  changes_lead change act each (r ∷ rs) rows =
+      record { is = ap (applied (map change rs)) (each r rows) ∙ (changes_lead change act each rs (part.over (act r) rows)).is ∙ part.twice (act_all act rs) (act r) rows }
+
+  module _ (old new : Rows) where
+    abbrev leaving : List R
+    leaving = gone part.form (part.rows_in old) (part.rows_in new)
+
+    abbrev arriving : List R
+    arriving = differing part.form (part.rows_in old) (part.rows_in new)
+
+    -- after some changes come the deletions in one table, or the puts into it
+    then_deletes : {cs : List RowChange} {a b : Rows} → Leads cs a b → Leads (cs ++ map part.deleting leaving) a (part.over (drop_all part.form part.keyed leaving) b)
+    then_deletes {b = b} so_far = lead_on so_far (changes_lead part.deleting (λ r. without part.form (key_of part.form r)) part.deletes leaving b)
+
+    then_puts : {cs : List RowChange} {a b : Rows} → Leads cs a b → Leads (cs ++ map part.putting arriving) a (part.over (put_all part.form part.keyed arriving) b)
+    then_puts {b = b} so_far = lead_on so_far (changes_lead part.putting (put part.form) part.puts arriving b)
 
 abbrev desk_part : Part DeskRow
-desk_part = record { get = λ rows. rows.desk; set = λ xs rows. record rows { desk = xs }; got = λ xs rows. refl; again = λ xs ys rows. refl; itself = λ rows. refl }
+desk_part = record {
+  form = forms.desk;
+  keyed = desk_texts.keyed;
+  rows_in = λ rows. rows.desk;
+  over = λ f rows. record rows { desk = f rows.desk };
+  putting = λ r. Put (row.Desk r);
+  deleting = λ r. Delete (key.Desk r.one);
+  nothing = λ rows. refl;
+  twice = λ f g rows. refl;
+  puts = λ r rows. refl;
+  deletes = λ r rows. refl;
+}
 
 abbrev people_part : Part PersonRow
-people_part = record { get = λ rows. rows.people; set = λ xs rows. record rows { people = xs }; got = λ xs rows. refl; again = λ xs ys rows. refl; itself = λ rows. refl }
+people_part = record {
+  form = forms.people;
+  keyed = people_texts.keyed;
+  rows_in = λ rows. rows.people;
+  over = λ f rows. record rows { people = f rows.people };
+  putting = λ r. Put (row.People r);
+  deleting = λ r. Delete (key.People r.name);
+  nothing = λ rows. refl;
+  twice = λ f g rows. refl;
+  puts = λ r rows. refl;
+  deletes = λ r rows. refl;
+}
 
 abbrev changes_part : Part ChangeRow
-changes_part = record { get = λ rows. rows.changes; set = λ xs rows. record rows { changes = xs }; got = λ xs rows. refl; again = λ xs ys rows. refl; itself = λ rows. refl }
+changes_part = record {
+  form = forms.changes;
+  keyed = changes_texts.keyed;
+  rows_in = λ rows. rows.changes;
+  over = λ f rows. record rows { changes = f rows.changes };
+  putting = λ r. Put (row.Changes r);
+  deleting = λ r. Delete (key.Changes r.number);
+  nothing = λ rows. refl;
+  twice = λ f g rows. refl;
+  puts = λ r rows. refl;
+  deletes = λ r rows. refl;
+}
 
 abbrev marks_part : Part MarkRow
-marks_part = record { get = λ rows. rows.marks; set = λ xs rows. record rows { marks = xs }; got = λ xs rows. refl; again = λ xs ys rows. refl; itself = λ rows. refl }
+marks_part = record {
+  form = forms.marks;
+  keyed = marks_texts.keyed;
+  rows_in = λ rows. rows.marks;
+  over = λ f rows. record rows { marks = f rows.marks };
+  putting = λ r. Put (row.Marks r);
+  deleting = λ r. Delete (key.Marks r.change_no r.kind r.word);
+  nothing = λ rows. refl;
+  twice = λ f g rows. refl;
+  puts = λ r rows. refl;
+  deletes = λ r rows. refl;
+}
 
 abbrev batches_part : Part BatchRow
-batches_part = record { get = λ rows. rows.batches; set = λ xs rows. record rows { batches = xs }; got = λ xs rows. refl; again = λ xs ys rows. refl; itself = λ rows. refl }
+batches_part = record {
+  form = forms.batches;
+  keyed = batches_texts.keyed;
+  rows_in = λ rows. rows.batches;
+  over = λ f rows. record rows { batches = f rows.batches };
+  putting = λ r. Put (row.Batches r);
+  deleting = λ r. Delete (key.Batches r.number);
+  nothing = λ rows. refl;
+  twice = λ f g rows. refl;
+  puts = λ r rows. refl;
+  deletes = λ r rows. refl;
+}
 
 abbrev members_part : Part MemberRow
-members_part = record { get = λ rows. rows.members; set = λ xs rows. record rows { members = xs }; got = λ xs rows. refl; again = λ xs ys rows. refl; itself = λ rows. refl }
+members_part = record {
+  form = forms.members;
+  keyed = members_texts.keyed;
+  rows_in = λ rows. rows.members;
+  over = λ f rows. record rows { members = f rows.members };
+  putting = λ r. Put (row.Members r);
+  deleting = λ r. Delete (key.Members r.batch r.place);
+  nothing = λ rows. refl;
+  twice = λ f g rows. refl;
+  puts = λ r rows. refl;
+  deletes = λ r rows. refl;
+}
 
 abbrev statuses_part : Part StatusRow
-statuses_part = record { get = λ rows. rows.statuses; set = λ xs rows. record rows { statuses = xs }; got = λ xs rows. refl; again = λ xs ys rows. refl; itself = λ rows. refl }
-
--- the rows that are left by the deletions, and those that the puts make of any
-abbrev left : Rows → Rows → Rows
-left old new = record {
-  desk = act_all (λ r rows. without forms.desk (key_of forms.desk r) rows) (gone forms.desk old.desk new.desk) old.desk;
-  people = act_all (λ r rows. without forms.people (key_of forms.people r) rows) (gone forms.people old.people new.people) old.people;
-  changes = act_all (λ r rows. without forms.changes (key_of forms.changes r) rows) (gone forms.changes old.changes new.changes) old.changes;
-  marks = act_all (λ r rows. without forms.marks (key_of forms.marks r) rows) (gone forms.marks old.marks new.marks) old.marks;
-  batches = act_all (λ r rows. without forms.batches (key_of forms.batches r) rows) (gone forms.batches old.batches new.batches) old.batches;
-  members = act_all (λ r rows. without forms.members (key_of forms.members r) rows) (gone forms.members old.members new.members) old.members;
-  statuses = act_all (λ r rows. without forms.statuses (key_of forms.statuses r) rows) (gone forms.statuses old.statuses new.statuses) old.statuses;
+statuses_part = record {
+  form = forms.statuses;
+  keyed = statuses_texts.keyed;
+  rows_in = λ rows. rows.statuses;
+  over = λ f rows. record rows { statuses = f rows.statuses };
+  putting = λ r. Put (row.Statuses r);
+  deleting = λ r. Delete (key.Statuses r.batch r.name);
+  nothing = λ rows. refl;
+  twice = λ f g rows. refl;
+  puts = λ r rows. refl;
+  deletes = λ r rows. refl;
 }
-
-abbrev filled : Rows → Rows → Rows → Rows
-filled old new rows = record {
-  desk = act_all (put forms.desk) (differing forms.desk old.desk new.desk) rows.desk;
-  people = act_all (put forms.people) (differing forms.people old.people new.people) rows.people;
-  changes = act_all (put forms.changes) (differing forms.changes old.changes new.changes) rows.changes;
-  marks = act_all (put forms.marks) (differing forms.marks old.marks new.marks) rows.marks;
-  batches = act_all (put forms.batches) (differing forms.batches old.batches new.batches) rows.batches;
-  members = act_all (put forms.members) (differing forms.members old.members new.members) rows.members;
-  statuses = act_all (put forms.statuses) (differing forms.statuses old.statuses new.statuses) rows.statuses;
-}
-
-deleted : (old new : Rows) → applied (deletions old new) old ≡ left old new
-deleted old new =
-    let c0 = map (λ (r : DeskRow). Delete (key.Desk r.one)) (gone forms.desk old.desk new.desk) in
-    let e0 = applied_to desk_part (λ r rows. without forms.desk (key_of forms.desk r) rows) (λ (r : DeskRow). Delete (key.Desk r.one)) (λ r rows. refl) (gone forms.desk old.desk new.desk) old in
-    let p0 = e0 in
-    let s0 = desk_part.set (act_all (λ r rows. without forms.desk (key_of forms.desk r) rows) (gone forms.desk old.desk new.desk) (desk_part.get old)) old in
-    let c1 = map (λ (r : PersonRow). Delete (key.People r.name)) (gone forms.people old.people new.people) in
-    let e1 = applied_to people_part (λ r rows. without forms.people (key_of forms.people r) rows) (λ (r : PersonRow). Delete (key.People r.name)) (λ r rows. refl) (gone forms.people old.people new.people) s0 in
-    let p1 = applied_both c0 c1 old ∙ ap (applied c1) p0 ∙ e1 in
-    let f1 = c0 ++ c1 in
-    let s1 = people_part.set (act_all (λ r rows. without forms.people (key_of forms.people r) rows) (gone forms.people old.people new.people) (people_part.get s0)) s0 in
-    let c2 = map (λ (r : ChangeRow). Delete (key.Changes r.number)) (gone forms.changes old.changes new.changes) in
-    let e2 = applied_to changes_part (λ r rows. without forms.changes (key_of forms.changes r) rows) (λ (r : ChangeRow). Delete (key.Changes r.number)) (λ r rows. refl) (gone forms.changes old.changes new.changes) s1 in
-    let p2 = applied_both f1 c2 old ∙ ap (applied c2) p1 ∙ e2 in
-    let f2 = f1 ++ c2 in
-    let s2 = changes_part.set (act_all (λ r rows. without forms.changes (key_of forms.changes r) rows) (gone forms.changes old.changes new.changes) (changes_part.get s1)) s1 in
-    let c3 = map (λ (r : MarkRow). Delete (key.Marks r.change_no r.kind r.word)) (gone forms.marks old.marks new.marks) in
-    let e3 = applied_to marks_part (λ r rows. without forms.marks (key_of forms.marks r) rows) (λ (r : MarkRow). Delete (key.Marks r.change_no r.kind r.word)) (λ r rows. refl) (gone forms.marks old.marks new.marks) s2 in
-    let p3 = applied_both f2 c3 old ∙ ap (applied c3) p2 ∙ e3 in
-    let f3 = f2 ++ c3 in
-    let s3 = marks_part.set (act_all (λ r rows. without forms.marks (key_of forms.marks r) rows) (gone forms.marks old.marks new.marks) (marks_part.get s2)) s2 in
-    let c4 = map (λ (r : BatchRow). Delete (key.Batches r.number)) (gone forms.batches old.batches new.batches) in
-    let e4 = applied_to batches_part (λ r rows. without forms.batches (key_of forms.batches r) rows) (λ (r : BatchRow). Delete (key.Batches r.number)) (λ r rows. refl) (gone forms.batches old.batches new.batches) s3 in
-    let p4 = applied_both f3 c4 old ∙ ap (applied c4) p3 ∙ e4 in
-    let f4 = f3 ++ c4 in
-    let s4 = batches_part.set (act_all (λ r rows. without forms.batches (key_of forms.batches r) rows) (gone forms.batches old.batches new.batches) (batches_part.get s3)) s3 in
-    let c5 = map (λ (r : MemberRow). Delete (key.Members r.batch r.place)) (gone forms.members old.members new.members) in
-    let e5 = applied_to members_part (λ r rows. without forms.members (key_of forms.members r) rows) (λ (r : MemberRow). Delete (key.Members r.batch r.place)) (λ r rows. refl) (gone forms.members old.members new.members) s4 in
-    let p5 = applied_both f4 c5 old ∙ ap (applied c5) p4 ∙ e5 in
-    let f5 = f4 ++ c5 in
-    let s5 = members_part.set (act_all (λ r rows. without forms.members (key_of forms.members r) rows) (gone forms.members old.members new.members) (members_part.get s4)) s4 in
-    let c6 = map (λ (r : StatusRow). Delete (key.Statuses r.batch r.name)) (gone forms.statuses old.statuses new.statuses) in
-    let e6 = applied_to statuses_part (λ r rows. without forms.statuses (key_of forms.statuses r) rows) (λ (r : StatusRow). Delete (key.Statuses r.batch r.name)) (λ r rows. refl) (gone forms.statuses old.statuses new.statuses) s5 in
-    let p6 = applied_both f5 c6 old ∙ ap (applied c6) p5 ∙ e6 in
-    p6
-
-put_all : (old new rows : Rows) → applied (puts old new) rows ≡ filled old new rows
-put_all old new rows =
-    let c0 = map (λ (r : DeskRow). Put (row.Desk r)) (differing forms.desk old.desk new.desk) in
-    let e0 = applied_to desk_part (put forms.desk) (λ (r : DeskRow). Put (row.Desk r)) (λ r rows. refl) (differing forms.desk old.desk new.desk) rows in
-    let p0 = e0 in
-    let s0 = desk_part.set (act_all (put forms.desk) (differing forms.desk old.desk new.desk) (desk_part.get rows)) rows in
-    let c1 = map (λ (r : PersonRow). Put (row.People r)) (differing forms.people old.people new.people) in
-    let e1 = applied_to people_part (put forms.people) (λ (r : PersonRow). Put (row.People r)) (λ r rows. refl) (differing forms.people old.people new.people) s0 in
-    let p1 = applied_both c0 c1 rows ∙ ap (applied c1) p0 ∙ e1 in
-    let f1 = c0 ++ c1 in
-    let s1 = people_part.set (act_all (put forms.people) (differing forms.people old.people new.people) (people_part.get s0)) s0 in
-    let c2 = map (λ (r : ChangeRow). Put (row.Changes r)) (differing forms.changes old.changes new.changes) in
-    let e2 = applied_to changes_part (put forms.changes) (λ (r : ChangeRow). Put (row.Changes r)) (λ r rows. refl) (differing forms.changes old.changes new.changes) s1 in
-    let p2 = applied_both f1 c2 rows ∙ ap (applied c2) p1 ∙ e2 in
-    let f2 = f1 ++ c2 in
-    let s2 = changes_part.set (act_all (put forms.changes) (differing forms.changes old.changes new.changes) (changes_part.get s1)) s1 in
-    let c3 = map (λ (r : MarkRow). Put (row.Marks r)) (differing forms.marks old.marks new.marks) in
-    let e3 = applied_to marks_part (put forms.marks) (λ (r : MarkRow). Put (row.Marks r)) (λ r rows. refl) (differing forms.marks old.marks new.marks) s2 in
-    let p3 = applied_both f2 c3 rows ∙ ap (applied c3) p2 ∙ e3 in
-    let f3 = f2 ++ c3 in
-    let s3 = marks_part.set (act_all (put forms.marks) (differing forms.marks old.marks new.marks) (marks_part.get s2)) s2 in
-    let c4 = map (λ (r : BatchRow). Put (row.Batches r)) (differing forms.batches old.batches new.batches) in
-    let e4 = applied_to batches_part (put forms.batches) (λ (r : BatchRow). Put (row.Batches r)) (λ r rows. refl) (differing forms.batches old.batches new.batches) s3 in
-    let p4 = applied_both f3 c4 rows ∙ ap (applied c4) p3 ∙ e4 in
-    let f4 = f3 ++ c4 in
-    let s4 = batches_part.set (act_all (put forms.batches) (differing forms.batches old.batches new.batches) (batches_part.get s3)) s3 in
-    let c5 = map (λ (r : MemberRow). Put (row.Members r)) (differing forms.members old.members new.members) in
-    let e5 = applied_to members_part (put forms.members) (λ (r : MemberRow). Put (row.Members r)) (λ r rows. refl) (differing forms.members old.members new.members) s4 in
-    let p5 = applied_both f4 c5 rows ∙ ap (applied c5) p4 ∙ e5 in
-    let f5 = f4 ++ c5 in
-    let s5 = members_part.set (act_all (put forms.members) (differing forms.members old.members new.members) (members_part.get s4)) s4 in
-    let c6 = map (λ (r : StatusRow). Put (row.Statuses r)) (differing forms.statuses old.statuses new.statuses) in
-    let e6 = applied_to statuses_part (put forms.statuses) (λ (r : StatusRow). Put (row.Statuses r)) (λ r rows. refl) (differing forms.statuses old.statuses new.statuses) s5 in
-    let p6 = applied_both f5 c6 rows ∙ ap (applied c6) p5 ∙ e6 in
-    p6
 
 pub differences_lead : LawOfDifferences
-differences_lead old new was now =
-    let all : applied (deletions old new ++ puts old new) old ≡ filled old new (left old new) = applied_both (deletions old new) (puts old new) old ∙ ap (applied (puts old new)) (deleted old new) ∙ put_all old new (left old new) in
-    subst (λ rows. AreSame rows new) (sym all) (record {
+differences_lead old new rows was now same =
+    let deleted = then_deletes statuses_part old new (then_deletes members_part old new (then_deletes batches_part old new (then_deletes marks_part old new (then_deletes changes_part old new (then_deletes people_part old new (then_deletes desk_part old new (none_lead old))))))) in
+    let put = then_puts statuses_part old new (then_puts members_part old new (then_puts batches_part old new (then_puts marks_part old new (then_puts changes_part old new (then_puts people_part old new (then_puts desk_part old new (none_lead _))))))) in
+    let all = lead_on deleted put in
+    then_same (applied (differences old new) rows) (applied (differences old new) old) new (applied_same (differences old new) rows old same) (subst (λ to. AreSame to new) (sym all.is) (record {
       desk = table_leads forms.desk desk_texts.keyed old.desk new.desk was.desk now.desk;
       people = table_leads forms.people people_texts.keyed old.people new.people was.people now.people;
       changes = table_leads forms.changes changes_texts.keyed old.changes new.changes was.changes now.changes;
@@ -175,4 +185,4 @@ differences_lead old new was now =
       batches = table_leads forms.batches batches_texts.keyed old.batches new.batches was.batches now.batches;
       members = table_leads forms.members members_texts.keyed old.members new.members was.members now.members;
       statuses = table_leads forms.statuses statuses_texts.keyed old.statuses new.statuses was.statuses now.statuses;
-    })
+    }))

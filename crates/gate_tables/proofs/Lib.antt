@@ -1,12 +1,9 @@
 pub mod Answering
 pub mod Applying
 pub mod ByKey
-pub mod Clearing
-pub mod Committing
 pub mod Creating
 pub mod Deleting
 pub mod Differing
-pub mod Filling
 pub mod Finding
 pub mod Inserting
 pub mod Leading
@@ -14,7 +11,6 @@ pub mod Leaving
 pub mod Picking
 pub mod Placing
 pub mod Putting
-pub mod Results
 pub mod Selecting
 pub mod Standing
 pub mod Steps

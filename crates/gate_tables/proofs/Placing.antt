@@ -1,13 +1,13 @@
 -- A row that is put into a table, in its place by the rowid.
-use Rattle.std.proofs.Common.{◌≡◌, ◌≢◌, ℕ, zero, suc, slice_get, Some, List, [], ◌∷◌, Bool, true, false, not, ◌&&◌, ◌||◌, eqb, IsPermutation, refl, sym, ap, subst, ◌∙◌}
+use Rattle.std.proofs.Common.{◌≡◌, ◌≢◌, ℕ, zero, suc, slice_get, Some, List, [], ◌∷◌, Bool, true, false, not, ◌&&◌, eqb, IsPermutation, sym, ap, subst, ◌∙◌}
 use Rattle.std.specs.List.{AllByRecursion, list_all}
-use Rattle.gate_tables.specs.Kept.{IsKept}
 use Rattle.std.specs.Ordering.{is_eq, match_ordering}
 use Rattle.std.specs.declared.cmp.Ordering.{Ordering}
 use Rattle.std.specs.declared.cmp.Ordering.TheVariants.{Less, Equal, Greater}
-use Rattle.std.proofs.lemmas.Bool.{and_from, eqb-false}
-use Rattle.std.proofs.lemmas.List.Elements.{All-from_recursion, recursion_from_All}
+use Rattle.std.proofs.lemmas.Bool.{and_from, and_parts, or_parts, not-true, eqb-false}
+use Rattle.std.proofs.lemmas.List.Sums.{AllPass-from_list_all, list_all-from_AllPass}
 use Rattle.std.proofs.lemmas.List.Sorted.{IsPermutation-refl, IsPermutation-cons, IsPermutation-trans, IsPermutation-middle, All-permutation}
+use Rattle.gate_tables.specs.Kept.{IsKept}
 use Rattle.sqlite.specs.Edit.{are_fresh, have_rowids, is_taken}
 use Rattle.sqlite.specs.Order.{Row}
 use Rattle.sqlite.specs.Table.{Table}
@@ -15,40 +15,12 @@ use Rattle.sqlite.specs.Tree.{Trees, put_row, rowid}
 use Rattle.sqlite_trees.specs.View.{is_int}
 use Rattle.sqlite_value.specs.Order.{value_cmp}
 
-pub first_false : (a b : Bool) → a || b ≡ false → a ≡ false
-first_false true b h = cc
-first_false false b h = refl
-
-pub second_false : (a b : Bool) → a || b ≡ false → b ≡ false
-second_false true b h = cc
-second_false false b h = h
-
-pub first_true : (a b : Bool) → a && b ≡ true → a ≡ true
-first_true true b h = refl
-first_true false b h = cc
-
-pub second_true : (a b : Bool) → a && b ≡ true → b ≡ true
-second_true true b h = h
-second_true false b h = cc
-
 -- a test that all pass in one order, all pass in another
 pub all_moved : {A : Type 0} (p : A → Bool) (xs ys : List A) → IsPermutation xs ys → list_all p xs ≡ true → list_all p ys ≡ true
-all_moved p xs ys moved all = to_test ys (recursion_from_All (λ x. p x ≡ true) ys (All-permutation (λ x. p x ≡ true) xs ys moved (All-from_recursion (λ x. p x ≡ true) xs (from_test xs all))))
-  where
-    from_test : (zs : List _) → list_all p zs ≡ true → AllByRecursion (λ x. p x ≡ true) zs
-    from_test [] h = tt
-    from_test (z ∷ zs) h = (first_true (p z) _ h, from_test zs (second_true (p z) _ h))
-
-    to_test : (zs : List _) → AllByRecursion (λ x. p x ≡ true) zs → list_all p zs ≡ true
-    to_test [] h = refl
-    to_test (z ∷ zs) h = and_from (p z) _ h.0 (to_test zs h.1)
+all_moved p xs ys moved all = list_all-from_AllPass p ys (All-permutation (λ x. p x ≡ true) xs ys moved (AllPass-from_list_all p xs all))
 
 pub fresh_one : (rows : List Row) (new : Row) → are_fresh rows (new ∷ []) ≡ true → is_taken rows new ≡ false
-fresh_one rows new h = of (is_taken rows new) (first_true _ _ h)
-  where
-    of : (b : Bool) → not b ≡ true → b ≡ false
-    of true h = cc
-    of false h = refl
+fresh_one rows new h = not-true (is_taken rows new) (and_parts _ _ h).0
 
 module _ (new : Row) where
   placed : (o : Ordering) (r : Row) (rs : List Row) → is_eq o ≡ false → IsPermutation (new ∷ rs) (put_row new rs)
@@ -59,17 +31,17 @@ module _ (new : Row) where
 
   pub put_adds : (rows : List Row) → is_taken rows new ≡ false → IsPermutation (new ∷ rows) (put_row new rows)
   put_adds [] h = IsPermutation-refl (new ∷ [])
-  put_adds (r ∷ rs) h = placed (value_cmp (rowid r) (rowid new)) r rs (first_false _ _ h) (put_adds rs (second_false _ _ h))
+  put_adds (r ∷ rs) h = placed (value_cmp (rowid r) (rowid new)) r rs (or_parts _ _ h).0 (put_adds rs (or_parts _ _ h).1)
 
   placed_keyed : (o : Ordering) (r : Row) (rs : List Row) → is_int (rowid new) ≡ true → have_rowids (r ∷ rs) ≡ true → have_rowids (put_row new rs) ≡ true
       → have_rowids (match_ordering o (r ∷ put_row new rs) (new ∷ rs) (new ∷ r ∷ rs)) ≡ true
-  placed_keyed Less r rs own all more = and_from (is_int (rowid r)) _ (first_true _ _ all) more
-  placed_keyed Equal r rs own all more = and_from (is_int (rowid new)) _ own (second_true (is_int (rowid r)) _ all)
+  placed_keyed Less r rs own all more = and_from (is_int (rowid r)) _ (and_parts _ _ all).0 more
+  placed_keyed Equal r rs own all more = and_from (is_int (rowid new)) _ own (and_parts (is_int (rowid r)) _ all).1
   placed_keyed Greater r rs own all more = and_from (is_int (rowid new)) _ own all
 
   pub put_keyed : (rows : List Row) → have_rowids (new ∷ []) ≡ true → have_rowids rows ≡ true → have_rowids (put_row new rows) ≡ true
   put_keyed [] own all = own
-  put_keyed (r ∷ rs) own all = placed_keyed (value_cmp (rowid r) (rowid new)) r rs (first_true (is_int (rowid new)) true own) all (put_keyed rs own (second_true (is_int (rowid r)) _ all))
+  put_keyed (r ∷ rs) own all = placed_keyed (value_cmp (rowid r) (rowid new)) r rs (and_parts (is_int (rowid new)) true own).0 all (put_keyed rs own (and_parts (is_int (rowid r)) _ all).1)
 
 -- tables with trees of their own
 abbrev pub are_apart : List Table → Bool
@@ -77,11 +49,7 @@ are_apart [] = true
 are_apart (t ∷ ts) = list_all (λ x. not (eqb x.tree t.tree)) ts && are_apart ts
 
 differs : (n m : ℕ) → not (eqb n m) ≡ true → n ≢ m
-differs n m h e = eqb-false n m (negated (eqb n m) h) e
-  where
-    negated : (b : Bool) → not b ≡ true → b ≡ false
-    negated true h = cc
-    negated false h = refl
+differs n m h e = eqb-false n m (not-true (eqb n m) h) e
 
 module _ (old new : Trees) where
   abbrev KeepsAll : List Table → Type 0
@@ -91,14 +59,14 @@ module _ (old new : Trees) where
       → AllByRecursion (λ t. t.tree ≢ tree → new t.tree ≡ old t.tree) tables → KeepsAll tables
   all_as_before tree [] apart had spared = tt
   all_as_before tree (t ∷ ts) apart had spared = (
-    subst (IsKept t) (sym (spared.0 (differs t.tree tree (first_true (not (eqb t.tree tree)) _ apart)))) had.0,
-    all_as_before tree ts (second_true (not (eqb t.tree tree)) _ apart) had.1 spared.1,
+    subst (IsKept t) (sym (spared.0 (differs t.tree tree (and_parts (not (eqb t.tree tree)) _ apart).0))) had.0,
+    all_as_before tree ts (and_parts (not (eqb t.tree tree)) _ apart).1 had.1 spared.1,
   )
 
   not_first : (x table : Table) (xs : List Table) (at : ℕ) → slice_get xs at ≡ Some table → list_all (λ y. not (eqb y.tree x.tree)) xs ≡ true → x.tree ≢ table.tree
   not_first x table [] at is apart = absurd cc
-  not_first x table (y ∷ ys) zero is apart = let same : y ≡ table = cc in λ e. differs y.tree x.tree (first_true (not (eqb y.tree x.tree)) _ apart) (ap (λ (t : Table). t.tree) same ∙ sym e)
-  not_first x table (y ∷ ys) (suc at) is apart = not_first x table ys at is (second_true (not (eqb y.tree x.tree)) _ apart)
+  not_first x table (y ∷ ys) zero is apart = let same : y ≡ table = cc in λ e. differs y.tree x.tree (and_parts (not (eqb y.tree x.tree)) _ apart).0 (ap (λ (t : Table). t.tree) same ∙ sym e)
+  not_first x table (y ∷ ys) (suc at) is apart = not_first x table ys at is (and_parts (not (eqb y.tree x.tree)) _ apart).1
 
   -- every table keeps what rows keep if the one that is written does and the others are as they were
   pub still_kept : (table : Table) (tables : List Table) (at : ℕ) → slice_get tables at ≡ Some table → are_apart tables ≡ true → AllByRecursion (λ t. IsKept t (old t.tree)) tables
@@ -107,11 +75,11 @@ module _ (old new : Trees) where
   still_kept table (x ∷ xs) zero is apart had spared own =
       let same : x ≡ table = cc in (
         subst (λ (t : Table). IsKept t (new t.tree)) (sym same) (own (subst (λ (t : Table). IsKept t (old t.tree)) same had.0)),
-        all_as_before table.tree xs (subst (λ (t : Table). list_all (λ y. not (eqb y.tree t.tree)) xs ≡ true) same (first_true _ (are_apart xs) apart)) had.1 spared.1,
+        all_as_before table.tree xs (subst (λ (t : Table). list_all (λ y. not (eqb y.tree t.tree)) xs ≡ true) same (and_parts _ (are_apart xs) apart).0) had.1 spared.1,
       )
   still_kept table (x ∷ xs) (suc at) is apart had spared own = (
-    subst (IsKept x) (sym (spared.0 (not_first x table xs at is (first_true _ (are_apart xs) apart)))) had.0,
-    still_kept table xs at is (second_true (list_all (λ y. not (eqb y.tree x.tree)) xs) _ apart) had.1 spared.1 own,
+    subst (IsKept x) (sym (spared.0 (not_first x table xs at is (and_parts _ (are_apart xs) apart).0))) had.0,
+    still_kept table xs at is (and_parts (list_all (λ y. not (eqb y.tree x.tree)) xs) _ apart).1 had.1 spared.1 own,
   )
 
 -- what a table among some keeps

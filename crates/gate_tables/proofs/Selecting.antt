@@ -15,16 +15,13 @@ use Rattle.sqlite.specs.State.{State, Shown}
 use Rattle.sqlite.specs.Term.{Term, eval_all, holds}
 use Rattle.sqlite.specs.Tree.{Trees}
 use Rattle.sqlite.specs.declared.types.Value.TheVariants.{Null}
-
-pub map_map : {A B C : Type 0} (g : B → C) (f : A → B) (xs : List A) → map g (map f xs) ≡ map (λ x. g (f x)) xs
-map_map g f [] = refl
-map_map g f (x ∷ xs) = ap (λ l. g (f x) ∷ l) (map_map g f xs)
+use Rattle.sqlite_trees.proofs.ListLemmas.{map-map}
 
 pub map_same : {A B : Type 0} (f g : A → B) → ((x : A) → f x ≡ g x) → (xs : List A) → map f xs ≡ map g xs
 map_same f g same [] = refl
 map_same {A} {B} f g same (x ∷ xs) = ap (λ (y : B). y ∷ map f xs) (same x) ∙ ap (λ l. g x ∷ l) (map_same f g same xs)
 
-filter_all : {A : Type 0} (xs : List A) → filter (λ _. true) xs ≡ xs
+pub filter_all : {A : Type 0} (xs : List A) → filter (λ _. true) xs ≡ xs
 filter_all [] = refl
 filter_all (x ∷ xs) = ap (λ l. x ∷ l) (filter_all xs)
 
@@ -57,17 +54,17 @@ picks tree test terms db params rows answers =
     let shown = λ (o : Output). o.1 in
     let outputs : a.kept ≡ map (output q) (map env (filter passes (db.trees tree))) = a.distinct ∙ ap (map (output q)) staged in
     let heads : map shown a.kept ≡ map (λ r. eval_all terms (params ∷ r ∷ [])) (filter passes (db.trees tree)) =
-    ap (map shown) outputs ∙ map_map shown (output q) (map env (filter passes (db.trees tree))) ∙ map_map (λ e. eval_all terms e) env (filter passes (db.trees tree)) in
+    ap (map shown) outputs ∙ map-map shown (output q) (map env (filter passes (db.trees tree))) ∙ map-map (λ e. eval_all terms e) env (filter passes (db.trees tree)) in
     subst₂ IsPermutation heads (sym a.shown) (IsPermutation-map shown a.kept a.ordered a.same)
 
-pub picks_all : (tree : ℕ) (terms : List Term) (db : Database) (params : Row) (rows : List Row) → Answers db (program (picked tree [] terms)) params rows
+picks_all : (tree : ℕ) (terms : List Term) (db : Database) (params : Row) (rows : List Row) → Answers db (program (picked tree [] terms)) params rows
     → IsPermutation (map (λ r. eval_all terms (params ∷ r ∷ [])) (db.trees tree)) rows
 picks_all tree terms db params rows answers =
     subst (λ rs. IsPermutation (map (λ r. eval_all terms (params ∷ r ∷ [])) rs) rows) (filter_all (db.trees tree)) (picks tree [] terms db params rows answers)
 
 module _ {R : Type 0} (form : Form R) (known : IsKnown form) where
   -- a query for all rows shows those of the table
-  pub selects_all : (old new : State) (rows : List Row) → old.now.schema ≡ all_schema → Shown form.select [] old new rows → IsPermutation (cells form.layout old.now.trees) rows
+  selects_all : (old new : State) (rows : List Row) → old.now.schema ≡ all_schema → Shown form.select [] old new rows → IsPermutation (cells form.layout old.now.trees) rows
   selects_all old new rows has shown =
       let all = known.selects in
       let command = Select (program (picked form.layout.tree [] all.terms)) all.names in

@@ -9,10 +9,10 @@ use Rattle.std.proofs.lemmas.List.Sorted.{IsPermutation-map, All-permutation}
 use Rattle.gate_tables.proofs.Answering.{still_apart, one_more}
 use Rattle.gate_tables.proofs.Leaving.{ready_after}
 use Rattle.gate_tables.specs.Database.{cells}
-use Rattle.gate_tables.specs.Effects.{IsReady, Leaves, Made, Commits}
+use Rattle.gate_tables.specs.Effects.{IsReady, Leaves, Made, Applied}
 use Rattle.gate_tables.specs.Forms.{answers, rows_of}
 use Rattle.gate_tables.specs.Tables.{is_sound, answers_in, AreAnswers, IsBook, Stands}
-use Rattle.gate_tables.specs.declared.row.Rows.{Rows}
+use Rattle.gate_tables.specs.declared.change.RowChange.{RowChange}
 use Rattle.gate_tables.specs.declared.fault.TablesFault.{TablesFault}
 use Rattle.sqlite.specs.Effect.{Database}
 use Rattle.sqlite.specs.Held.{Held, state}
@@ -22,7 +22,7 @@ use Rattle.sqlite.specs.Store.{Ghosts}
 
 module _ {S : Type 0} (g : Ghosts S) (old new : Held S) where
   -- a call that leaves the database keeps what stands, and shows the same
-  pub left_stands : Stands g old → new.in_transaction ≡ false → (is_sound g new → is_sound g old) → (HasCleanDisk (state g new) → IsReady (state g old) → Leaves (state g old) (state g new)) → Stands g new
+  left_stands : Stands g old → new.in_transaction ≡ false → (is_sound g new → is_sound g old) → (HasCleanDisk (state g new) → IsReady (state g old) → Leaves (state g old) (state g new)) → Stands g new
   left_stands stands mode was left = record {
     autocommit = mode;
     book = λ sound.
@@ -31,12 +31,12 @@ module _ {S : Type 0} (g : Ghosts S) (old new : Held S) where
         record { ready = after.0; answered = subst (λ (d : Database). AreAnswers d.trees) (sym after.1) book.answered };
   }
 
-module _ {S : Type 0} (g : Ghosts S) (new : Held S) (rows : Rows) where
+module _ {S : Type 0} (g : Ghosts S) (new : Held S) (changes : List RowChange) where
   no_answers : (cs : List Row) → cs ≡ [] → AllByRecursion (λ c. answers.values (answers.read c) ≡ c) cs
   no_answers [] none = tt
   no_answers (c ∷ cs) none = cc
 
-  pub made_stands : new.in_transaction ≡ false → (HasCleanDisk (state g new) → Made rows (state g new)) → Stands g new
+  pub made_stands : new.in_transaction ≡ false → (HasCleanDisk (state g new) → Made changes (state g new)) → Stands g new
   unfolding IsDistinct
   made_stands mode made = record {
     autocommit = mode;
@@ -51,39 +51,39 @@ module _ {S : Type 0} (g : Ghosts S) (new : Held S) (rows : Rows) where
         };
   }
 
-module _ {S : Type 0} (g : Ghosts S) (old new : Held S) (Became : Rows → Rows → Type 0) (id body : List ℕ) (stands : Stands g old) (free : is_sound g old → get (answers_in g old) id ≡ None) (was : is_sound g new → is_sound g old) where
+module _ {S : Type 0} (g : Ghosts S) (old new : Held S) (changes : List RowChange) (id body : List ℕ) (stands : Stands g old) (free : is_sound g old → get (answers_in g old) id ≡ None) (was : is_sound g new → is_sound g old) where
   abbrev was_state : State
   was_state = state g old
 
   abbrev now_state : State
   now_state = state g new
 
-  entries_moved : Commits Became id body was_state now_state → IsPermutation ((id, body) ∷ rows_of answers was_state.now.trees) (rows_of answers now_state.now.trees)
-  entries_moved wrote = IsPermutation-map answers.read (answers.values (id, body) ∷ cells answers.layout was_state.now.trees) (cells answers.layout now_state.now.trees) wrote.added
+  entries_moved : Applied changes id body was_state now_state → IsPermutation ((id, body) ∷ rows_of answers was_state.now.trees) (rows_of answers now_state.now.trees)
+  entries_moved applied = IsPermutation-map answers.read (answers.values (id, body) ∷ cells answers.layout was_state.now.trees) (cells answers.layout now_state.now.trees) applied.added
 
-  committed_book : is_sound g new → Commits Became id body was_state now_state → IsBook now_state
-  committed_book sound wrote =
+  committed_book : is_sound g new → Applied changes id body was_state now_state → IsBook now_state
+  committed_book sound applied =
       let book = stands.book (was sound) in
       let before = answers.values (id, body) ∷ cells answers.layout was_state.now.trees in
       let all = All-from_recursion (λ c. answers.values (answers.read c) ≡ c) before (refl, book.answered.whole) in
       record {
-        ready = wrote.ready;
+        ready = applied.ready;
         answered = record {
           whole = recursion_from_All (λ c. answers.values (answers.read c) ≡ c) (cells answers.layout now_state.now.trees)
-              (All-permutation (λ c. answers.values (answers.read c) ≡ c) before (cells answers.layout now_state.now.trees) wrote.added all);
-          apart = still_apart id body (rows_of answers was_state.now.trees) (rows_of answers now_state.now.trees) (entries_moved wrote) book.answered.apart (free (was sound));
+              (All-permutation (λ c. answers.values (answers.read c) ≡ c) before (cells answers.layout now_state.now.trees) applied.added all);
+          apart = still_apart id body (rows_of answers was_state.now.trees) (rows_of answers now_state.now.trees) (entries_moved applied) book.answered.apart (free (was sound));
         };
       }
 
   module _ (mode : new.in_transaction ≡ false) where
-    pub commit_stands : (r : Result (Unit {0}) TablesFault) → (HasCleanDisk now_state → OnOk r (IsReady was_state → Commits Became id body was_state now_state))
+    pub commit_stands : (r : Result (Unit {0}) TablesFault) → (HasCleanDisk now_state → OnOk r (IsReady was_state → Applied changes id body was_state now_state))
         → (HasCleanDisk now_state → IsReady was_state → OnErr r (Leaves was_state now_state)) → Stands g new
-    commit_stands (Ok x) wrote left = record { autocommit = mode; book = λ sound. committed_book sound (wrote sound.0 (stands.book (was sound)).ready) }
-    commit_stands (Err e) wrote left = left_stands g old new stands mode was left
+    commit_stands (Ok x) applied left = record { autocommit = mode; book = λ sound. committed_book sound (applied sound.0 (stands.book (was sound)).ready) }
+    commit_stands (Err e) applied left = left_stands g old new stands mode was left
 
-  pub commit_answers : (r : Result (Unit {0}) TablesFault) → (HasCleanDisk now_state → OnOk r (IsReady was_state → Commits Became id body was_state now_state)) → is_sound g new
+  pub commit_answers : (r : Result (Unit {0}) TablesFault) → (HasCleanDisk now_state → OnOk r (IsReady was_state → Applied changes id body was_state now_state)) → is_sound g new
       → OnOk r (answers_in g new ≡ insert (answers_in g old) id body)
-  commit_answers (Ok x) wrote sound =
+  commit_answers (Ok x) applied sound =
       let book = stands.book (was sound) in
-      one_more id body (rows_of answers was_state.now.trees) (rows_of answers now_state.now.trees) (entries_moved (wrote sound.0 book.ready)) book.answered.apart (free (was sound))
-  commit_answers (Err e) wrote sound = tt
+      one_more id body (rows_of answers was_state.now.trees) (rows_of answers now_state.now.trees) (entries_moved (applied sound.0 book.ready)) book.answered.apart (free (was sound))
+  commit_answers (Err e) applied sound = tt

@@ -1,13 +1,14 @@
 -- Rows that are taken out by their rowids, and rows that are put back.
-use Rattle.std.proofs.Common.{◌≡◌, inl, inr, ℤ, List, [], ◌∷◌, ◌++◌, map, filter, Bool, true, false, not, ◌||◌, cond, if◌then◌else◌, IsPermutation, refl, sym, ap, ◌∙◌}
+use Rattle.std.proofs.Common.{◌≡◌, inl, inr, ℤ, List, [], ◌∷◌, ◌++◌, map, filter, Bool, true, false, not, ◌||◌, cond, if◌then◌else◌, IsPermutation, refl, sym, ap, subst, ◌∙◌}
+use Rattle.std.specs.Cmp.{eq_by_cmp_equiv, Equal-is}
 use Rattle.std.specs.List.{list_any, list_all}
 use Rattle.std.specs.Ordering.{is_eq}
-use Rattle.std.specs.declared.cmp.Ordering.{Ordering}
-use Rattle.std.specs.declared.cmp.Ordering.TheVariants.{Less, Equal, Greater}
-use Rattle.std.proofs.lemmas.Bool.{and_from}
+use Rattle.std.specs.declared.cmp.Ordering.TheVariants.{Equal}
+use Rattle.std.proofs.lemmas.List.Folds.{list_all-append}
+use Rattle.std.proofs.lemmas.Bool.{and_from, and_parts}
 use Rattle.std.proofs.lemmas.List.Sorted.{IsPermutation-refl, IsPermutation-sym, IsPermutation-trans, IsPermutation-cons, IsPermutation-middle, IsPermutation-append_right, list_any-IsPermutation}
-use Rattle.gate_tables.proofs.Clearing.{own}
-use Rattle.gate_tables.proofs.Placing.{put_adds, put_keyed, fresh_one, first_true, second_true}
+use Rattle.gate_tables.proofs.Selecting.{filter_all}
+use Rattle.gate_tables.proofs.Placing.{put_adds, put_keyed, fresh_one}
 use Rattle.sqlite.specs.Edit.{without_all, put_all, have_rowids, are_fresh, id_in}
 use Rattle.sqlite.specs.Order.{Row}
 use Rattle.sqlite.specs.Tree.{IsTable, rowid, has_rowid, without_rowid, put_row}
@@ -18,6 +19,7 @@ use Rattle.sqlite_rules.specs.Lists.{Has}
 use Rattle.sqlite_trees.proofs.TreeLemmas.{IsTable-put_row}
 use Rattle.sqlite.specs.declared.types.Value.TheVariants.{Int}
 use Rattle.sqlite_trees.specs.View.{is_int}
+use Rattle.sqlite_value.proofs.OrderLemmas.{value_cmp_total}
 use Rattle.sqlite_value.specs.Order.{value_cmp}
 
 pub filter_same : {A : Type 0} (p q : A → Bool) (xs : List A) → ((x : A) → Has xs x → p x ≡ q x) → filter p xs ≡ filter q xs
@@ -33,10 +35,6 @@ any_mapped : {A B : Type 0} (q : B → Bool) (f : A → B) (xs : List A) → lis
 any_mapped q f [] = refl
 any_mapped q f (x ∷ xs) = ap (λ (b : Bool). q (f x) || b) (any_mapped q f xs)
 
-filter_none : {A : Type 0} (xs : List A) → filter (λ _. true) xs ≡ xs
-filter_none [] = refl
-filter_none (x ∷ xs) = ap (λ l. x ∷ l) (filter_none xs)
-
 filter_twice : {A : Type 0} (p q : A → Bool) (xs : List A) → filter (λ x. not (q x)) (filter (λ x. not (p x)) xs) ≡ filter (λ x. not (p x || q x)) xs
 filter_twice p q [] = refl
 filter_twice p q (x ∷ xs) = elim (p x) as (λ b. filter (λ y. not (q y)) (cond (not b) (x ∷ filter (λ y. not (p y)) xs) (filter (λ y. not (p y)) xs)) ≡ cond (not (b || q x)) (x ∷ filter (λ y. not (p y || q y)) xs) (filter (λ y. not (p y || q y)) xs)) [
@@ -48,8 +46,8 @@ filter_twice p q (x ∷ xs) = elim (p x) as (λ b. filter (λ y. not (q y)) (con
 pub filter_all_true : {A : Type 0} (q p : A → Bool) (xs : List A) → list_all q xs ≡ true → list_all q (filter p xs) ≡ true
 filter_all_true q p [] all = refl
 filter_all_true q p (x ∷ xs) all = elim (p x) as (λ b. list_all q (cond b (x ∷ filter p xs) (filter p xs)) ≡ true) [
-  | true ↦ and_from (q x) _ (first_true (q x) _ all) (filter_all_true q p xs (second_true (q x) _ all))
-  | false ↦ filter_all_true q p xs (second_true (q x) _ all)
+  | true ↦ and_from (q x) _ (and_parts (q x) _ all).0 (filter_all_true q p xs (and_parts (q x) _ all).1)
+  | false ↦ filter_all_true q p xs (and_parts (q x) _ all).1
 ]
 
 pub all_mapped : {A B : Type 0} (p : B → Bool) (f : A → B) (xs : List A) → ((x : A) → Has xs x → p (f x) ≡ true) → list_all p (map f xs) ≡ true
@@ -57,34 +55,28 @@ all_mapped p f [] each = refl
 all_mapped p f (x ∷ xs) each = and_from (p (f x)) _ (each x (inl refl)) (all_mapped p f xs (λ y h. each y (inr h)))
 
 pub joined_all : {A : Type 0} (p : A → Bool) (xs ys : List A) → list_all p xs ≡ true → list_all p ys ≡ true → list_all p (xs ++ ys) ≡ true
-joined_all p [] ys first second = second
-joined_all p (x ∷ xs) ys first second = and_from (p x) _ (first_true (p x) _ first) (joined_all p xs ys (second_true (p x) _ first) second)
+joined_all p xs ys first second = list_all-append p xs ys ∙ and_from (list_all p xs) (list_all p ys) first second
 
 is_gone : List ℤ → Row → Bool
 is_gone ids r = list_any (λ id. has_rowid id r) ids
 
 without_gone : (ids : List ℤ) (rows : List Row) → without_all rows ids ≡ filter (λ r. not (is_gone ids r)) rows
 unfolding is_gone
-without_gone [] rows = sym (filter_none rows)
+without_gone [] rows = sym (filter_all rows)
 without_gone (id ∷ ids) rows = without_gone ids (without_rowid id rows) ∙ filter_twice (has_rowid id) (is_gone ids) rows
-
-equal : (o : Ordering) → is_eq o ≡ true → o ≡ Equal
-equal Less h = absurd cc
-equal Equal h = refl
-equal Greater h = absurd cc
 
 module _ (p : Row → Bool) (rows : List Row) (keyed : have_rowids rows ≡ true) (rising : IsTable rows) where
   taken_or_not : (r : Row) → Has rows r → (b : Bool) → p r ≡ b → (c : Bool) → list_any (λ q. has_rowid (id_in (rowid q)) r) (filter p rows) ≡ c → c ≡ b
   taken_or_not r has true is true any = refl
   taken_or_not r has false is false any = refl
   taken_or_not r has true is false any =
-      let there = some_from (λ q. has_rowid (id_in (rowid q)) r) (filter p rows) r (has_kept p rows r has is) (own (rowid r) (test_has (λ x. is_int (rowid x)) rows r keyed has)) in absurd (let e = sym any ∙ there in cc)
+      let there = some_from (λ q. has_rowid (id_in (rowid q)) r) (filter p rows) r (has_kept p rows r has is) (subst (λ id. is_eq (value_cmp (rowid r) id) ≡ true) (int_is (rowid r) (test_has (λ x. is_int (rowid x)) rows r keyed has)) ((eq_by_cmp_equiv value_cmp_total).refl (rowid r))) in absurd (let e = sym any ∙ there in cc)
   taken_or_not r has false is true any =
       let found = some_has (λ q. has_rowid (id_in (rowid q)) r) (filter p rows) any in
       let q = found.0 in
       let was = has_filtered p rows q found.1 in
       let int : rowid q ≡ Int (id_in (rowid q)) = int_is (rowid q) (test_has (λ x. is_int (rowid x)) rows q keyed was.0) in
-      let tied : value_cmp (rowid r) (rowid q) ≡ Equal = ap (λ v. value_cmp (rowid r) v) int ∙ equal _ found.2 in
+      let tied : value_cmp (rowid r) (rowid q) ≡ Equal = ap (λ v. value_cmp (rowid r) v) int ∙ (Equal-is _).0 found.2 in
       let same : r ≡ q = tied_same rows r q rising has was.0 tied in
       absurd (let e = sym is ∙ ap p same ∙ was.1 in cc)
 
@@ -101,12 +93,12 @@ pub put_all_adds : (news rows : List Row) → are_fresh rows news ≡ true → I
 put_all_adds [] rows fresh = IsPermutation-refl rows
 put_all_adds (n ∷ news) rows fresh =
     let here = put_adds n rows (fresh_one rows n (one_more n rows news fresh)) in
-    let later = put_all_adds news (put_row n rows) (second_true _ _ fresh) in
+    let later = put_all_adds news (put_row n rows) (and_parts _ _ fresh).1 in
     IsPermutation-trans (n ∷ (news ++ rows)) (news ++ put_row n rows) (put_all rows (n ∷ news))
     (IsPermutation-trans (n ∷ (news ++ rows)) (news ++ n ∷ rows) (news ++ put_row n rows) (IsPermutation-sym (news ++ n ∷ rows) (n ∷ (news ++ rows)) (IsPermutation-middle news n rows)) (IsPermutation-append_right news (n ∷ rows) (put_row n rows) here)) later
   where
     one_more : (n : Row) (rows news : List Row) → are_fresh rows (n ∷ news) ≡ true → are_fresh rows (n ∷ []) ≡ true
-    one_more n rows news h = and_from _ true (first_true _ _ h) refl
+    one_more n rows news h = and_from _ true (and_parts _ _ h).0 refl
 
 pub put_all_table : (news rows : List Row) → IsTable rows → IsTable (put_all rows news)
 put_all_table [] rows up = up
@@ -114,7 +106,7 @@ put_all_table (n ∷ news) rows up = put_all_table news (put_row n rows) (IsTabl
 
 pub put_all_keyed : (news rows : List Row) → have_rowids news ≡ true → have_rowids rows ≡ true → have_rowids (put_all rows news) ≡ true
 put_all_keyed [] rows own all = all
-put_all_keyed (n ∷ news) rows own all = put_all_keyed news (put_row n rows) (second_true (is_int (rowid n)) _ own) (put_keyed n rows (and_from _ true (first_true (is_int (rowid n)) _ own) refl) all)
+put_all_keyed (n ∷ news) rows own all = put_all_keyed news (put_row n rows) (and_parts (is_int (rowid n)) _ own).1 (put_keyed n rows (and_from _ true (and_parts (is_int (rowid n)) _ own).0 refl) all)
 
 -- the rows that pass a test changed by one function and all others by another, together
 pub split_mapped : {A B : Type 0} (p : A → Bool) (f g : A → B) (xs : List A) → IsPermutation (map (λ x. if p x then f x else g x) xs) (map f (filter p xs) ++ map g (filter (λ x. not (p x)) xs))

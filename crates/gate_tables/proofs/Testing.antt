@@ -3,8 +3,8 @@ use Rattle.std.proofs.Common.{◌≡◌, ℕ, suc, ℤ, Bool, true, false, ◌&&
 use Rattle.std.specs.List.{list_all}
 use Rattle.std.specs.Ordering.{is_eq}
 use Rattle.std.proofs.lemmas.Bool.Decides.{Decides-int_eq}
+use Rattle.std.proofs.lemmas.Bool.{and_parts}
 use Rattle.gate_tables.proofs.Answering.{exact}
-use Rattle.gate_tables.proofs.Placing.{first_true, second_true}
 use Rattle.gate_tables.specs.Kept.{is_integer, is_text, is_of_kind, is_whole}
 use Rattle.gate_tables.specs.Keys.{begin_with, is_front, IsGivenAt, tests_of}
 use Rattle.sqlite.specs.Collation.TheVariants.{Binary}
@@ -71,10 +71,10 @@ tested [] places at params row (k ∷ key) given front whole = absurd cc
 tested (c ∷ columns) [] at params row (k ∷ key) given front whole = absurd cc
 tested (c ∷ columns) (p ∷ places) at params row (k ∷ key) given front whole =
     let v = column row p in
-    let of_key = first_true (is_of_kind c.kind k) (is_front columns key) front in
-    let of_row = first_true (is_of_kind c.kind v) (is_whole columns (map (column row) places)) whole in
+    let of_key = (and_parts (is_of_kind c.kind k) (is_front columns key) front).0 in
+    let of_row = (and_parts (is_of_kind c.kind v) (is_whole columns (map (column row) places)) whole).0 in
     let first : is_true (binary (Compare Eq Binary) v (column params at)) ≡ is_eq (value_cmp v k) = ap (λ w. is_true (binary (Compare Eq Binary) v w)) given.0 ∙ equals c.kind v k of_row of_key in
-    let more = tested columns places (suc at) params row key given.1 (second_true (is_of_kind c.kind k) (is_front columns key) front) (second_true (is_of_kind c.kind v) (is_whole columns (map (column row) places)) whole) in
+    let more = tested columns places (suc at) params row key given.1 (and_parts (is_of_kind c.kind k) (is_front columns key) front).1 (and_parts (is_of_kind c.kind v) (is_whole columns (map (column row) places)) whole).1 in
     both_same _ _ _ _ first more
 
 -- columns that begin with a key have it in front
@@ -83,6 +83,6 @@ begins columns cells [] front whole h = refl
 begins [] cells (k ∷ key) front whole h = absurd cc
 begins (c ∷ columns) [] (k ∷ key) front whole h = absurd cc
 begins (c ∷ columns) (v ∷ cells) (k ∷ key) front whole h =
-    let first = same_value c.kind v k (first_true (is_of_kind c.kind v) (is_whole columns cells) whole) (first_true (is_of_kind c.kind k) (is_front columns key) front) (first_true _ _ h) in
-    let more = begins columns cells key (second_true (is_of_kind c.kind k) (is_front columns key) front) (second_true (is_of_kind c.kind v) (is_whole columns cells) whole) (second_true _ _ h) in
+    let first = same_value c.kind v k (and_parts (is_of_kind c.kind v) (is_whole columns cells) whole).0 (and_parts (is_of_kind c.kind k) (is_front columns key) front).0 (and_parts _ _ h).0 in
+    let more = begins columns cells key (and_parts (is_of_kind c.kind k) (is_front columns key) front).1 (and_parts (is_of_kind c.kind v) (is_whole columns cells) whole).1 (and_parts _ _ h).1 in
     ap (λ x. x ∷ take (length key) cells) first ∙ ap (λ xs. k ∷ xs) more

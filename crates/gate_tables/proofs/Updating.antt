@@ -6,7 +6,7 @@ use Rattle.std.proofs.lemmas.List.Sorted.{IsPermutation-map, IsPermutation-trans
 use Rattle.gate_tables.proofs.Inserting.{went, same_value}
 use Rattle.gate_tables.proofs.Picking.{finds, found}
 use Rattle.gate_tables.proofs.Placing.{still_kept, kept_one, all_moved}
-use Rattle.gate_tables.proofs.Selecting.{picks, map_map}
+use Rattle.gate_tables.proofs.Selecting.{picks}
 use Rattle.gate_tables.proofs.Taking.{filter_same, map_has, without_picked, filter_all_true, put_all_adds, put_all_table, put_all_keyed, split_mapped, all_mapped, joined_all}
 use Rattle.gate_tables.specs.Database.{all_schema, table_of, columns_of, cells}
 use Rattle.gate_tables.specs.Effects.{RanOn, IsInside, Spares}
@@ -35,7 +35,7 @@ use Rattle.sqlite_rules.specs.Calls.{ids_of}
 use Rattle.sqlite_rules.specs.Lists.{Has}
 use Rattle.sqlite_schema.specs.declared.schema.Constraint.TheVariants.{Unique}
 use Rattle.sqlite_schema.specs.declared.schema.Keys.TheVariants.{Enforced}
-use Rattle.sqlite_trees.proofs.ListLemmas.{filter-map, ascending-filter}
+use Rattle.sqlite_trees.proofs.ListLemmas.{filter-map, ascending-filter, map-map}
 
 module _ {R : Type 0} (form : Form R) (known : IsKeyed form) (r : R) where
   abbrev params : Row
@@ -115,9 +115,9 @@ module _ {R : Type 0} (form : Form R) (known : IsKeyed form) (r : R) where
     together =
         let columns = columns_of form.layout in
         let by_test : map (λ c. if begin_with key c then params else c) (map columns rows) ≡ map (λ row. if passes row then params else columns row) rows =
-        map_map (λ c. if begin_with key c then params else c) columns rows ∙ map_has (λ row. if begin_with key (columns row) then params else columns row) (λ row. if passes row then params else columns row) rows
+        map-map (λ c. if begin_with key c then params else c) columns rows ∙ map_has (λ row. if begin_with key (columns row) then params else columns row) (λ row. if passes row then params else columns row) rows
         (λ row has. ap (λ (b : Bool). if b then params else columns row) (sym (passes_by_key row has))) in
-        let changed : map (λ _. params) chosen ≡ map columns (map becomes chosen) = map_has (λ _. params) (λ row. columns (becomes row)) chosen (λ row has. sym (becomes_it row has)) ∙ sym (map_map columns becomes chosen) in
+        let changed : map (λ _. params) chosen ≡ map columns (map becomes chosen) = map_has (λ _. params) (λ row. columns (becomes row)) chosen (λ row has. sym (becomes_it row has)) ∙ sym (map-map columns becomes chosen) in
         subst₂ (λ front back. IsPermutation front (back ++ map columns rest)) (sym by_test) changed (split_mapped passes (λ _. params) columns rows)
 
     becomes_whole : list_all whole_of (map becomes chosen) ≡ true
@@ -132,7 +132,7 @@ module _ {R : Type 0} (form : Form R) (known : IsKeyed form) (r : R) where
   -- The row that has the key is as the given one, and no other table differs. As many rows are counted as had it.
   pub update_changes : (count : ℕ) (old new : State) → IsInside all_schema old → RanOn count (update_text form.layout) params old new
       → IsInside all_schema new × IsPermutation (map (λ c. if begin_with (key_of form r) c then params else c) (cells form.layout old.now.trees)) (cells form.layout new.now.trees)
-      × Spares all_schema (λ t. t ≡ form.layout.tree) old.now.trees new.now.trees × (count ≡ length (filter (begin_with (key_of form r)) (cells form.layout old.now.trees)))
+      × Spares form.layout.tree old.now.trees new.now.trees × (count ≡ length (filter (begin_with (key_of form r)) (cells form.layout old.now.trees)))
   unfolding key whole_of
   update_changes count old new inside ran =
       let all = edits count old new inside.schema_is ran in
@@ -142,13 +142,13 @@ module _ {R : Type 0} (form : Form R) (known : IsKeyed form) (r : R) where
       let rows = old.now.trees form.layout.tree in
       let had = kept_one old.now.trees all_schema.tables form.at table known.known.listed inside.kept.tables in
       let sourced = all.2 in
-      let ids = subst (λ ids. IsPermutation ids (ids_of all.1)) (map_map (λ (s : Row). id_in (rowid s)) sources (chosen rows had.whole)) (IsPermutation-map (λ (s : Row). id_in (rowid s)) (map sources (chosen rows had.whole)) all.1 sourced) in
+      let ids = subst (λ ids. IsPermutation ids (ids_of all.1)) (map-map (λ (s : Row). id_in (rowid s)) sources (chosen rows had.whole)) (IsPermutation-map (λ (s : Row). id_in (rowid s)) (map sources (chosen rows had.whole)) all.1 sourced) in
       let left : without_all rows (ids_of all.1) ≡ rest rows had.whole = without_picked passes rows had.rowids had.rising (ids_of all.1) ids in
       let make = λ (s : Row). cast_row table (drop 1 s) in
       let news : List Row = numbered Given (without_all rows (ids_of all.1)) (map make all.1) in
       let news_are : news ≡ map make all.1 = given_rows (without_all rows (ids_of all.1)) (map make all.1) in
       let became : IsPermutation (map becomes (chosen rows had.whole)) news =
-      subst₂ IsPermutation (map_map make sources (chosen rows had.whole)) (sym news_are) (IsPermutation-map make (map sources (chosen rows had.whole)) all.1 sourced) in
+      subst₂ IsPermutation (map-map make sources (chosen rows had.whole)) (sym news_are) (IsPermutation-map make (map sources (chosen rows had.whole)) all.1 sourced) in
       let put : IsPermutation (news ++ without_all rows (ids_of all.1)) (put_all (without_all rows (ids_of all.1)) news) = put_all_adds news (without_all rows (ids_of all.1)) it.fresh in
       let placed : IsPermutation (map becomes (chosen rows had.whole) ++ rest rows had.whole) (new.now.trees form.layout.tree) =
       subst₂ IsPermutation refl (sym it.rows) (IsPermutation-trans _ (news ++ without_all rows (ids_of all.1)) _

@@ -3,7 +3,7 @@ use Rattle.std.proofs.Common.{◌≡◌, List, [], ◌∷◌, codes, refl, ℕ}
 use Rattle.gate_tables.specs.Casts.{cast_null}
 use Rattle.gate_tables.specs.Database.{columns_of, table_of}
 use Rattle.gate_tables.specs.Forms as forms
-use Rattle.gate_tables.specs.Known.{Inserts, Selects, Clears, IsKnown}
+use Rattle.gate_tables.specs.Known.{Inserts, Selects, IsKnown}
 use Rattle.sqlite.specs.Cast.{cast_row}
 use Rattle.sqlite.specs.Edit.{with_rowid}
 use Rattle.sqlite.specs.Listing.{understood}
@@ -38,9 +38,5 @@ selects = record {
   shown = λ row. refl;
 }
 
-clears : Clears forms.answers
-unfolding understood everything
-clears = record { is = refl; plain = (refl, refl) }
-
 pub known : IsKnown forms.answers
-known = record { listed = refl; reads = λ r. refl; wholes = λ r. refl; inserts = inserts; selects = selects; clears = clears }
+known = record { listed = refl; reads = λ r. refl; wholes = λ r. refl; inserts = inserts; selects = selects }

@@ -12,6 +12,10 @@ use Rattle.gate_tables.specs.declared.row.Rows.{Rows}
 use Rattle.sqlite.specs.Order.{Row}
 use Rattle.sqlite.specs.declared.types.Value.TheVariants.{Int, Text}
 
+-- what tables have that were just made
+abbrev pub no_rows : Rows
+no_rows = record { desk = []; people = []; changes = []; marks = []; batches = []; members = []; statuses = [] }
+
 -- a row in place of the one that has its key, or else one row more
 abbrev pub put : {R : Type 0} → Form R → R → List R → List R
 put form r rows = if list_any (has_key form (key_of form r)) rows then map (λ x. if has_key form (key_of form r) x then r else x) rows else r ∷ rows

@@ -4,7 +4,7 @@ use Rattle.gate_tables.specs.Casts.{cast_null, cast_int, int_kept, int_again, te
 use Rattle.gate_tables.specs.Database.{columns_of, table_of}
 use Rattle.gate_tables.specs.Forms as forms
 use Rattle.gate_tables.specs.Kept.{is_whole}
-use Rattle.gate_tables.specs.Known.{Inserts, Selects, Clears, Updates, Deletes, IsKnown, IsKeyed}
+use Rattle.gate_tables.specs.Known.{Inserts, Selects, Updates, Deletes, IsKnown, IsKeyed}
 use Rattle.gate_tables.specs.declared.row.BatchRow.{BatchRow}
 use Rattle.sqlite.specs.Cast.{cast_row}
 use Rattle.sqlite.specs.Edit.{with_rowid}
@@ -40,13 +40,9 @@ selects = record {
   shown = λ row. refl;
 }
 
-clears : Clears forms.batches
-unfolding understood everything
-clears = record { is = refl; plain = (refl, refl) }
-
 -- what is read of a whole row is all of it
-again : (row : Row) → is_whole forms.batches.layout.columns (columns_of forms.batches.layout row) ≡ true → forms.batches.values (forms.batches.read (columns_of forms.batches.layout row)) ≡ columns_of forms.batches.layout row
-again row whole = let kinds = each forms.batches.layout.columns (columns_of forms.batches.layout row) whole in λ i. int_again (column row 0) kinds.0 i ∷ int_again (column row 2) kinds.1.0 i ∷ int_again (column row 3) kinds.1.1.0 i ∷ int_again (column row 4) kinds.1.1.1.0 i ∷ int_again (column row 5) kinds.1.1.1.1.0 i ∷ int_again (column row 6) kinds.1.1.1.1.1.0 i ∷ text_again (column row 7) kinds.1.1.1.1.1.1.0 i ∷ []
+again : (cells : Row) → is_whole forms.batches.layout.columns (columns_of forms.batches.layout cells) ≡ true → forms.batches.values (forms.batches.read (columns_of forms.batches.layout cells)) ≡ columns_of forms.batches.layout cells
+again cells whole = let kinds = each forms.batches.layout.columns (columns_of forms.batches.layout cells) whole in λ i. int_again (column cells 0) kinds.0 i ∷ int_again (column cells 2) kinds.1.0 i ∷ int_again (column cells 3) kinds.1.1.0 i ∷ int_again (column cells 4) kinds.1.1.1.0 i ∷ int_again (column cells 5) kinds.1.1.1.1.0 i ∷ int_again (column cells 6) kinds.1.1.1.1.1.0 i ∷ text_again (column cells 7) kinds.1.1.1.1.1.1.0 i ∷ []
 
 updates : Updates forms.batches
 unfolding understood everything
@@ -55,7 +51,7 @@ updates = record {
   is = refl;
   plain = (refl, refl);
   given = λ r. (refl, tt);
-  stored = λ r row whole. let kinds = each forms.batches.layout.columns (columns_of forms.batches.layout row) whole in λ i. int_kept (column row 0) kinds.0 i ∷ cast_int r.branch i ∷ cast_int r.priority i ∷ cast_int r.again i ∷ cast_int r.phase i ∷ cast_int r.since i ∷ Text r.sha ∷ [];
+  stored = λ r cells whole. let kinds = each forms.batches.layout.columns (columns_of forms.batches.layout cells) whole in λ i. int_kept (column cells 0) kinds.0 i ∷ cast_int r.branch i ∷ cast_int r.priority i ∷ cast_int r.again i ∷ cast_int r.phase i ∷ cast_int r.since i ∷ Text r.sha ∷ [];
 }
 
 deletes : Deletes forms.batches
@@ -63,7 +59,7 @@ unfolding understood everything
 deletes = record { is = refl; plain = (refl, refl) }
 
 pub known : IsKnown forms.batches
-known = record { listed = refl; reads = λ r. refl; wholes = λ r. refl; inserts = inserts; selects = selects; clears = clears }
+known = record { listed = refl; reads = λ r. refl; wholes = λ r. refl; inserts = inserts; selects = selects }
 
 pub keyed : IsKeyed forms.batches
 keyed = record { known = known; places = (2 ∷ 3 ∷ 4 ∷ 5 ∷ 6 ∷ 7 ∷ [], refl); fronts = λ r. (refl, refl); whole_again = again; updates = updates; deletes = deletes }

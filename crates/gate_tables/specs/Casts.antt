@@ -1,5 +1,6 @@
 -- What a column makes of a value: of one of its kind, and of NULL. And what is read of a whole row is the row.
-use Rattle.std.proofs.Common.{◌≡◌, ℤ, Bool, true, false, cond, List, [], ◌∷◌, refl, ◌&&◌}
+use Rattle.std.proofs.Common.{◌≡◌, ℤ, Bool, true, false, cond, List, [], ◌∷◌, refl}
+use Rattle.std.proofs.lemmas.Bool.{and_parts}
 use Rattle.gate_tables.specs.Kept.{is_of_kind, is_whole}
 use Rattle.sqlite.specs.Cast.{cast}
 use Rattle.sqlite.specs.Edit.{id_in}
@@ -59,12 +60,4 @@ AreOfKinds (c ∷ cs) (v ∷ vs) = (is_of_kind c.kind v ≡ true) × AreOfKinds 
 pub each : (columns : List Column) (row : Row) → is_whole columns row ≡ true → AreOfKinds columns row
 each [] row h = tt
 each (c ∷ cs) [] h = tt
-each (c ∷ cs) (v ∷ vs) h = (first (is_of_kind c.kind v) (is_whole cs vs) h, each cs vs (second (is_of_kind c.kind v) (is_whole cs vs) h))
-  where
-    first : (a b : Bool) → a && b ≡ true → a ≡ true
-    first true b h = refl
-    first false b h = cc
-
-    second : (a b : Bool) → a && b ≡ true → b ≡ true
-    second true b h = h
-    second false b h = cc
+each (c ∷ cs) (v ∷ vs) h = let both = and_parts (is_of_kind c.kind v) (is_whole cs vs) h in (both.0, each cs vs both.1)

@@ -4,7 +4,7 @@ use Rattle.gate_tables.specs.Casts.{cast_null, cast_int, int_kept, int_again, te
 use Rattle.gate_tables.specs.Database.{columns_of, table_of}
 use Rattle.gate_tables.specs.Forms as forms
 use Rattle.gate_tables.specs.Kept.{is_whole}
-use Rattle.gate_tables.specs.Known.{Inserts, Selects, Clears, Updates, Deletes, IsKnown, IsKeyed}
+use Rattle.gate_tables.specs.Known.{Inserts, Selects, Updates, Deletes, IsKnown, IsKeyed}
 use Rattle.gate_tables.specs.declared.row.DeskRow.{DeskRow}
 use Rattle.sqlite.specs.Cast.{cast_row}
 use Rattle.sqlite.specs.Edit.{with_rowid}
@@ -40,13 +40,9 @@ selects = record {
   shown = λ row. refl;
 }
 
-clears : Clears forms.desk
-unfolding understood everything
-clears = record { is = refl; plain = (refl, refl) }
-
 -- what is read of a whole row is all of it
-again : (row : Row) → is_whole forms.desk.layout.columns (columns_of forms.desk.layout row) ≡ true → forms.desk.values (forms.desk.read (columns_of forms.desk.layout row)) ≡ columns_of forms.desk.layout row
-again row whole = let kinds = each forms.desk.layout.columns (columns_of forms.desk.layout row) whole in λ i. int_again (column row 0) kinds.0 i ∷ int_again (column row 2) kinds.1.0 i ∷ int_again (column row 3) kinds.1.1.0 i ∷ int_again (column row 4) kinds.1.1.1.0 i ∷ text_again (column row 5) kinds.1.1.1.1.0 i ∷ int_again (column row 6) kinds.1.1.1.1.1.0 i ∷ int_again (column row 7) kinds.1.1.1.1.1.1.0 i ∷ int_again (column row 8) kinds.1.1.1.1.1.1.1.0 i ∷ []
+again : (cells : Row) → is_whole forms.desk.layout.columns (columns_of forms.desk.layout cells) ≡ true → forms.desk.values (forms.desk.read (columns_of forms.desk.layout cells)) ≡ columns_of forms.desk.layout cells
+again cells whole = let kinds = each forms.desk.layout.columns (columns_of forms.desk.layout cells) whole in λ i. int_again (column cells 0) kinds.0 i ∷ int_again (column cells 2) kinds.1.0 i ∷ int_again (column cells 3) kinds.1.1.0 i ∷ int_again (column cells 4) kinds.1.1.1.0 i ∷ text_again (column cells 5) kinds.1.1.1.1.0 i ∷ int_again (column cells 6) kinds.1.1.1.1.1.0 i ∷ int_again (column cells 7) kinds.1.1.1.1.1.1.0 i ∷ int_again (column cells 8) kinds.1.1.1.1.1.1.1.0 i ∷ []
 
 updates : Updates forms.desk
 unfolding understood everything
@@ -55,7 +51,7 @@ updates = record {
   is = refl;
   plain = (refl, refl);
   given = λ r. (refl, tt);
-  stored = λ r row whole. let kinds = each forms.desk.layout.columns (columns_of forms.desk.layout row) whole in λ i. int_kept (column row 0) kinds.0 i ∷ cast_int r.version i ∷ cast_int r.next_batch i ∷ cast_int r.clock i ∷ Text r.base ∷ cast_int r.timeout_sec i ∷ cast_int r.required_approvals i ∷ cast_int r.max_batch_size i ∷ [];
+  stored = λ r cells whole. let kinds = each forms.desk.layout.columns (columns_of forms.desk.layout cells) whole in λ i. int_kept (column cells 0) kinds.0 i ∷ cast_int r.version i ∷ cast_int r.next_batch i ∷ cast_int r.clock i ∷ Text r.base ∷ cast_int r.timeout_sec i ∷ cast_int r.required_approvals i ∷ cast_int r.max_batch_size i ∷ [];
 }
 
 deletes : Deletes forms.desk
@@ -63,7 +59,7 @@ unfolding understood everything
 deletes = record { is = refl; plain = (refl, refl) }
 
 pub known : IsKnown forms.desk
-known = record { listed = refl; reads = λ r. refl; wholes = λ r. refl; inserts = inserts; selects = selects; clears = clears }
+known = record { listed = refl; reads = λ r. refl; wholes = λ r. refl; inserts = inserts; selects = selects }
 
 pub keyed : IsKeyed forms.desk
 keyed = record { known = known; places = (2 ∷ 3 ∷ 4 ∷ 5 ∷ 6 ∷ 7 ∷ 8 ∷ [], refl); fronts = λ r. (refl, refl); whole_again = again; updates = updates; deletes = deletes }

@@ -16,10 +16,11 @@ use Rattle.gate_tables.specs.declared.row.Rows.{Rows}
 abbrev pub gone : {R : Type 0} → Form R → List R → List R → List R
 gone form old new = filter (λ r. not (list_any (has_key form (key_of form r)) new)) old
 
--- the rows of a list that the other doesn't have as they are
+-- whether two rows agree in every column
 abbrev pub is_same : {R : Type 0} → Form R → R → R → Bool
 is_same form r x = begin_with (form.values r) (form.values x)
 
+-- the rows of a list that the other doesn't have as they are
 abbrev pub differing : {R : Type 0} → Form R → List R → List R → List R
 differing form old new = filter (λ r. not (list_any (is_same form r) old)) new
 
@@ -61,6 +62,6 @@ pub record HaveKeys (rows : Rows) : Type 0 where
   pub members : AreApart forms.members rows.members
   pub statuses : AreApart forms.statuses rows.statuses
 
--- The differences, applied, lead there.
+-- The differences, applied to the first in any order, lead to the second.
 abbrev pub LawOfDifferences : Type 0
-LawOfDifferences = (old new : Rows) → HaveKeys old → HaveKeys new → AreSame (applied (differences old new) old) new
+LawOfDifferences = (old new rows : Rows) → HaveKeys old → HaveKeys new → AreSame rows old → AreSame (applied (differences old new) rows) new

@@ -1,7 +1,7 @@
 -- What statements in a transaction make of the tables. For private clauses.
-use Rattle.std.specs.Prelude.{◌≡◌, ℕ, true, List, [], ◌∷◌, ◌++◌, map, Ok, IsTrue, IsPermutation}
+use Rattle.std.specs.Prelude.{◌≡◌, ◌≢◌, ℕ, true, List, [], ◌∷◌, Ok, IsTrue, IsPermutation}
 use Rattle.std.specs.List.{AllByRecursion}
-use Rattle.gate_tables.specs.Applied.{put, without, applied}
+use Rattle.gate_tables.specs.Applied.{put, without, applied, no_rows}
 use Rattle.gate_tables.specs.Database.{all_schema, cells}
 use Rattle.gate_tables.specs.Contents.{AreSame, rows_at}
 use Rattle.gate_tables.specs.Database as database
@@ -9,7 +9,6 @@ use Rattle.gate_tables.specs.Forms as forms
 use Rattle.gate_tables.specs.Kept.{AreKept}
 use Rattle.gate_tables.specs.Forms.{Form, rows_of}
 use Rattle.gate_tables.specs.declared.change.RowChange.{RowChange}
-use Rattle.gate_tables.specs.declared.row.Rows.{Rows}
 use Rattle.gate_tables.specs.declared.read.First.{First}
 use Rattle.gate_tables.specs.declared.read.Last.{Last}
 use Rattle.sqlite.specs.Order.{Row}
@@ -31,6 +30,11 @@ pub record IsInside (schema : Schema) (s : State) : Type 0 where
   pub schema_is : s.now.schema ≡ schema
   pub kept : AreKept schema s.now.trees
 
+-- an open transaction over these tables, none of which has a row
+pub record IsBare (schema : Schema) (s : State) : Type 0 where
+  pub inside : IsInside schema s
+  pub none : AllByRecursion (λ t. s.now.trees t.tree ≡ []) schema.tables
+
 -- a database of all tables, with nothing under way
 pub record IsReady (s : State) : Type 0 where
   pub schema_is : s.now.schema ≡ all_schema
@@ -42,86 +46,41 @@ pub record Leaves (old new : State) : Type 0 where
   pub was_open : IsTrue new.is_open → IsTrue old.is_open
   pub same : IsTrue new.is_open → old.now ≡ old.committed → (new.now ≡ old.now) × (new.committed ≡ old.committed)
 
--- every table but those at these trees is as it was
-abbrev pub Spares : Schema → (ℕ → Type 0) → Trees → Trees → Type 0
-Spares schema IsWritten old new = AllByRecursion (λ t. ¬ IsWritten t.tree → new t.tree ≡ old t.tree) schema.tables
+-- every table but the one at this tree is as it was
+abbrev pub Spares : ℕ → Trees → Trees → Type 0
+Spares tree old new = AllByRecursion (λ t. t.tree ≢ tree → new t.tree ≡ old t.tree) all_schema.tables
 
-module _ {R : Type 0} (schema : Schema) (form : Form R) where
+module _ {R : Type 0} (form : Form R) where
   -- one more row
   pub record Adds (r : R) (old new : Trees) : Type 0 where
     pub added : IsPermutation (form.values r ∷ cells form.layout old) (cells form.layout new)
-    pub others : Spares schema (λ t. t ≡ form.layout.tree) old new
-
-  pub record AddsAll (rs : List R) (old new : Trees) : Type 0 where
-    pub added : IsPermutation (map form.values rs ++ cells form.layout old) (cells form.layout new)
-    pub others : Spares schema (λ t. t ≡ form.layout.tree) old new
-
-  pub record Empties (old new : Trees) : Type 0 where
-    pub none : cells form.layout new ≡ []
-    pub others : Spares schema (λ t. t ≡ form.layout.tree) old new
-
-  -- these rows in place of those before
-  pub record Replaces (rs : List R) (old new : Trees) : Type 0 where
-    pub rows : IsPermutation rs (rows_of form new)
-    pub others : Spares schema (λ t. t ≡ form.layout.tree) old new
+    pub others : Spares form.layout.tree old new
 
   -- a row in place of the one that has its key, or one row more
   pub record Puts (r : R) (old new : Trees) : Type 0 where
-    pub rows : IsPermutation (put form r (rows_of form old)) (rows_of form new)
-    pub others : Spares schema (λ t. t ≡ form.layout.tree) old new
+    pub rows : IsPermutation (rows_of form new) (put form r (rows_of form old))
+    pub others : Spares form.layout.tree old new
 
   -- the row of a key is gone
   pub record Drops (key : Row) (old new : Trees) : Type 0 where
     pub rows : without form key (rows_of form old) ≡ rows_of form new
-    pub others : Spares schema (λ t. t ≡ form.layout.tree) old new
+    pub others : Spares form.layout.tree old new
 
 -- row changes were applied, and the answers are as they were
 pub record Changes (changes : List RowChange) (old new : Trees) : Type 0 where
   pub rows_are : AreSame (rows_at new) (applied changes (rows_at old))
   pub answers : new database.answers.tree ≡ old database.answers.tree
 
--- the first four tables have these rows, and the answers are as they were
-pub record FillsFirst (rows : Rows) (old new : Trees) : Type 0 where
-  pub desk : IsPermutation rows.desk (rows_of forms.desk new)
-  pub people : IsPermutation rows.people (rows_of forms.people new)
-  pub changes : IsPermutation rows.changes (rows_of forms.changes new)
-  pub marks : IsPermutation rows.marks (rows_of forms.marks new)
-  pub answers : new database.answers.tree ≡ old database.answers.tree
-
--- the last three have these rows, and all others are as they were
-pub record FillsLast (rows : Rows) (old new : Trees) : Type 0 where
-  pub batches : IsPermutation rows.batches (rows_of forms.batches new)
-  pub members : IsPermutation rows.members (rows_of forms.members new)
-  pub statuses : IsPermutation rows.statuses (rows_of forms.statuses new)
-  pub desk : new database.desk.tree ≡ old database.desk.tree
-  pub people : new database.people.tree ≡ old database.people.tree
-  pub changes : new database.changes.tree ≡ old database.changes.tree
-  pub marks : new database.marks.tree ≡ old database.marks.tree
-  pub answers : new database.answers.tree ≡ old database.answers.tree
-
--- all seven have these rows
-pub record Fills (rows : Rows) (old new : Trees) : Type 0 where
-  pub rows_are : AreSame (rows_at new) rows
-  pub answers : new database.answers.tree ≡ old database.answers.tree
-
--- The rows became others, and there is one answer more.
-pub record Commits (Became : Rows → Rows → Type 0) (id body : List ℕ) (old new : State) : Type 0 where
+-- Row changes were applied, and there is one answer more.
+pub record Applied (changes : List RowChange) (id body : List ℕ) (old new : State) : Type 0 where
   pub ready : IsReady new
-  pub rows_are : Became (rows_at old.now.trees) (rows_at new.now.trees)
+  pub rows_are : AreSame (rows_at new.now.trees) (applied changes (rows_at old.now.trees))
   pub added : IsPermutation (forms.answers.values (id, body) ∷ cells forms.answers.layout old.now.trees) (cells forms.answers.layout new.now.trees)
 
--- they are these rows
-abbrev pub Wrote : Rows → List ℕ → List ℕ → State → State → Type 0
-Wrote rows = Commits (λ before now. AreSame now rows)
-
--- they are those before with row changes applied
-abbrev pub Applied : List RowChange → List ℕ → List ℕ → State → State → Type 0
-Applied changes = Commits (λ before now. AreSame now (applied changes before))
-
--- the tables were made with these rows, and no answer
-pub record Made (rows : Rows) (new : State) : Type 0 where
+-- the tables were made, row changes were applied, and there is no answer
+pub record Made (changes : List RowChange) (new : State) : Type 0 where
   pub ready : IsReady new
-  pub rows_are : AreSame (rows_at new.now.trees) rows
+  pub rows_are : AreSame (rows_at new.now.trees) (applied changes no_rows)
   pub none : cells forms.answers.layout new.now.trees ≡ []
 
 -- what was read of the first four tables, and of the last three

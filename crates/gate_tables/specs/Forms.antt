@@ -20,7 +20,6 @@ pub record Form (R : Type 0) : Type 0 where
   pub at : ℕ
   pub insert : List ℕ
   pub select : List ℕ
-  pub clear : List ℕ
   -- the columns of a record, and the record of some columns
   pub values : R → Row
   pub read : Row → R
@@ -35,7 +34,6 @@ desk = record {
   at = 0;
   insert = codes "INSERT INTO desk (one, version, next_batch, clock, base, timeout_sec, required_approvals, max_batch_size) VALUES (?1, ?2, ?3, ?4, ?5, ?6, ?7, ?8)";
   select = codes "SELECT one, version, next_batch, clock, base, timeout_sec, required_approvals, max_batch_size FROM desk";
-  clear = codes "DELETE FROM desk";
   values = λ r. Int r.one ∷ Int r.version ∷ Int r.next_batch ∷ Int r.clock ∷ Text r.base ∷ Int r.timeout_sec ∷ Int r.required_approvals ∷ Int r.max_batch_size ∷ [];
   read = λ c. record { one = id_in (column c 0); version = id_in (column c 1); next_batch = id_in (column c 2); clock = id_in (column c 3); base = bytes (column c 4); timeout_sec = id_in (column c 5); required_approvals = id_in (column c 6); max_batch_size = id_in (column c 7) };
 }
@@ -46,7 +44,6 @@ people = record {
   at = 1;
   insert = codes "INSERT INTO people (name, role) VALUES (?1, ?2)";
   select = codes "SELECT name, role FROM people";
-  clear = codes "DELETE FROM people";
   values = λ r. Text r.name ∷ Int r.role ∷ [];
   read = λ c. record { name = bytes (column c 0); role = id_in (column c 1) };
 }
@@ -57,7 +54,6 @@ changes = record {
   at = 2;
   insert = codes "INSERT INTO changes (number, author, head, phase, priority, approved, last_command) VALUES (?1, ?2, ?3, ?4, ?5, ?6, ?7)";
   select = codes "SELECT number, author, head, phase, priority, approved, last_command FROM changes";
-  clear = codes "DELETE FROM changes";
   values = λ r. Int r.number ∷ Text r.author ∷ Text r.head ∷ Int r.phase ∷ Int r.priority ∷ Int r.approved ∷ Int r.last_command ∷ [];
   read = λ c. record { number = id_in (column c 0); author = bytes (column c 1); head = bytes (column c 2); phase = id_in (column c 3); priority = id_in (column c 4); approved = id_in (column c 5); last_command = id_in (column c 6) };
 }
@@ -68,7 +64,6 @@ marks = record {
   at = 3;
   insert = codes "INSERT INTO marks (change_no, kind, word, place) VALUES (?1, ?2, ?3, ?4)";
   select = codes "SELECT change_no, kind, word, place FROM marks";
-  clear = codes "DELETE FROM marks";
   values = λ r. Int r.change_no ∷ Int r.kind ∷ Text r.word ∷ Int r.place ∷ [];
   read = λ c. record { change_no = id_in (column c 0); kind = id_in (column c 1); word = bytes (column c 2); place = id_in (column c 3) };
 }
@@ -79,7 +74,6 @@ batches = record {
   at = 4;
   insert = codes "INSERT INTO batches (number, branch, priority, again, phase, since, sha) VALUES (?1, ?2, ?3, ?4, ?5, ?6, ?7)";
   select = codes "SELECT number, branch, priority, again, phase, since, sha FROM batches";
-  clear = codes "DELETE FROM batches";
   values = λ r. Int r.number ∷ Int r.branch ∷ Int r.priority ∷ Int r.again ∷ Int r.phase ∷ Int r.since ∷ Text r.sha ∷ [];
   read = λ c. record { number = id_in (column c 0); branch = id_in (column c 1); priority = id_in (column c 2); again = id_in (column c 3); phase = id_in (column c 4); since = id_in (column c 5); sha = bytes (column c 6) };
 }
@@ -90,7 +84,6 @@ members = record {
   at = 5;
   insert = codes "INSERT INTO members (batch, place, change_no) VALUES (?1, ?2, ?3)";
   select = codes "SELECT batch, place, change_no FROM members";
-  clear = codes "DELETE FROM members";
   values = λ r. Int r.batch ∷ Int r.place ∷ Int r.change_no ∷ [];
   read = λ c. record { batch = id_in (column c 0); place = id_in (column c 1); change_no = id_in (column c 2) };
 }
@@ -101,7 +94,6 @@ statuses = record {
   at = 6;
   insert = codes "INSERT INTO statuses (batch, name, report) VALUES (?1, ?2, ?3)";
   select = codes "SELECT batch, name, report FROM statuses";
-  clear = codes "DELETE FROM statuses";
   values = λ r. Int r.batch ∷ Text r.name ∷ Int r.report ∷ [];
   read = λ c. record { batch = id_in (column c 0); name = bytes (column c 1); report = id_in (column c 2) };
 }
@@ -113,7 +105,6 @@ answers = record {
   at = 7;
   insert = codes "INSERT INTO answers (id, body) VALUES (?1, ?2)";
   select = codes "SELECT id, body FROM answers";
-  clear = codes "DELETE FROM answers";
   values = λ r. Text r.0 ∷ Text r.1 ∷ [];
   read = λ c. (bytes (column c 0), bytes (column c 1));
 }

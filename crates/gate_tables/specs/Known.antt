@@ -56,10 +56,6 @@ pub record Selects {R : Type 0} (form : Form R) : Type 0 where
   pub unlisted : reads_listing all_schema form.select ≡ false
   pub shown : (row : Row) → eval_all terms ([] ∷ row ∷ []) ≡ columns_of form.layout row
 
-pub record Clears {R : Type 0} (form : Form R) : Type 0 where
-  pub is : command_of (understood all_schema form.clear) ≡ Delete form.at (program (picked form.layout.tree [] (col 1 0 ∷ [])))
-  pub plain : IsPlain (understood all_schema form.clear)
-
 -- What is changed in a row that has the key of another: the columns of the key stay, and all others become the other's.
 pub record Updates {R : Type 0} (form : Form R) : Type 0 where
   pub terms : List Term
@@ -80,7 +76,6 @@ pub record IsKnown {R : Type 0} (form : Form R) : Type 0 where
   pub wholes : (r : R) → is_whole form.layout.columns (form.values r) ≡ true
   pub inserts : Inserts form
   pub selects : Selects form
-  pub clears : Clears form
 
 -- the statements on the row of a key are understood, too
 pub record IsKeyed {R : Type 0} (form : Form R) : Type 0 where

@@ -4,7 +4,7 @@ use Rattle.gate_tables.specs.Casts.{cast_null, cast_int, text_kept, int_again, t
 use Rattle.gate_tables.specs.Database.{columns_of, table_of}
 use Rattle.gate_tables.specs.Forms as forms
 use Rattle.gate_tables.specs.Kept.{is_whole}
-use Rattle.gate_tables.specs.Known.{Inserts, Selects, Clears, Updates, Deletes, IsKnown, IsKeyed}
+use Rattle.gate_tables.specs.Known.{Inserts, Selects, Updates, Deletes, IsKnown, IsKeyed}
 use Rattle.gate_tables.specs.declared.row.PersonRow.{PersonRow}
 use Rattle.sqlite.specs.Cast.{cast_row}
 use Rattle.sqlite.specs.Edit.{with_rowid}
@@ -40,13 +40,9 @@ selects = record {
   shown = λ row. refl;
 }
 
-clears : Clears forms.people
-unfolding understood everything
-clears = record { is = refl; plain = (refl, refl) }
-
 -- what is read of a whole row is all of it
-again : (row : Row) → is_whole forms.people.layout.columns (columns_of forms.people.layout row) ≡ true → forms.people.values (forms.people.read (columns_of forms.people.layout row)) ≡ columns_of forms.people.layout row
-again row whole = let kinds = each forms.people.layout.columns (columns_of forms.people.layout row) whole in λ i. text_again (column row 1) kinds.0 i ∷ int_again (column row 2) kinds.1.0 i ∷ []
+again : (cells : Row) → is_whole forms.people.layout.columns (columns_of forms.people.layout cells) ≡ true → forms.people.values (forms.people.read (columns_of forms.people.layout cells)) ≡ columns_of forms.people.layout cells
+again cells whole = let kinds = each forms.people.layout.columns (columns_of forms.people.layout cells) whole in λ i. text_again (column cells 1) kinds.0 i ∷ int_again (column cells 2) kinds.1.0 i ∷ []
 
 updates : Updates forms.people
 unfolding understood everything
@@ -55,7 +51,7 @@ updates = record {
   is = refl;
   plain = (refl, refl);
   given = λ r. (refl, tt);
-  stored = λ r row whole. let kinds = each forms.people.layout.columns (columns_of forms.people.layout row) whole in λ i. text_kept (column row 1) kinds.0 i ∷ cast_int r.role i ∷ [];
+  stored = λ r cells whole. let kinds = each forms.people.layout.columns (columns_of forms.people.layout cells) whole in λ i. text_kept (column cells 1) kinds.0 i ∷ cast_int r.role i ∷ [];
 }
 
 deletes : Deletes forms.people
@@ -63,7 +59,7 @@ unfolding understood everything
 deletes = record { is = refl; plain = (refl, refl) }
 
 pub known : IsKnown forms.people
-known = record { listed = refl; reads = λ r. refl; wholes = λ r. refl; inserts = inserts; selects = selects; clears = clears }
+known = record { listed = refl; reads = λ r. refl; wholes = λ r. refl; inserts = inserts; selects = selects }
 
 pub keyed : IsKeyed forms.people
 keyed = record { known = known; places = (2 ∷ [], refl); fronts = λ r. (refl, refl); whole_again = again; updates = updates; deletes = deletes }

@@ -4,7 +4,7 @@ use Rattle.gate_tables.specs.Casts.{cast_null, cast_int, int_kept, text_kept, in
 use Rattle.gate_tables.specs.Database.{columns_of, table_of}
 use Rattle.gate_tables.specs.Forms as forms
 use Rattle.gate_tables.specs.Kept.{is_whole}
-use Rattle.gate_tables.specs.Known.{Inserts, Selects, Clears, Updates, Deletes, IsKnown, IsKeyed}
+use Rattle.gate_tables.specs.Known.{Inserts, Selects, Updates, Deletes, IsKnown, IsKeyed}
 use Rattle.gate_tables.specs.declared.row.StatusRow.{StatusRow}
 use Rattle.sqlite.specs.Cast.{cast_row}
 use Rattle.sqlite.specs.Edit.{with_rowid}
@@ -40,13 +40,9 @@ selects = record {
   shown = λ row. refl;
 }
 
-clears : Clears forms.statuses
-unfolding understood everything
-clears = record { is = refl; plain = (refl, refl) }
-
 -- what is read of a whole row is all of it
-again : (row : Row) → is_whole forms.statuses.layout.columns (columns_of forms.statuses.layout row) ≡ true → forms.statuses.values (forms.statuses.read (columns_of forms.statuses.layout row)) ≡ columns_of forms.statuses.layout row
-again row whole = let kinds = each forms.statuses.layout.columns (columns_of forms.statuses.layout row) whole in λ i. int_again (column row 1) kinds.0 i ∷ text_again (column row 2) kinds.1.0 i ∷ int_again (column row 3) kinds.1.1.0 i ∷ []
+again : (cells : Row) → is_whole forms.statuses.layout.columns (columns_of forms.statuses.layout cells) ≡ true → forms.statuses.values (forms.statuses.read (columns_of forms.statuses.layout cells)) ≡ columns_of forms.statuses.layout cells
+again cells whole = let kinds = each forms.statuses.layout.columns (columns_of forms.statuses.layout cells) whole in λ i. int_again (column cells 1) kinds.0 i ∷ text_again (column cells 2) kinds.1.0 i ∷ int_again (column cells 3) kinds.1.1.0 i ∷ []
 
 updates : Updates forms.statuses
 unfolding understood everything
@@ -55,7 +51,7 @@ updates = record {
   is = refl;
   plain = (refl, refl);
   given = λ r. (refl, (refl, tt));
-  stored = λ r row whole. let kinds = each forms.statuses.layout.columns (columns_of forms.statuses.layout row) whole in λ i. int_kept (column row 1) kinds.0 i ∷ text_kept (column row 2) kinds.1.0 i ∷ cast_int r.report i ∷ [];
+  stored = λ r cells whole. let kinds = each forms.statuses.layout.columns (columns_of forms.statuses.layout cells) whole in λ i. int_kept (column cells 1) kinds.0 i ∷ text_kept (column cells 2) kinds.1.0 i ∷ cast_int r.report i ∷ [];
 }
 
 deletes : Deletes forms.statuses
@@ -63,7 +59,7 @@ unfolding understood everything
 deletes = record { is = refl; plain = (refl, refl) }
 
 pub known : IsKnown forms.statuses
-known = record { listed = refl; reads = λ r. refl; wholes = λ r. refl; inserts = inserts; selects = selects; clears = clears }
+known = record { listed = refl; reads = λ r. refl; wholes = λ r. refl; inserts = inserts; selects = selects }
 
 pub keyed : IsKeyed forms.statuses
 keyed = record { known = known; places = (3 ∷ [], refl); fronts = λ r. (refl, refl); whole_again = again; updates = updates; deletes = deletes }

@@ -21,7 +21,7 @@ use sqlite::{Alter, Connection, Transaction, params};
 fn put<S: Alter, R: TableRow>(tx: &mut Transaction<'_, S>, row: &R) -> Result<(), TablesFault>
     ensures same_reference { tx.new.conn.ghost_name ≡ tx.old.conn.ghost_name }
     ensures put { HasCleanDisk (state S.Store tx.new.conn.now) → OnOk result (IsInside all_schema (state S.Store tx.old.conn.now)
-        → IsInside all_schema (state S.Store tx.new.conn.now) × Puts all_schema R.form row.now (state S.Store tx.old.conn.now).now.trees (state S.Store tx.new.conn.now).now.trees) }
+        → IsInside all_schema (state S.Store tx.new.conn.now) × Puts R.form row.now (state S.Store tx.old.conn.now).now.trees (state S.Store tx.new.conn.now).now.trees) }
     ensures kept { HasCleanDisk (state S.Store tx.new.conn.now) → KeepsCommit (state S.Store tx.old.conn.now) (state S.Store tx.new.conn.now) }
     ensures clean { HasCleanDisk (state S.Store tx.new.conn.now) → HasCleanDisk (state S.Store tx.old.conn.now) }
 {
@@ -39,7 +39,7 @@ fn delete<S: Alter, R: TableRow>(
     ensures same_reference { tx.new.conn.ghost_name ≡ tx.old.conn.ghost_name }
     ensures dropped { HasCleanDisk (state S.Store tx.new.conn.now) → OnOk result (IsGivenAt 0 (bound key.now) (bound key.now)
         → is_front R.form.layout.columns (bound key.now) ≡ true → length (bound key.now) ≡ key_width R.form.layout → IsInside all_schema (state S.Store tx.old.conn.now)
-        → IsInside all_schema (state S.Store tx.new.conn.now) × Drops all_schema R.form (bound key.now) (state S.Store tx.old.conn.now).now.trees (state S.Store tx.new.conn.now).now.trees) }
+        → IsInside all_schema (state S.Store tx.new.conn.now) × Drops R.form (bound key.now) (state S.Store tx.old.conn.now).now.trees (state S.Store tx.new.conn.now).now.trees) }
     ensures kept { HasCleanDisk (state S.Store tx.new.conn.now) → KeepsCommit (state S.Store tx.old.conn.now) (state S.Store tx.new.conn.now) }
     ensures clean { HasCleanDisk (state S.Store tx.new.conn.now) → HasCleanDisk (state S.Store tx.old.conn.now) }
 {
@@ -105,7 +105,7 @@ fn change_one<S: Alter>(tx: &mut Transaction<'_, S>, change: &RowChange) -> Resu
 }
 
 // Makes row changes, one after the other.
-fn change_all<S: Alter>(
+pub(crate) fn change_all<S: Alter>(
     tx: &mut Transaction<'_, S>,
     changes: &[RowChange],
 ) -> Result<(), TablesFault>

@@ -14,10 +14,6 @@ impl TableRow for BatchRow {
         "SELECT number, branch, priority, again, phase, since, sha FROM batches"
     }
 
-    fn clear_text() -> &'static str {
-        "DELETE FROM batches"
-    }
-
     fn delete_text() -> &'static str {
         "DELETE FROM batches WHERE number = ?1"
     }

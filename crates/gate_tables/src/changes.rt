@@ -14,10 +14,6 @@ impl TableRow for ChangeRow {
         "SELECT number, author, head, phase, priority, approved, last_command FROM changes"
     }
 
-    fn clear_text() -> &'static str {
-        "DELETE FROM changes"
-    }
-
     fn delete_text() -> &'static str {
         "DELETE FROM changes WHERE number = ?1"
     }

@@ -1,7 +1,6 @@
-ghost use Rattle.std.specs.Prelude.{◌≡◌, [], OnOk};
+ghost use Rattle.std.specs.Prelude.{◌≡◌, OnOk};
 ghost use Rattle.gate_tables.specs.Creation.{after_first};
-ghost use Rattle.gate_tables.specs.Database.{answers};
-ghost use Rattle.gate_tables.specs.Effects.{IsInside};
+ghost use Rattle.gate_tables.specs.Effects.{IsBare};
 ghost use Rattle.sqlite.specs.Held.{state};
 ghost use Rattle.sqlite.specs.State.{HasCleanDisk, KeepsCommit};
 
@@ -11,8 +10,8 @@ use sqlite::{Alter, Transaction};
 
 fn create_first<S: Alter>(tx: &mut Transaction<'_, S>) -> Result<(), TablesFault>
     ensures same_reference { tx.new.conn.ghost_name ≡ tx.old.conn.ghost_name }
-    ensures made { HasCleanDisk (state S.Store tx.new.conn.now) → OnOk result (IsInside (after_first 0) (state S.Store tx.old.conn.now)
-        → IsInside (after_first 4) (state S.Store tx.new.conn.now)) }
+    ensures made { HasCleanDisk (state S.Store tx.new.conn.now) → OnOk result (IsBare (after_first 0) (state S.Store tx.old.conn.now)
+        → IsBare (after_first 4) (state S.Store tx.new.conn.now)) }
     ensures kept { HasCleanDisk (state S.Store tx.new.conn.now) → KeepsCommit (state S.Store tx.old.conn.now) (state S.Store tx.new.conn.now) }
     ensures clean { HasCleanDisk (state S.Store tx.new.conn.now) → HasCleanDisk (state S.Store tx.old.conn.now) }
 {
@@ -40,8 +39,8 @@ fn create_first<S: Alter>(tx: &mut Transaction<'_, S>) -> Result<(), TablesFault
 
 fn create_last<S: Alter>(tx: &mut Transaction<'_, S>) -> Result<(), TablesFault>
     ensures same_reference { tx.new.conn.ghost_name ≡ tx.old.conn.ghost_name }
-    ensures made { HasCleanDisk (state S.Store tx.new.conn.now) → OnOk result (IsInside (after_first 4) (state S.Store tx.old.conn.now)
-        → IsInside (after_first 8) (state S.Store tx.new.conn.now) × ((state S.Store tx.new.conn.now).now.trees answers.tree ≡ [])) }
+    ensures made { HasCleanDisk (state S.Store tx.new.conn.now) → OnOk result (IsBare (after_first 4) (state S.Store tx.old.conn.now)
+        → IsBare (after_first 8) (state S.Store tx.new.conn.now)) }
     ensures kept { HasCleanDisk (state S.Store tx.new.conn.now) → KeepsCommit (state S.Store tx.old.conn.now) (state S.Store tx.new.conn.now) }
     ensures clean { HasCleanDisk (state S.Store tx.new.conn.now) → HasCleanDisk (state S.Store tx.old.conn.now) }
 {
@@ -67,11 +66,11 @@ fn create_last<S: Alter>(tx: &mut Transaction<'_, S>) -> Result<(), TablesFault>
     )
 }
 
-// Makes the eight tables, in a database that has none.
+// Makes the eight tables, which have no rows, in a database that has none.
 pub(crate) fn create<S: Alter>(tx: &mut Transaction<'_, S>) -> Result<(), TablesFault>
     ensures same_reference { tx.new.conn.ghost_name ≡ tx.old.conn.ghost_name }
-    ensures made { HasCleanDisk (state S.Store tx.new.conn.now) → OnOk result (IsInside (after_first 0) (state S.Store tx.old.conn.now)
-        → IsInside (after_first 8) (state S.Store tx.new.conn.now) × ((state S.Store tx.new.conn.now).now.trees answers.tree ≡ [])) }
+    ensures made { HasCleanDisk (state S.Store tx.new.conn.now) → OnOk result (IsBare (after_first 0) (state S.Store tx.old.conn.now)
+        → IsBare (after_first 8) (state S.Store tx.new.conn.now)) }
     ensures kept { HasCleanDisk (state S.Store tx.new.conn.now) → KeepsCommit (state S.Store tx.old.conn.now) (state S.Store tx.new.conn.now) }
     ensures clean { HasCleanDisk (state S.Store tx.new.conn.now) → HasCleanDisk (state S.Store tx.old.conn.now) }
 {

@@ -14,10 +14,6 @@ impl TableRow for DeskRow {
         "SELECT one, version, next_batch, clock, base, timeout_sec, required_approvals, max_batch_size FROM desk"
     }
 
-    fn clear_text() -> &'static str {
-        "DELETE FROM desk"
-    }
-
     fn delete_text() -> &'static str {
         "DELETE FROM desk WHERE one = ?1"
     }

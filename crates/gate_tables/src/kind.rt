@@ -1,13 +1,13 @@
 ghost use Rattle.std.specs.Prelude.{◌≡◌, map, false, IsTrue, IfOk, OnOk, IsPermutation};
 ghost use Rattle.gate_tables.specs.Database.{all_schema};
-ghost use Rattle.gate_tables.specs.Effects.{RanInside, RanOn, IsInside, AddsAll, Empties, Replaces, Leaves};
+ghost use Rattle.gate_tables.specs.Effects.{RanInside, RanOn, Leaves};
 ghost use Rattle.gate_tables.specs.Forms.{rows_of};
 ghost use Rattle.gate_tables.specs.Texts.{delete_text, update_text};
 ghost use Rattle.sqlite.specs.Held.{state};
 ghost use Rattle.sqlite.specs.State.{HasCleanDisk, KeepsCommit};
 
 use crate::fault::TablesFault;
-use crate::statement::{run, select};
+use crate::statement::select;
 use gate_text::List;
 use sqlite::{Alter, Connection, Row, Transaction};
 use std::alloc::Global;
@@ -23,10 +23,6 @@ pub(crate) trait TableRow: Sized + Drop {
     // The text that asks for all rows.
     fn select_text() -> &'static str
         ensures text { result.now ≡ form.select };
-
-    // The text that removes all rows.
-    fn clear_text() -> &'static str
-        ensures text { result.now ≡ form.clear };
 
     // The text that deletes the row of a key.
     fn delete_text() -> &'static str
@@ -51,49 +47,6 @@ pub(crate) trait TableRow: Sized + Drop {
         ensures value { IfOk result (λ read. read ≡ form.read row.now) };
 
     ghost keyed: { IsKeyed form };
-}
-
-// Adds rows to their table.
-pub(crate) fn put_all<S: Alter, R: TableRow>(
-    tx: &mut Transaction<'_, S>,
-    rows: &[R],
-) -> Result<(), TablesFault>
-    ensures same_reference { tx.new.conn.ghost_name ≡ tx.old.conn.ghost_name }
-    ensures added { HasCleanDisk (state S.Store tx.new.conn.now) → OnOk result (IsInside all_schema (state S.Store tx.old.conn.now)
-        → IsInside all_schema (state S.Store tx.new.conn.now) × AddsAll all_schema R.form rows.now (state S.Store tx.old.conn.now).now.trees (state S.Store tx.new.conn.now).now.trees) }
-    ensures kept { HasCleanDisk (state S.Store tx.new.conn.now) → KeepsCommit (state S.Store tx.old.conn.now) (state S.Store tx.new.conn.now) }
-    ensures clean { HasCleanDisk (state S.Store tx.new.conn.now) → HasCleanDisk (state S.Store tx.old.conn.now) }
-{
-    for row in rows {
-        row.put(tx)?;
-    }
-    Ok(())
-}
-
-// Removes all rows of a table.
-pub(crate) fn clear<S: Alter, R: TableRow>(tx: &mut Transaction<'_, S>) -> Result<(), TablesFault>
-    ensures same_reference { tx.new.conn.ghost_name ≡ tx.old.conn.ghost_name }
-    ensures emptied { HasCleanDisk (state S.Store tx.new.conn.now) → OnOk result (IsInside all_schema (state S.Store tx.old.conn.now)
-        → IsInside all_schema (state S.Store tx.new.conn.now) × Empties all_schema R.form (state S.Store tx.old.conn.now).now.trees (state S.Store tx.new.conn.now).now.trees) }
-    ensures kept { HasCleanDisk (state S.Store tx.new.conn.now) → KeepsCommit (state S.Store tx.old.conn.now) (state S.Store tx.new.conn.now) }
-    ensures clean { HasCleanDisk (state S.Store tx.new.conn.now) → HasCleanDisk (state S.Store tx.old.conn.now) }
-{
-    run(tx, R::clear_text(), &[])
-}
-
-// Puts rows in place of those of their table.
-pub(crate) fn replace<S: Alter, R: TableRow>(
-    tx: &mut Transaction<'_, S>,
-    rows: &[R],
-) -> Result<(), TablesFault>
-    ensures same_reference { tx.new.conn.ghost_name ≡ tx.old.conn.ghost_name }
-    ensures replaced { HasCleanDisk (state S.Store tx.new.conn.now) → OnOk result (IsInside all_schema (state S.Store tx.old.conn.now)
-        → IsInside all_schema (state S.Store tx.new.conn.now) × Replaces all_schema R.form rows.now (state S.Store tx.old.conn.now).now.trees (state S.Store tx.new.conn.now).now.trees) }
-    ensures kept { HasCleanDisk (state S.Store tx.new.conn.now) → KeepsCommit (state S.Store tx.old.conn.now) (state S.Store tx.new.conn.now) }
-    ensures clean { HasCleanDisk (state S.Store tx.new.conn.now) → HasCleanDisk (state S.Store tx.old.conn.now) }
-{
-    clear::<S, R>(tx)?;
-    put_all(tx, rows)
 }
 
 // What the rows of an answer say.

@@ -1,5 +1,5 @@
-//! The eight tables of the records in a SQLite database, as rows: they are made, read whole, and written whole with one answer,
-//! in one transaction or not at all. What rows stand for isn't known here.
+//! The eight tables of the records in a SQLite database, as rows: they are made, read whole, and changed row by row with one
+//! answer, in one transaction or not at all. What rows stand for isn't known here.
 #![tactic(auto)]
 
 mod answers;
@@ -10,9 +10,9 @@ mod changes;
 mod create;
 mod desk;
 mod fault;
-mod fill;
 mod kind;
 mod laws;
+mod make;
 mod marks;
 mod members;
 mod people;
@@ -21,11 +21,10 @@ mod row;
 mod statement;
 mod statuses;
 mod tables;
-mod write;
 
 pub use change::{Row, RowChange, RowKey};
 pub use fault::TablesFault;
 pub use laws::law_of_differences;
+pub use make::is_blank;
 pub use row::{BatchRow, ChangeRow, DeskRow, MarkRow, MemberRow, PersonRow, Rows, StatusRow};
 pub use tables::{NotMade, Tables};
-pub use write::is_blank;

@@ -14,10 +14,6 @@ impl TableRow for MarkRow {
         "SELECT change_no, kind, word, place FROM marks"
     }
 
-    fn clear_text() -> &'static str {
-        "DELETE FROM marks"
-    }
-
     fn delete_text() -> &'static str {
         "DELETE FROM marks WHERE change_no = ?1 AND kind = ?2 AND word = ?3"
     }

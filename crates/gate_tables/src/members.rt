@@ -14,10 +14,6 @@ impl TableRow for MemberRow {
         "SELECT batch, place, change_no FROM members"
     }
 
-    fn clear_text() -> &'static str {
-        "DELETE FROM members"
-    }
-
     fn delete_text() -> &'static str {
         "DELETE FROM members WHERE batch = ?1 AND place = ?2"
     }

@@ -14,10 +14,6 @@ impl TableRow for PersonRow {
         "SELECT name, role FROM people"
     }
 
-    fn clear_text() -> &'static str {
-        "DELETE FROM people"
-    }
-
     fn delete_text() -> &'static str {
         "DELETE FROM people WHERE name = ?1"
     }

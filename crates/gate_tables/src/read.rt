@@ -11,7 +11,8 @@ use gate_text::List;
 use sqlite::{Alter, Connection};
 use std::alloc::Global;
 
-// The rows of the first four tables, and of the last three. A function has four statements at the most.
+// The rows of the first four tables, and of the last three. A function has four statements at the most, since the proof of more
+// takes minutes.
 #[derive(Drop)]
 struct First {
     desk: List<DeskRow>,

@@ -14,10 +14,6 @@ impl TableRow for StatusRow {
         "SELECT batch, name, report FROM statuses"
     }
 
-    fn clear_text() -> &'static str {
-        "DELETE FROM statuses"
-    }
-
     fn delete_text() -> &'static str {
         "DELETE FROM statuses WHERE batch = ?1 AND name = ?2"
     }

@@ -1,18 +1,18 @@
 ghost use Rattle.std.specs.Prelude.{◌≡◌, [], None, false, IfOk, IfErr, OnOk, OnErr};
 ghost use Rattle.std.specs.FinMap.{empty, get, insert};
-ghost use Rattle.gate_tables.specs.Applied.{applied};
+ghost use Rattle.gate_tables.specs.Applied.{applied, no_rows};
 ghost use Rattle.gate_tables.specs.Contents.{AreSame};
 ghost use Rattle.gate_tables.specs.Database.{schema_of};
-ghost use Rattle.gate_tables.specs.Tables.{is_sound, rows_in, answers_in};
+ghost use Rattle.gate_tables.specs.Tables.{is_sound, rows_in, answers_in, IsBook};
 ghost use Rattle.sqlite.specs.Held.{state};
 
 use crate::answers::find_answer;
 use crate::apply::apply_all;
 use crate::change::RowChange;
 use crate::fault::TablesFault;
+use crate::make::make;
 use crate::read::read_rows;
 use crate::row::Rows;
-use crate::write::{make, write_all};
 use gate_text::Text;
 use sqlite::{Alter, Connection};
 use std::alloc::Global;
@@ -47,13 +47,13 @@ impl<S: Alter> Model for Tables<S> {
 }
 
 impl<S: Alter> Tables<S> {
-    /// Makes the tables with these rows and no answer, in a database that has no table, index or view. If it is refused, the
-    /// database is as it was, and the connection is handed back. `Store` if two rows of a table have one key, or if the database
-    /// fails, and `Memory` if there is no memory for it.
-    pub fn new(mut connection: Connection<S>, first: &Rows) -> Result<Tables<S>, NotMade<S>>
+    /// Makes the tables in a database that has no table, index or view, and makes these row changes in them, in their order. They
+    /// begin with no rows, and with no answer. If it is refused, the database is as it was, and the connection is handed back.
+    /// `Store` if the database fails, and `Memory` if there is no memory for it.
+    pub fn new(mut connection: Connection<S>, first: &[RowChange]) -> Result<Tables<S>, NotMade<S>>
         requires mode { connection.in_transaction ≡ false }
         requires blank { (state S.Store connection).now.schema ≡ schema_of [] }
-        ensures rows { IfOk result (λ tables. is_sound S.Store tables → AreSame (rows_in S.Store tables) first.now) }
+        ensures rows { IfOk result (λ tables. is_sound S.Store tables → AreSame (rows_in S.Store tables) (applied first.now no_rows)) }
         ensures answers { IfOk result (λ tables. is_sound S.Store tables → answers_in S.Store tables ≡ empty) }
         ensures same { IfErr result (λ refused. is_sound S.Store refused.connection → (state S.Store refused.connection).now ≡ (state S.Store connection).now) }
         ensures mode { IfErr result (λ refused. refused.connection.in_transaction ≡ false) }
@@ -73,12 +73,23 @@ impl<S: Alter> Tables<S> {
         }
     }
 
-    /// Hands back the connection as it is.
+    /// Hands back the connection as it is: no transaction is open.
     pub fn into_connection(self) -> Connection<S>
         ensures value { result ≡ self }
+        ensures mode { result.in_transaction ≡ false }
     {
         let Tables { connection } = self;
         connection
+    }
+
+    /// The connection as it is. No transaction is open. If it is sound, its database has the eight tables and nothing besides, in
+    /// each column of a row a value of its kind, and no two rows of a table with one key.
+    pub fn connection(&self) -> &Connection<S>
+        ensures value { result.now ≡ self.now }
+        ensures mode { self.now.in_transaction ≡ false }
+        ensures book { is_sound S.Store self.now → IsBook (state S.Store self.now) }
+    {
+        &self.connection
     }
 
     /// The rows of all tables but `answers`. It changes nothing. `Store` if the database fails, or if a row has values of
@@ -99,19 +110,6 @@ impl<S: Alter> Tables<S> {
         ensures was { is_sound S.Store self.new → is_sound S.Store self.old }
     {
         find_answer(&mut self.connection, id)
-    }
-
-    /// Puts these rows in place of all rows but the answers, and adds an answer under an identifier that has none, both or
-    /// neither: if it is refused, nothing changed. `Store` if two rows of a table have one key, or if the database fails, and
-    /// `Memory` if there is no memory for it.
-    pub fn write(&mut self, rows: &Rows, id: &str, body: &str) -> Result<(), TablesFault>
-        requires free { is_sound S.Store self.old → get (answers_in S.Store self.old) id.now ≡ None }
-        ensures rows { is_sound S.Store self.new → OnOk result (AreSame (rows_in S.Store self.new) rows.now) }
-        ensures answers { is_sound S.Store self.new → OnOk result (answers_in S.Store self.new ≡ insert (answers_in S.Store self.old) id.now body.now) }
-        ensures same { is_sound S.Store self.new → OnErr result ((rows_in S.Store self.new ≡ rows_in S.Store self.old) × (answers_in S.Store self.new ≡ answers_in S.Store self.old)) }
-        ensures was { is_sound S.Store self.new → is_sound S.Store self.old }
-    {
-        write_all(&mut self.connection, rows, id, body)
     }
 
     /// Makes row changes, in their order, and adds an answer under an identifier that has none, all or nothing: if it is refused,

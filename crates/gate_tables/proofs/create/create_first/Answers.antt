@@ -16,9 +16,8 @@ returns-clause-made g c clean =
     let third = c.run-4.ensures.clean clean in
     let second = c.run-3.ensures.clean third in
     let first = c.run-2.ensures.clean second in
-    on_ok_weaker c.run-4.result (λ last inside.
-    let i1 = creates (after_first 0) database.desk (after_first 1) creation.desk_text creation.desk s0 s1 inside (c.in_ok-run.ensures.ran first) in
-    let i2 = creates (after_first 1) database.people (after_first 2) creation.people_text creation.people s1 s2 i1.0 (c.in_ok-run-2.ensures.ran second) in
-    let i3 = creates (after_first 2) database.changes (after_first 3) creation.changes_text creation.changes s2 s3 i2.0 (c.in_ok-run-3.ensures.ran third) in
-    let i4 = creates (after_first 3) database.marks (after_first 4) creation.marks_text creation.marks s3 s4 i3.0 last in
-    i4.0) (c.run-4.ensures.ran clean)
+    on_ok_weaker c.run-4.result (λ last bare.
+    let i1 = creates (after_first 0) database.desk (after_first 1) creation.desk_text creation.desk s0 s1 bare (c.in_ok-run.ensures.ran first) in
+    let i2 = creates (after_first 1) database.people (after_first 2) creation.people_text creation.people s1 s2 i1 (c.in_ok-run-2.ensures.ran second) in
+    let i3 = creates (after_first 2) database.changes (after_first 3) creation.changes_text creation.changes s2 s3 i2 (c.in_ok-run-3.ensures.ran third) in
+    creates (after_first 3) database.marks (after_first 4) creation.marks_text creation.marks s3 s4 i3 last) (c.run-4.ensures.ran clean)

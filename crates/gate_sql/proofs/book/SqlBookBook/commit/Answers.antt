@@ -1,29 +1,50 @@
-use Rattle.std.proofs.Common.{◌≡◌, sym, ◌∙◌, ap, subst}
-use Rattle.std.specs.FinMap.{get, insert}
+use Rattle.std.proofs.Common.{sym, ◌∙◌, ap, subst}
+use Rattle.std.specs.FinMap.{insert}
 use Rattle.gate_store.specs.Reading.{answer_of}
-use Rattle.gate_tables.specs.Contents.{AreSame}
-use Rattle.gate_sql.specs.Decoding.{state_in}
-use Rattle.gate_sql.specs.Shown.{answers_of}
-use Rattle.gate_tables.specs.Tables.{is_sound, answers_in, rows_in}
-use Rattle.gate_tables.specs.declared.row.Rows.{Rows}
 use Rattle.gate_sql.proofs.Alike.{same_back}
-use Rattle.gate_sql.proofs.Shown.{get-answers, none_there, one_more}
+use Rattle.gate_sql.proofs.Holding.{AreTexts, holds_of, is_held, led_to, text_more}
+use Rattle.gate_sql.proofs.Shown.{one_more}
 use Rattle.gate_sql.proofs.book.SqlBookBook.commit.Goals as goal
+use Rattle.gate_sql.specs.Encoding.{rows_of}
+use Rattle.gate_sql.specs.Shown.{answers_of}
+use Rattle.gate_tables.specs.Tables.{answers_in, rows_in}
 
-pub write-written-requires : goal.write-written-requires
-write-written-requires g c = record {
-  free = λ sound.
-      let free = c.requires.free (subst (λ held. is_sound g.S.Store held) c.self.view_is sound) in
-      (λ i. get (answers_in g.S.Store (c.self.view_is i)) (c.text.ensures.value i)) ∙ none_there _ (sym (get-answers _ c.args.id.now) ∙ free);
-}
+pub invariant_of-self-in-Ok-written : goal.invariant_of-self-in-Ok-written
+invariant_of-self-in-Ok-written g c sound =
+    let new = c.apply-written.new.self in
+    let old = c.self.inside.tables in
+    let gate = c.args.gate.now in
+    let mid_sound = c.apply-written.ensures.was sound in
+    let held = c.self.invariant (c.changes_to.ensures.was mid_sound) in
+    let moved = c.changes_to.ensures.same mid_sound in
+    let same =
+    led_to c.as_slice.result.now c.in-Ok.changes.items (rows_in g.S.Store new) (rows_in g.S.Store c.changes_to.new.tables) (rows_in g.S.Store old) (rows_of gate)
+    (c.in-Ok-written.ensures.rows sound) c.as_slice.ensures.value moved.0 (c.in-Ok.ensures.led mid_sound held) in
+    let stands = c.law_of_rows_of.ensures (rows_in g.S.Store new) (same_back (rows_in g.S.Store new) (rows_of gate) same) in
+    let added = c.in-Ok-written.ensures.answers sound ∙ ap (λ texts. insert texts c.text.result.now c.as_str.result.now) moved.1 in
+    let texts =
+    text_more (answers_in g.S.Store old) c.text.result.now c.as_str.result.now c.args.answer.now (c.as_str.ensures.value ∙ c.in_ok-body.ensures.text) (ap answer_of c.as_str.ensures.value ∙ c.in_ok-body.ensures.reads)
+    held.texts_are in
+    is_held gate (rows_in g.S.Store new) (answers_in g.S.Store new) stands c.is_of_machine.ensures.state c.is_of_machine.ensures.limits same (subst AreTexts (sym added) texts)
 
-pub returns-in-Ok-clause-ok : goal.returns-in-Ok-clause-ok
-returns-in-Ok-clause-ok g c sound =
-    let same = subst (λ (rows : Rows). AreSame (rows_in g.S.Store c.write-written.new.self) rows) c.in_ok-rows.ensures.value (c.in-Ok.ensures.rows sound) in
-    let stands : state_in (rows_in g.S.Store c.write-written.new.self) ≡ c.args.gate.now = c.law_of_rows_of.ensures _ (same_back _ _ same) in
-    let answer = ap answer_of c.as_str.ensures.value ∙ c.in_ok-body.ensures in
+pub returns-in-Ok-written-clause-ok : goal.returns-in-Ok-written-clause-ok
+returns-in-Ok-written-clause-ok g c sound =
+    let new = c.apply-written.new.self in
+    let old = c.self.inside.tables in
+    let gate = c.args.gate.now in
+    let mid_sound = c.apply-written.ensures.was sound in
+    let held = c.self.invariant (c.changes_to.ensures.was mid_sound) in
+    let moved = c.changes_to.ensures.same mid_sound in
+    let same =
+    led_to c.as_slice.result.now c.in-Ok.changes.items (rows_in g.S.Store new) (rows_in g.S.Store c.changes_to.new.tables) (rows_in g.S.Store old) (rows_of gate)
+    (c.in-Ok-written.ensures.rows sound) c.as_slice.ensures.value moved.0 (c.in-Ok.ensures.led mid_sound held) in
+    let stands = c.law_of_rows_of.ensures (rows_in g.S.Store new) (same_back (rows_in g.S.Store new) (rows_of gate) same) in
+    let added = c.in-Ok-written.ensures.answers sound ∙ ap (λ texts. insert texts c.text.result.now c.as_str.result.now) moved.1 in
+    let answer = ap answer_of c.as_str.ensures.value ∙ c.in_ok-body.ensures.reads in
     let keeps =
-    ap answers_of (c.in-Ok.ensures.answers sound)
-    ∙ one_more (answers_in g.S.Store c.self.inside.tables) c.text.result.now c.as_str.result.now
+    ap answers_of added ∙ one_more (answers_in g.S.Store old) c.text.result.now c.as_str.result.now
     ∙ (λ i. insert (answers_of (answers_in g.S.Store (c.self.view_is i))) (c.text.ensures.value i) (answer i)) in
     λ i. record { state = stands i; kept = keeps i }
+
+pub returns-in-Ok-written-clause-holds : goal.returns-in-Ok-written-clause-holds
+returns-in-Ok-written-clause-holds g c sound = holds_of g.S.Store c.apply-written.new.self (c.connection.ensures.book sound) (invariant_of-self-in-Ok-written g c sound)
