@@ -6,10 +6,11 @@ use Rattle.std.specs.FinMap as finite
 use Rattle.std.specs.FinMap.{get-insert}
 use Rattle.std.specs.List.{list_any}
 use Rattle.std.specs.Option.{option_map, option_map_or}
+use Rattle.gate_text.specs.Settings.{SettingsView}
 use Rattle.gate_rules.specs.Rules.{Look}
-use Rattle.gate_rules.specs.View.{DeskView, with_change, look}
+use Rattle.gate_rules.specs.View.{DeskView, with_change, without_approval, look}
 use Rattle.gate_rules.specs.declared.change.Change.{Change}
-use Rattle.gate_queue.specs.Machine.{with_altered, altered, lone_altered, all_altered, opened}
+use Rattle.gate_queue.specs.Machine.{with_altered, altered, lone_altered, all_altered, opened, unless_against}
 
 pub same_number : (c number : ℕ) → eqb c number ≡ true → c ≡ number
 same_number c number is = (Decides-eqb c number).0 is
@@ -58,6 +59,33 @@ pub opened_at : (desk : DeskView) (number : ℕ) (author head : List ℕ) (c : �
 opened_at desk number author head c =
     get-with_change desk number (opened author head (finite.get desk.changes number)) c
     ∙ opened_where author head (eqb c number) (finite.get desk.changes number) (finite.get desk.changes c) (λ same. ap (finite.get desk.changes) (sym (same_number c number same)))
+
+-- THE ONE that was altered or opened, and each other
+at_itself : {X : Type 0} (n : ℕ) (here elsewhere : X) → cond (eqb n n) here elsewhere ≡ here
+at_itself n here elsewhere = ap (λ (b : Bool). cond b here elsewhere) ((Decides-eqb n n).1 refl)
+
+pub altered_here : (desk : DeskView) (number : ℕ) (alter : Change → Change) → finite.get (altered desk number alter).changes number ≡ option_map alter (finite.get desk.changes number)
+altered_here desk number alter = ap (λ (l : Look). l.change number) (altered_look desk number alter) ∙ at_itself number _ _
+
+pub altered_elsewhere : (desk : DeskView) (number : ℕ) (alter : Change → Change) (c : ℕ) → eqb c number ≡ false → finite.get (altered desk number alter).changes c ≡ finite.get desk.changes c
+altered_elsewhere desk number alter c differs = ap (λ (l : Look). l.change c) (altered_look desk number alter) ∙ rw differs refl
+
+pub opened_here : (desk : DeskView) (number : ℕ) (author head : List ℕ)
+    → finite.get (with_change desk number (opened author head (finite.get desk.changes number))).changes number ≡ Some (opened author head (finite.get desk.changes number))
+opened_here desk number author head = opened_at desk number author head number ∙ at_itself number _ _
+
+pub opened_elsewhere : (desk : DeskView) (number : ℕ) (author head : List ℕ) (c : ℕ) → eqb c number ≡ false
+    → finite.get (with_change desk number (opened author head (finite.get desk.changes number))).changes c ≡ finite.get desk.changes c
+opened_elsewhere desk number author head c differs = opened_at desk number author head c ∙ rw differs refl
+
+-- Settings that may end an approval leave of a change what the end of an approval leaves.
+pub against_same : {X : Type 0} (seen : Change → X) → ((c : Change) → seen (without_approval c) ≡ seen c) → (against : SettingsView → Change → Bool) (settings : Option SettingsView) (c : Change)
+    → seen (unless_against against settings c) ≡ seen c
+against_same seen same against None c = refl
+against_same seen same against (Some settings) c = on (against settings c) where
+  on : (b : Bool) → seen (cond b (without_approval c) c) ≡ seen c
+  on true = same c
+  on false = refl
 
 -- MANY CHANGES altered, by an alteration that does nothing more the second time
 twice : (alter : Change → Change) → ((change : Change) → alter (alter change) ≡ alter change) → (had : Option Change) → option_map alter (option_map alter had) ≡ option_map alter had

@@ -1,7 +1,7 @@
 -- What the queue does by each act about a change, on every state: it follows the approval, and then the try.
 use Rattle.std.proofs.Common.{◌≡◌, ◌+◌, ℕ, ℤ, pos, eqb, Bool, true, false, not, ◌&&◌, ◌||◌, cond, if◌then◌else◌, List, [], ◌∷◌, Option, Some, None, is_some, IfSome, refl, sym, ◌∙◌, ap, arith}
 use Rattle.std.proofs.lemmas.Bool.{not-true}
-use Rattle.std.proofs.lemmas.Bool.Decides.{nat_tests, Decides-eqb}
+use Rattle.std.proofs.lemmas.Bool.Decides.{nat_tests}
 use Rattle.std.proofs.lemmas.List.Elements.{All-head, All-tail}
 use Rattle.std.proofs.lemmas.List.Sums.{sum_by-cons}
 use Rattle.std.specs.Cmp.{signed_Decides}
@@ -33,7 +33,7 @@ use Rattle.gate_state.specs.declared.batch.Branch.TheVariants.{Staging, Trying}
 use Rattle.gate_state.specs.declared.lane.Lane.{Lane}
 use Rattle.gate_state.specs.declared.queue.Queue.{Queue}
 use Rattle.gate_state.specs.declared.state.State.{State}
-use Rattle.gate_queue.proofs.Changes.{altered_look, opened_at}
+use Rattle.gate_queue.proofs.Changes.{altered_look, altered_here, opened_here, against_same}
 use Rattle.gate_queue.proofs.Fitness.{passed}
 use Rattle.gate_queue.proofs.Meaning.{retry_means}
 use Rattle.gate_queue.proofs.Wording.{none_both}
@@ -133,10 +133,7 @@ module _ (s : State) (change : ℕ) (is : IsState s) where
     new = altered s.desk change alter
 
     altered_to : (had : Option Change) → finite.get s.desk.changes change ≡ had → finite.get new.changes change ≡ option_map alter had
-    altered_to had at =
-        ap (λ (l : Look). l.change change) (altered_look s.desk change alter)
-        ∙ ap (λ (b : Bool). cond b (option_map alter (finite.get s.desk.changes change)) (finite.get s.desk.changes change)) ((Decides-eqb change change).1 refl)
-        ∙ ap (option_map alter) at
+    altered_to had at = altered_here s.desk change alter ∙ ap (option_map alter) at
 
     same_size : size_on new ≡ size_on s.desk
     same_size = ap (λ (l : Look). option_and_then (λ (settings : SettingsView). settings.max_batch_size) l.settings) (altered_look s.desk change alter)
@@ -316,14 +313,6 @@ module _ (s : State) (change : ℕ) (is : IsState s) where
           on false = tried_no_more c.trying change (without s change) gone
 
   -- a label and a review end the approval or leave it, and leave all else
-  against_same : {X : Type 0} (seen : Change → X) → ((c : Change) → seen (without_approval c) ≡ seen c) → (against : SettingsView → Change → Bool) (settings : Option SettingsView) (c : Change)
-      → seen (unless_against against settings c) ≡ seen c
-  against_same seen same against None c = refl
-  against_same seen same against (Some settings) c = on (against settings c) where
-    on : (b : Bool) → seen (cond b (without_approval c) c) ≡ seen c
-    on true = same c
-    on false = refl
-
   against_fewer : (against : SettingsView → Change → Bool) (settings : Option SettingsView) (c : Change) → is_some (unless_against against settings c).approved ≡ true → is_some c.approved ≡ true
   against_fewer against None c some = some
   against_fewer against (Some settings) c some = on (against settings c) some where
@@ -370,9 +359,7 @@ module _ (s : State) (change : ℕ) (is : IsState s) where
   -- a change that is opened isn't open, so it is neither approved nor tried
   opened_by : (author head : List ℕ) → is_open (look s.desk) change ≡ false → followed_on s.desk (effect s.desk (Opened change author head)) change s.queue ≡ s.queue
   opened_by author head shut =
-      let there : finite.get (effect s.desk (Opened change author head)).changes change ≡ Some (opened author head (finite.get s.desk.changes change)) =
-      opened_at s.desk change author head change
-      ∙ ap (λ (b : Bool). cond b (Some (opened author head (finite.get s.desk.changes change))) (finite.get s.desk.changes change)) ((Decides-eqb change change).1 refl) in
+      let there : finite.get (effect s.desk (Opened change author head)).changes change ≡ Some (opened author head (finite.get s.desk.changes change)) = opened_here s.desk change author head in
       (λ i. tried_by (trying_on s.desk change) (option_map_or (λ (c : Change). c.trying) (there i) false) change
       (followed (approved_on s.desk change) (option_map_or (λ (c : Change). is_some c.approved) (there i) false)
       (not (int_eq (priority_on s.desk change) (option_map_or (λ (c : Change). c.priority) (there i) (pos 0)))) (size_on s.desk) (option_map_or (λ (c : Change). c.priority) (there i) (pos 0)) change s.queue))

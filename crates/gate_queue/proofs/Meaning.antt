@@ -26,7 +26,7 @@ use Rattle.gate_state.specs.declared.state.State.{State}
 use Rattle.gate_queue.proofs.Wording.{none_both}
 
 -- An act means itself, but for a `retry`.
-means : (P : Act → Type 0) (s : Look) (act : Act) → P act → ((n : ℕ) (person : List ℕ) → act ≡ Spoken n person (Known Retry) → P (Spoken n person (Known (repeated (last_command s n))))) → P (meaning s act)
+pub means : (P : Act → Type 0) (s : Look) (act : Act) → P act → ((n : ℕ) (person : List ℕ) → act ≡ Spoken n person (Known Retry) → P (Spoken n person (Known (repeated (last_command s n))))) → P (meaning s act)
 means P s (Spoken n person (Known Retry)) itself repeats = repeats n person refl
 means P s (Spoken n person (Known Ping)) itself repeats = itself
 means P s (Spoken n person (Known Approve)) itself repeats = itself

@@ -1,7 +1,6 @@
 -- What each act about one change leaves of the desk: all other changes, and what is final in one that is landing.
 use Rattle.std.proofs.Common.{◌≡◌, ℕ, pos, eqb, Bool, true, false, not, cond, List, [], ◌∷◌, Option, Some, None, is_some, refl, sym, ◌∙◌, ap, subst}
 use Rattle.std.proofs.lemmas.Bool.{not-true}
-use Rattle.std.proofs.lemmas.Bool.Decides.{Decides-eqb}
 use Rattle.std.specs.FinMap as finite
 use Rattle.std.specs.Option.{option_map, option_map_or}
 use Rattle.std.specs.Str.{bytes_eq}
@@ -19,7 +18,7 @@ use Rattle.gate_rules.specs.declared.rule.Rule.TheVariants.{UnknownChange, NotPe
 use Rattle.gate_state.specs.declared.act.Act.TheVariants.{Spoken, Opened}
 use Rattle.gate_queue.specs.Machine.{broken, effect, altered, approved_by, with_try, without_try, with_priority, with_delegates, with_author_as_delegate, without_delegates, opened, pushed, moved_to, unless_against}
 use Rattle.gate_state.specs.State.{approved_on, priority_on}
-use Rattle.gate_queue.proofs.Changes.{altered_look, opened_at}
+use Rattle.gate_queue.proofs.Changes.{altered_look, altered_here, altered_elsewhere, opened_here, opened_elsewhere}
 use Rattle.gate_queue.proofs.Fitness.{passed}
 use Rattle.gate_queue.proofs.Keeping.{OnlyAt}
 
@@ -33,9 +32,7 @@ altered_only desk n alter lands_as final =
     record {
       settings = ap (λ (l : Look). l.settings) same;
       clock = ap (λ (l : Look). l.clock) same;
-      others = λ other differs.
-          ap (λ (l : Look). l.change other) same
-          ∙ ap (λ (b : Bool). cond b (option_map alter (finite.get desk.changes other)) (finite.get desk.changes other)) differs;
+      others = altered_elsewhere desk n alter;
       landing = ap (λ (c : Option Change). option_map_or (λ (x : Change). x.landing) c false) here ∙ lands (finite.get desk.changes n);
       final = λ so. subst (λ (c : Option Change). (option_map_or (λ (x : Change). is_some x.approved) c false ≡ true → approved_on desk n ≡ true) × (option_map_or (λ (x : Change). x.priority) c (pos 0) ≡ priority_on desk n)) (sym here) (finally (finite.get desk.changes n) refl so);
     } where
@@ -43,7 +40,7 @@ altered_only desk n alter lands_as final =
       same = altered_look desk n alter
 
       here : finite.get (altered desk n alter).changes n ≡ option_map alter (finite.get desk.changes n)
-      here = ap (λ (l : Look). l.change n) same ∙ ap (λ (b : Bool). cond b (option_map alter (finite.get desk.changes n)) (finite.get desk.changes n)) ((Decides-eqb n n).1 refl)
+      here = altered_here desk n alter
 
       lands : (had : Option Change) → option_map_or (λ (x : Change). x.landing) (option_map alter had) false ≡ option_map_or (λ (x : Change). x.landing) had false
       lands None = refl
@@ -74,14 +71,12 @@ pub opened_only : (desk : DeskView) (n : ℕ) (author head : List ℕ) → OnlyA
 opened_only desk n author head = record {
   settings = refl;
   clock = refl;
-  others = λ other differs. opened_at desk n author head other ∙ ap (λ (b : Bool). cond b (Some (opened author head (finite.get desk.changes other))) (finite.get desk.changes other)) differs;
+  others = opened_elsewhere desk n author head;
   landing = ap (λ (c : Option Change). option_map_or (λ (x : Change). x.landing) c false) here ∙ lands (finite.get desk.changes n);
   final = λ so. subst (λ (c : Option Change). (option_map_or (λ (x : Change). is_some x.approved) c false ≡ true → approved_on desk n ≡ true) × (option_map_or (λ (x : Change). x.priority) c (pos 0) ≡ priority_on desk n)) (sym here) (finally (finite.get desk.changes n) so);
 } where
   here : finite.get (effect desk (Opened n author head)).changes n ≡ Some (opened author head (finite.get desk.changes n))
-  here =
-      opened_at desk n author head n
-      ∙ ap (λ (b : Bool). cond b (Some (opened author head (finite.get desk.changes n))) (finite.get desk.changes n)) ((Decides-eqb n n).1 refl)
+  here = opened_here desk n author head
 
   lands : (had : Option Change) → (opened author head had).landing ≡ option_map_or (λ (x : Change). x.landing) had false
   lands None = refl

@@ -3,11 +3,16 @@
 --     Machine    the rules of facts, what each act does to the desk and the queue, its orders, and a step
 --     States     that each act leads from a state to a state
 --     Following  what each act about a change does to the batches, act by act
+--     MayChange  which people, changes and batches an act may change, and that all others stay as they are
+--     Before     what is noted of a state before acts change it
 --     History    the events of a history, what they say of people and changes, and what one more entry tells
 --     Words      what the words of the history come to over a whole list
+pub mod Before
 pub mod Following
 pub mod History
 pub mod Machine
+pub mod MayChange
 pub mod States
+pub mod Touching
 pub mod Vocabulary
 pub mod Words

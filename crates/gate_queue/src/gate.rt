@@ -1,4 +1,4 @@
-ghost use Rattle.std.specs.Prelude.{◌≡◌, ◌↔◌, ◌⊎◌, ◌<◌, ◌≤◌, ℕ, [], List, Err, Some, None, IfOk, IfErr, IfSome, IsOk};
+ghost use Rattle.std.specs.Prelude.{◌≡◌, true, ◌↔◌, ◌⊎◌, ◌<◌, ◌≤◌, ℕ, [], List, Err, Some, None, IfOk, IfErr, IfSome, IsOk};
 ghost use Rattle.std.specs.FinMap as map;
 ghost use Rattle.std.specs.Option.{option_copied};
 ghost use Rattle.gate_rules.specs.declared.rule.Rule.{Rule};
@@ -90,6 +90,13 @@ impl Gate {
         })
     }
 
+    /// Whether the next number is above 8,999,999,999,999,996, so that no act steps.
+    pub fn is_full(&self) -> bool
+        ensures value { (result ≡ true) ↔ (8_999_999_999_999_996 < self.now.queue.next) }
+    {
+        LAST_NEXT < self.state.queue.next
+    }
+
     /// Lets an act that keeps its limits step, and answers the gate after it and the reply. `Full` if the next number is
     /// above 8,999,999,999,999,996, whatever the act is; else the one fault is `Memory`. After a fault the gate is spent.
     pub fn act(self, alloc: Global, act: &Act) -> Result<(Gate, Reply), Fault>
@@ -112,10 +119,10 @@ impl Gate {
         // An act that allocates nothing is always answered, if the gate isn't full.
         ensures no_memory { self.queue.next ≤ 8_999_999_999_999_996 → DeskTakesNoMemory self.desk act.now → QueueTakesNoMemory self act.now → IsOk result }
     {
-        let Gate { state } = self;
-        if state.queue.next > LAST_NEXT {
+        if self.is_full() {
             return Err(Fault::Full);
         }
+        let Gate { state } = self;
         match step(state, alloc, act) {
             Ok((state, reply)) => Ok((Gate { state }, reply)),
             Err(_) => Err(Fault::Memory),

@@ -1,5 +1,6 @@
 ghost use Rattle.gate_queue.specs.Following.{LawOfTheQueue};
 ghost use Rattle.gate_queue.specs.History.{LawOfEntries, LawOfHistories};
+ghost use Rattle.gate_queue.specs.MayChange.{LawOfUntouched};
 ghost use Rattle.gate_queue.specs.States.{LawOfStates};
 ghost use Rattle.gate_queue.specs.Words.{LawOfSince, LawOfTheLast, LawOfSets, LawOfTests};
 
@@ -51,4 +52,10 @@ pub fn law_of_histories()
 /// `history` of `Gate::act` says of one, if the next number leaves room for the act.
 pub fn law_of_entries()
     ensures { LawOfEntries }
+{}
+
+/// The law of what an act may change: after any act on a state, each person, each change, each batch under a number below the
+/// next one, and the settings are as they were, unless `may_change` names them; and the next number hasn't become smaller.
+pub fn law_of_untouched()
+    ensures { LawOfUntouched }
 {}

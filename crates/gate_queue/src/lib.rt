@@ -1,6 +1,7 @@
 //! The machine of the merge bot: what each act is answered, and what it leaves; and the history that its contract speaks of.
 #![tactic(auto)]
 
+mod before;
 mod changing;
 mod fault;
 mod gate;
@@ -14,12 +15,14 @@ mod running;
 mod settings;
 mod stepping;
 mod ticking;
+mod touching;
 
+pub use before::Before;
 pub use fault::Fault;
 pub use gate::{Gate, empty_history_is_legal};
 pub use laws::{
     law_of_entries, law_of_histories, law_of_sets, law_of_since, law_of_states, law_of_tests,
-    law_of_the_last, law_of_the_queue,
+    law_of_the_last, law_of_the_queue, law_of_untouched,
 };
 pub use settings::LosesApproval;
 

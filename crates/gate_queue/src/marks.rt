@@ -88,7 +88,7 @@ fn follow_approval(
             Ok(queue)
         }
     } else if !now.approved {
-        queue.take_out(alloc, Branch::Staging, &AllBut { change })
+        queue.take_out(Branch::Staging, &AllBut { change })
     } else if before.priority == now.priority {
         Ok(queue)
     } else {
@@ -108,7 +108,7 @@ fn enqueue_anew(
     ensures value { IfOk result (λ after. after ≡ queue_specs.enqueued (machine.size_on desk.now) priority change (queue_specs.taken_out Staging (machine.all_but change) queue)) }
     ensures room { IfOk result (λ after. after.next < 9_000_000_000_000_000) }
 {
-    let queue = queue.take_out(alloc, Branch::Staging, &AllBut { change })?;
+    let queue = queue.take_out(Branch::Staging, &AllBut { change })?;
     enqueue(queue, alloc, desk, change, priority)
 }
 
@@ -144,6 +144,6 @@ fn follow_try(
     } else if is_trying {
         queue.enqueue_try(alloc, change)
     } else {
-        queue.take_out(alloc, Branch::Trying, &AllBut { change })
+        queue.take_out(Branch::Trying, &AllBut { change })
     }
 }

@@ -42,7 +42,8 @@ pub fn accept_settings(state: State, alloc: Global, text: &Text) -> Result<Outco
     }
 }
 
-fn are_present(desk: &Desk, settings: &Settings) -> bool
+// Whether these are the settings of a desk.
+pub fn are_present(desk: &Desk, settings: &Settings) -> bool
     ensures { result ≡ machine.are_present desk.now settings.now }
 {
     match desk.settings() {
@@ -64,7 +65,7 @@ fn take_settings(state: State, alloc: Global, settings: Settings) -> Result<Outc
     let orders = notices_to(alloc, desk.numbers_where(alloc, &loses)?.as_slice())?;
     desk.end_approvals_where(&loses);
     desk.set_settings(settings);
-    let queue = resettle(queue, alloc, &desk)?;
+    let queue = resettle(queue, &desk)?;
     Ok(Outcome {
         state: State { desk, queue },
         orders,
@@ -72,11 +73,11 @@ fn take_settings(state: State, alloc: Global, settings: Settings) -> Result<Outc
 }
 
 // Takes out what isn't approved any longer, and lets the running batches wait again.
-fn resettle(queue: Queue, alloc: Global, desk: &Desk) -> Result<Queue, AllocError>
+fn resettle(queue: Queue, desk: &Desk) -> Result<Queue, AllocError>
     requires { queue.next ≤ 8_999_999_999_999_996 }
     ensures { IfOk result (λ after. after ≡ machine.resettled desk.now queue) }
 {
-    restart_both(queue.take_out(alloc, Branch::Staging, &Approved { desk })?)
+    restart_both(queue.take_out(Branch::Staging, &Approved { desk })?)
 }
 
 // Lets the running batches of both branches wait again.

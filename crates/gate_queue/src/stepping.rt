@@ -111,7 +111,7 @@ fn move_base(state: State, alloc: Global, base: Commit) -> Result<State, AllocEr
 {
     let lands = lands_with(&state.queue.staging, base);
     let State { mut desk, queue } = send_back(state, alloc, Some(base))?;
-    let queue = leave_tries(queue, alloc, &desk, lands)?;
+    let queue = leave_tries(queue, &desk, lands)?;
     desk.set_base(base);
     Ok(State { desk, queue })
 }
@@ -136,18 +136,13 @@ fn is_landing_with(stage: &Stage, commit: Commit) -> bool
 }
 
 // Takes out what isn't tried any longer, if a batch has landed.
-fn leave_tries(
-    queue: Queue,
-    alloc: Global,
-    desk: &Desk,
-    has_landed: bool,
-) -> Result<Queue, AllocError>
+fn leave_tries(queue: Queue, desk: &Desk, has_landed: bool) -> Result<Queue, AllocError>
     requires { queue.next < 9_000_000_000_000_000 }
     ensures value { IfOk result (λ after. after ≡ machine.tries_left has_landed desk.now queue) }
     ensures no_memory { has_landed ≡ false → IsOk result }
 {
     if has_landed {
-        queue.take_out(alloc, Branch::Trying, &Tried { desk })
+        queue.take_out(Branch::Trying, &Tried { desk })
     } else {
         Ok(queue)
     }

@@ -4,8 +4,8 @@ use Rattle.std.proofs.Math.Bool.{beq}
 use Rattle.std.specs.Cmp.Lexicographic.{slice_cmp}
 use Rattle.std.specs.FinMap as finite
 use Rattle.std.specs.FinMap.{FinMap}
-use Rattle.std.specs.List.{filter, find, insert, list_all, position}
-use Rattle.std.specs.Option.{option_map, option_map_or, unwrap_or}
+use Rattle.std.specs.List.{filter, find, insert, list_all, list_any, position}
+use Rattle.std.specs.Option.{option_map, option_map_or, option_and_then, unwrap_or}
 use Rattle.std.specs.Ordering.{int_eq, nat_cmp}
 use Rattle.gate_text.specs.LastWhere.{last_where}
 use Rattle.gate_state.specs.declared.batch.Batch.{Batch}
@@ -72,12 +72,23 @@ retried number batch = record batch { number = number; again = true; stage = sta
 abbrev pub is_fresh_of : ℤ → Batch → Bool
 is_fresh_of priority batch = not batch.again && int_eq batch.priority priority
 
+-- whether it has other changes than this one
+abbrev pub has_others : ℕ → Batch → Bool
+has_others change batch = list_any (λ other. not (other == change)) batch.changes
+
+abbrev pub is_fresh_beside : ℤ → ℕ → Batch → Bool
+is_fresh_beside priority change batch = is_fresh_of priority batch && has_others change batch
+
 abbrev pub has_room : Option ℕ → Batch → Bool
 has_room None batch = true
 has_room (Some size) batch = nat_lt (length batch.changes) size
 
 abbrev pub with_change : ℕ → Batch → Batch
 with_change change batch = record batch { changes = batch.changes ++ change ∷ [] }
+
+-- the last batch that passes a test
+abbrev pub last_so : (Batch → Bool) → List Batch → Option Batch
+last_so test waiting = option_and_then (slice_get waiting) (last_where test waiting)
 
 -- the place of the batch that a change joins: of the last fresh one of its priority, if that has room
 abbrev pub if_room : Option ℕ → List Batch → Option ℕ → Option ℕ

@@ -3,6 +3,8 @@ ghost use Rattle.std.specs.FinMap.{empty, from_entries, get, insert};
 ghost use Rattle.gate_state.specs.Lanes as lanes;
 ghost use Rattle.gate_state.specs.Lanes.{has_succeeded};
 
+use crate::choice::Choice;
+use crate::waiting::has_all;
 use gate_text::{ChangeNo, Commit, Context, List, TryCopy, copy_map};
 use std::alloc::{AllocError, Global};
 use std::collections::BTreeMap;
@@ -183,6 +185,13 @@ impl Batch {
             Stage::Waiting | Stage::Ordered { .. } | Stage::Staged { .. } => false,
             Stage::Landing { .. } => true,
         }
+    }
+
+    /// Whether it has a change that isn't chosen.
+    pub fn loses<C: Choice>(&self, choice: &C) -> bool
+        ensures value { result ≡ lanes.loses (λ change. C.chooses change choice.now) self.now }
+    {
+        !has_all(choice, self.changes.as_slice())
     }
 
     /// Whether it has two changes or more.

@@ -5,7 +5,10 @@ ghost use Rattle.gate_state.specs.Lanes as lanes;
 
 use crate::batch::{Batch, Report, Reports, Stage};
 use crate::choice::Choice;
-use crate::waiting::{MAX_NUMBER, enter, enter_alone, has_all, keep, left, put_back, split_into};
+use crate::waiting::{
+    MAX_NUMBER, enter, enter_alone, has_all, keep, last_fresh, last_fresh_beside, leave, put_back,
+    split_into,
+};
 use gate_text::{ChangeNo, Commit, Context, List, TryCopy};
 use std::alloc::{AllocError, Global};
 
@@ -58,6 +61,24 @@ impl Lane {
         numbered(self.waiting.as_slice(), number)
     }
 
+    /// The last fresh batch of a priority that waits, which a change of it joins if there is room.
+    pub fn last_fresh(&self, priority: i32) -> Option<&Batch>
+        ensures value { option_copied result ≡ lanes.last_so (lanes.is_fresh_of priority) self.now.waiting }
+    {
+        let waiting = self.waiting.as_slice();
+        let place = last_fresh(waiting, priority)?;
+        Some(&waiting[place])
+    }
+
+    /// The last one of these that has other changes than this one, which the change joins if it leaves a batch of its own.
+    pub fn last_fresh_beside(&self, priority: i32, change: ChangeNo) -> Option<&Batch>
+        ensures value { option_copied result ≡ lanes.last_so (lanes.is_fresh_beside priority change) self.now.waiting }
+    {
+        let waiting = self.waiting.as_slice();
+        let place = last_fresh_beside(waiting, priority, change)?;
+        Some(&waiting[place])
+    }
+
     /// Queues a change: it joins the last fresh batch of its priority, if that has fewer changes than `size`, or is a batch of
     /// its own, under `number`. With it comes how many numbers were used. `AllocError` if there is no memory for it.
     pub fn enqueue(
@@ -97,17 +118,13 @@ impl Lane {
     /// Lets only the chosen changes stay. A waiting batch keeps its number, and one that is left empty is dropped. A running
     /// batch that loses a change waits again with the others, under `number`, unless it is landing. With it comes how many
     /// numbers were used. `AllocError` if there is no memory for it.
-    pub fn take_out<C: Choice>(
-        self,
-        alloc: Global,
-        number: u64,
-        choice: &C,
-    ) -> Result<(Lane, u64), AllocError>
+    pub fn take_out<C: Choice>(self, number: u64, choice: &C) -> Result<(Lane, u64), AllocError>
         ensures lane { IfOk result (λ done. done.0 ≡ lanes.taken_out (λ change. C.chooses change choice.now) number self) }
         ensures uses { IfOk result (λ done. done.1 ≡ lanes.taken_out_uses (λ change. C.chooses change choice.now) self) }
     {
         let Lane { running, waiting } = self;
-        let waiting = left(alloc, waiting.into_vec(), choice)?;
+        let mut waiting = waiting.into_vec();
+        leave(&mut waiting, choice);
         match running {
             Some(batch) => take_from_running(batch, waiting, number, choice),
             None => Ok((waiting_only(waiting), 0)),

@@ -131,18 +131,13 @@ impl Queue {
     }
 
     /// Lets only the chosen changes stay on a branch. `AllocError` if there is no memory for it.
-    pub fn take_out<C: Choice>(
-        self,
-        alloc: Global,
-        branch: Branch,
-        choice: &C,
-    ) -> Result<Queue, AllocError>
+    pub fn take_out<C: Choice>(self, branch: Branch, choice: &C) -> Result<Queue, AllocError>
         requires { self.next < MAX_NUMBER }
         ensures value { IfOk result (λ queue. queue ≡ specs.taken_out branch (λ change. C.chooses change choice.now) self) }
     {
         let next = self.next;
         let (lane, other) = lanes_of(self, branch);
-        let (lane, used) = lane.take_out(alloc, next, choice)?;
+        let (lane, used) = lane.take_out(next, choice)?;
         Ok(of_lanes(branch, lane, other, next + used))
     }
 

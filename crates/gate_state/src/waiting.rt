@@ -1,4 +1,4 @@
-ghost use Rattle.std.specs.Prelude.{◌≡◌, ◌<◌, if◌then◌else◌, is_some, IfOk, IfSome, OnOk, length};
+ghost use Rattle.std.specs.Prelude.{◌≡◌, ◌<◌, if◌then◌else◌, is_some, IfOk, IfSome, OnOk, length, map};
 ghost use Rattle.std.specs.List.{list_all, position};
 ghost use Rattle.gate_text.specs.LastWhere.{last_where};
 ghost use Rattle.gate_state.specs.Lanes as lanes;
@@ -47,13 +47,32 @@ fn is_fresh_of(batch: &Batch, priority: i32) -> bool
 }
 
 // The place of the last fresh batch of a priority.
-fn last_fresh(waiting: &[Batch], priority: i32) -> Option<usize>
+pub(crate) fn last_fresh(waiting: &[Batch], priority: i32) -> Option<usize>
     ensures value { result ≡ last_where (lanes.is_fresh_of priority) waiting.now }
     ensures within { IfSome result (λ place. place < length waiting.now) }
 {
     waiting
         .iter()
         .rposition(|batch| is_fresh_of(batch, priority))
+}
+
+// Whether a batch has other changes than this one.
+fn has_others(batch: &Batch, change: ChangeNo) -> bool
+    ensures { result ≡ lanes.has_others change batch.now }
+{
+    batch
+        .changes
+        .as_slice()
+        .iter()
+        .any(|other| *other != change)
+}
+
+// The place of the last fresh batch of a priority that has other changes than this one.
+pub(crate) fn last_fresh_beside(waiting: &[Batch], priority: i32, change: ChangeNo) -> Option<usize>
+    ensures value { result ≡ last_where (lanes.is_fresh_beside priority change) waiting.now }
+    ensures within { IfSome result (λ place. place < length waiting.now) }
+{
+    waiting.iter().rposition(|batch| is_fresh_of(batch, priority) && has_others(batch, change))
 }
 
 fn has_room(batch: &Batch, size: Option<u32>) -> bool
@@ -199,22 +218,21 @@ pub(crate) fn keep<C: Choice>(batch: &mut Batch, choice: &C)
     batch.changes.retain(|change| choice.has(*change));
 }
 
-// The waiting batches with the chosen changes alone.
-pub(crate) fn left<C: Choice>(
-    alloc: Global,
-    waiting: Vec<Batch>,
-    choice: &C,
-) -> Result<Vec<Batch>, AllocError>
-    ensures { IfOk result (λ left. left.items ≡ lanes.left (λ change. C.chooses change choice.now) waiting.items) }
+// Lets only the chosen changes stay, and drops the batches that are left empty.
+pub(crate) fn leave<C: Choice>(waiting: &mut Vec<Batch>, choice: &C)
+    ensures { waiting.new.items ≡ lanes.left (λ change. C.chooses change choice.now) waiting.old.items }
 {
-    let mut left = Vec::new(alloc);
-    for mut batch in waiting {
-        keep(&mut batch, choice);
-        if has_changes(&batch) {
-            left.push(batch)?;
-        }
+    keep_in_all(waiting, choice);
+    waiting.retain(|batch| has_changes(batch));
+}
+
+// Keeps the chosen changes of each batch.
+fn keep_in_all<C: Choice>(batches: &mut Vec<Batch>, choice: &C)
+    ensures { batches.new.items ≡ map (lanes.only (λ change. C.chooses change choice.now)) batches.old.items }
+{
+    for batch in batches.iter_mut() {
+        keep(batch, choice);
     }
-    Ok(left)
 }
 
 // These changes of a batch, as one that waits again.
