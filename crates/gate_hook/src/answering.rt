@@ -4,7 +4,7 @@ ghost use Rattle.gate_store.specs.Run.{AgreesOnFull, IsOfKeepers, meets_full};
 ghost use Rattle.gate_hook.specs.Lines.{text_answered, after_reading};
 
 use gate_queue::Fault;
-use gate_store::{Book, Delivery, Keeper, answer_text};
+use gate_store::{Book, Delivery, Keeper};
 use std::alloc::{AllocError, Global};
 
 /// The text with a line feed behind it.
@@ -29,7 +29,6 @@ pub fn delivery_answer<B: Book>(
     ensures was { B.is_sound keeper.new → B.is_sound keeper.old }
     ensures cause { IfErr result (IsOfKeepers B.may_answer) }
 {
-    let answer = keeper.deliver(alloc, delivery)?;
-    let text = answer_text(alloc, &answer)?;
+    let text = keeper.deliver_text(alloc, delivery)?;
     Ok(with_line_feed(text)?)
 }

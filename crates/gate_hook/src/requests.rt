@@ -146,8 +146,8 @@ fn reported<B: Book>(
     ensures cause { IfErr result (IsOfKeepers B.may_answer) }
     ensures fault { IfErr result IsOfBooks }
 {
-    match keeper.gate(alloc) {
-        Ok(gate) => reported_by(alloc, &gate, report),
+    match keeper.look(alloc) {
+        Ok(gate) => reported_by(alloc, gate, report),
         Err(fault) => Err(fault),
     }
 }

@@ -29,8 +29,8 @@ fn queue_of<B: Book>(alloc: Global, keeper: &mut Keeper<B>) -> Result<String, Fa
     ensures cause { IfErr result (IsOfKeepers B.may_answer) }
     ensures fault { IfErr result IsOfBooks }
 {
-    match keeper.gate(alloc) {
-        Ok(gate) => text_of(alloc, &gate),
+    match keeper.look(alloc) {
+        Ok(gate) => text_of(alloc, gate),
         Err(fault) => Err(fault),
     }
 }

@@ -10,7 +10,7 @@ use Rattle.gate_state.specs.declared.reply.Reply.{Reply}
 use Rattle.gate_state.specs.declared.state.State.{State}
 use Rattle.gate_store.specs.Answers.{answer_text_of}
 use Rattle.gate_store.specs.Reading.{answer_of}
-use Rattle.gate_sql.proofs.Alike.{same_then}
+use Rattle.gate_sql.proofs.Alike.{same_back, same_then}
 use Rattle.gate_sql.proofs.Shown.{none_of_none, one_more}
 use Rattle.gate_sql.specs.Decoding.{state_in}
 use Rattle.gate_sql.specs.Encoding.{rows_of}
@@ -54,3 +54,20 @@ led_to one other new mid old rows wrote same moved led = same_then new (applied 
 
 pub holds_of : {S : Type 0} (g : Ghosts S) (h : Held S) → IsBook (state g h) → IsHeld (rows_in g h) (answers_in g h) → Holds g h
 holds_of g h book held = record { tables = book; rows_are = held.rows_are; texts_are = held.texts_are }
+
+-- WHAT A COMMIT LEAVES: a state and its rows, and the answers with one more
+pub record Leaves (s : State) (rows : Rows) (texts olds : FinMap (slice_cmp nat_cmp) (List ℕ)) (id : List ℕ) (answer : List Reply) : Type 0 where
+  pub held : IsHeld rows texts
+  pub state : state_in rows ≡ s
+  pub kept : answers_of texts ≡ finite.insert (answers_of olds) id answer
+
+pub leaves : (s : State) (rows : Rows) (texts olds : FinMap (slice_cmp nat_cmp) (List ℕ)) (id body : List ℕ) (answer : List Reply)
+    → ((others : Rows) → AreSame (rows_of s) others → state_in others ≡ s) → IsState s → KeepsLimits s.desk → AreSame rows (rows_of s)
+    → texts ≡ finite.insert olds id body → body ≡ answer_text_of answer → answer_of body ≡ answer → AreTexts olds → Leaves s rows texts olds id answer
+leaves s rows texts olds id body answer stands is limits same added text reads are =
+    let state = stands rows (same_back rows (rows_of s) same) in
+    record {
+      held = is_held s rows texts state is limits same (subst AreTexts (sym added) (text_more olds id body answer text reads are));
+      state = state;
+      kept = ap answers_of added ∙ one_more olds id body ∙ ap (finite.insert (answers_of olds) id) reads;
+    }

@@ -90,7 +90,7 @@ flat_apart own key f other (x ∷ xs) each apart =
     (across_flat (λ r q. key q ≢ key r) f (f x) xs (all_weaker (λ y. own y ≢ own x) (λ y. AllAcross (λ r q. key q ≢ key r) (f x) (f y)) (λ y unlike. other x y unlike) xs apart.0))
 
 -- the entries of a map, by their keys
-less_or_tied : (o : Ordering) → T (is_lt o) → is_eq o ≡ true → ⊥
+pub less_or_tied : (o : Ordering) → T (is_lt o) → is_eq o ≡ true → ⊥
 less_or_tied Less p q = let e : false ≡ true = q in cc
 less_or_tied Equal p q = p
 less_or_tied Greater p q = p
@@ -180,7 +180,7 @@ lanes_apart ones others =
     all_pass (λ b. list_all (has_other_number b) others) (λ b. AllByRecursion (λ (o : Batch). o.number ≢ b.number) others) (λ b. all_pass (has_other_number b) (λ (o : Batch). o.number ≢ b.number) (unlike_batches b) others) ones
 
 module _ (s : State) (fit : Fits s) where
-  numbers_apart : Apart (λ (b : Batch). b.number) (batches_of s.queue)
+  pub numbers_apart : Apart (λ (b : Batch). b.number) (batches_of s.queue)
   numbers_apart = joined_apart (λ (b : Batch). b.number) (lane.batches_of s.queue.staging) (lane.batches_of s.queue.trying) (lane_apart (lane.batches_of s.queue.staging) fit.staging_numbers) (lane_apart (lane.batches_of s.queue.trying) fit.trying_numbers)
       (lanes_apart (lane.batches_of s.queue.staging) (lane.batches_of s.queue.trying) fit.across)
 

@@ -159,7 +159,7 @@ less_by p q a b m n before = by (int_eq p q) refl before where
 abbrev pub keyed : Batch → List ℤ × Batch
 keyed b = (service_key (batch_row b), b)
 
-both_true : (a b : Bool) → T a → T b → T (a && b)
+pub both_true : (a b : Bool) → T a → T b → T (a && b)
 both_true true b one other = other
 both_true false b one other = one
 

@@ -11,11 +11,15 @@ pub mod Joins
 pub mod KeyOrders
 pub mod Keys
 pub mod Lanes
-pub mod Limits
 pub mod Marks
 pub mod Members
+pub mod NewBatches
+pub mod Noted
+pub mod Numbered
 pub mod OneState
+pub mod Parted
 pub mod SameRows
 pub mod Scanning
 pub mod Shown
+pub mod Since
 pub mod Unmatched

@@ -1,5 +1,5 @@
 -- The rows of a state are read as that state.
-use Rattle.std.proofs.Common.{◌≡◌, ◌⊎◌, inl, inr, ◌≤◌, ◌==◌, ℕ, pos, nat_abs, Bool, true, false, cond, not, ◌&&◌, ◌||◌, List, [], ◌∷◌, ◌++◌, map, Option, Some, None, Ok, is_some, IfSome, nat_le, leb-true, refl, sym, ◌∙◌, ap, subst, append-nil, arith}
+use Rattle.std.proofs.Common.{◌≡◌, ◌⊎◌, inl, inr, ◌≤◌, ◌==◌, ℕ, pos, nat_abs, Bool, true, false, cond, not, ◌&&◌, ◌||◌, List, [], ◌∷◌, ◌++◌, map, Option, Some, None, Ok, is_some, IfSome, nat_le, nat_lt, leb-true, refl, sym, ◌∙◌, ap, subst, append-nil, arith}
 use Rattle.std.proofs.lemmas.List.{map-append}
 use Rattle.std.proofs.lemmas.List.Elements.{filter-append}
 use Rattle.std.specs.Cmp.{first_so, second_so, nat_cmp_total, unsigned_Decides}
@@ -51,6 +51,8 @@ parts a b is = (first_so a b is, second_so a b is)
 
 -- WHAT A STATE THAT PASSES THE CHECKS KEEPS, as far as it is needed here
 pub record Fits (s : State) : Type 0 where
+  pub staging_below : list_all (λ (batch : Batch). nat_lt batch.number s.queue.next) (batches_of s.queue.staging) ≡ true
+  pub trying_below : list_all (λ (batch : Batch). nat_lt batch.number s.queue.next) (batches_of s.queue.trying) ≡ true
   pub staging_numbers : all_pairs has_other_number (batches_of s.queue.staging) ≡ true
   pub trying_numbers : all_pairs has_other_number (batches_of s.queue.trying) ≡ true
   pub across : have_other_numbers (batches_of s.queue.staging) (batches_of s.queue.trying) ≡ true
@@ -79,6 +81,8 @@ facts s is =
     let of_staging = parts (fit_stages s.desk Staging staging) (fit_places (marks_on Staging s.desk) staging (finite.entries s.desk.changes)) one.1 in
     let of_trying = parts (fit_stages s.desk Trying trying) (fit_places (marks_on Trying s.desk) trying (finite.entries s.desk.changes)) two.1 in
     record {
+      staging_below = first_so _ (all_pairs has_other_number (batches_of staging)) numbers.0;
+      trying_below = first_so _ (all_pairs has_other_number (batches_of trying)) numbers.1;
       staging_numbers = second_so _ (all_pairs has_other_number (batches_of staging)) numbers.0;
       trying_numbers = second_so _ (all_pairs has_other_number (batches_of trying)) numbers.1;
       across = second.1;

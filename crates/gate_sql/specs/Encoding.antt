@@ -90,17 +90,21 @@ abbrev pub size_of : Option SettingsView → ℤ
 size_of None = pos 0
 size_of (Some settings) = pos (unwrap_or settings.max_batch_size 0)
 
-abbrev pub desk_row : State → DeskRow
-desk_row s = record {
+-- by the number of the next batch, the clock, the base and the settings
+abbrev pub desk_row_of : ℕ → ℕ → Option (List ℕ) → Option SettingsView → DeskRow
+desk_row_of next clock base settings = record {
   one = pos 1;
   version = pos 1;
-  next_batch = pos s.queue.next;
-  clock = pos s.desk.clock;
-  base = unwrap_or s.desk.base [];
-  timeout_sec = timeout_of s.desk.settings;
-  required_approvals = approvals_of s.desk.settings;
-  max_batch_size = size_of s.desk.settings;
+  next_batch = pos next;
+  clock = pos clock;
+  base = unwrap_or base [];
+  timeout_sec = timeout_of settings;
+  required_approvals = approvals_of settings;
+  max_batch_size = size_of settings;
 }
+
+abbrev pub desk_row : State → DeskRow
+desk_row s = desk_row_of s.queue.next s.desk.clock s.desk.base s.desk.settings
 
 -- PEOPLE
 abbrev pub person_row : List ℕ × Role → PersonRow

@@ -3,13 +3,14 @@
 --     Decoding    the state that rows stand for
 --     Standing    the law of both: the rows of a state, in any order, stand for it
 --     Changed     the rows that differ between two states, as row changes
+--     Parts       the same between a state and one of which parts were noted before
 --     Shown       what a book over the tables shows, and that its tables hold nothing besides
--- For the code: Faults; Limits, what the numbers of batches keep; Same, that `==` of rows is equality.
+-- For the code: Faults; Same, that `==` of rows is equality.
 pub mod Changed
 pub mod Decoding
 pub mod Encoding
 pub mod Faults
-pub mod Limits
+pub mod Parts
 pub mod Same
 pub mod Shown
 pub mod Standing

@@ -2,6 +2,7 @@ ghost use Rattle.std.specs.Prelude.{◌≡◌, ◌≢◌, [], None, false, IfOk,
 ghost use Rattle.std.specs.FinMap.{empty};
 ghost use Rattle.std.specs.Option.{option_map};
 ghost use Rattle.std.specs.String.{string_bytes};
+ghost use Rattle.gate_queue.specs.Before.{IsBefore};
 ghost use Rattle.gate_queue.specs.Machine.{empty_state};
 ghost use Rattle.gate_tables.specs.Applied.{applied, no_rows as no_rows_at_all};
 ghost use Rattle.gate_tables.specs.Contents.{AreSame};
@@ -14,14 +15,14 @@ ghost use Rattle.gate_store.specs.Reading.{answer_of};
 ghost use Rattle.gate_store.specs.Run.{IsOfBooks, kept_under, with_answer};
 ghost use Rattle.sqlite.specs.Held.{state};
 
-use crate::changed::row_changes;
+use crate::changed::{changes_since, row_changes};
 use crate::fault::told;
 use crate::laws::{
     is_of_machine, law_of_changed_rows, law_of_keys, law_of_keys_of, law_of_rows_of,
 };
 use crate::reading::gate_of;
 use crate::rows::rows_of;
-use gate_queue::{Fault, Gate};
+use gate_queue::{Before, Fault, Gate};
 use gate_store::{Answer, AnswerFault, Book, answer_text, law_of_texts, read_answer};
 use gate_tables::{RowChange, Rows, Tables, TablesFault, is_blank, law_of_differences};
 use gate_text::{DeliveryId, List, Text};
@@ -171,7 +172,7 @@ impl<S: Alter> Book for SqlBook<S> {
             Ok(changes) => changes,
             Err(fault) => return Err(told(fault)),
         };
-        let body = body_of(alloc, answer)?;
+        let body = answer_text(alloc, answer)?;
         let written = self
             .tables
             .apply(changes.as_slice(), id.text(), body.as_str());
@@ -181,6 +182,43 @@ impl<S: Alter> Book for SqlBook<S> {
             Ok(()) => Ok(()),
             Err(fault) => Err(told(fault)),
         }
+    }
+
+    /// Does what `commit` does, and reads nothing. It writes the rows that differ among those of the parts that were noted, and the
+    /// rows of new batches.
+    fn commit_since(
+        &mut self,
+        alloc: Global,
+        before: &Before,
+        gate: &Gate,
+        id: &DeliveryId,
+        answer: &Answer,
+        text: &str,
+    ) -> Result<(), Fault>
+        requires free { is_sound S.Store self.old → kept_under (shown S.Store self.old) id.now ≡ None }
+        requires stands { is_sound S.Store self.old → IsBefore before.now (shown S.Store self.old).state gate.now }
+        requires text { text.now ≡ answer_text_of answer.now }
+        requires reads { answer_of text.now ≡ answer.now }
+        ensures ok { is_sound S.Store self.new → OnOk result (shown S.Store self.new ≡ with_answer (shown S.Store self.old) gate.now id.now answer.now) }
+        ensures err { is_sound S.Store self.new → OnErr result (shown S.Store self.new ≡ shown S.Store self.old) }
+        ensures holds { is_sound S.Store self.new → Holds S.Store self.new }
+        ensures was { is_sound S.Store self.new → is_sound S.Store self.old }
+        ensures cause { IfErr result IsOfBooks }
+        ensures fault { IfErr result IsOfBooks }
+    {
+        // Its contract tells what the database is.
+        self.tables.connection();
+        law_of_rows_of(gate);
+        is_of_machine(gate);
+        let _answer = answer;
+        let leading = changes_since(alloc, before, gate)?;
+        let written = self.tables.apply(leading.as_slice(), id.text(), text);
+        drop(leading);
+        self.tables.connection();
+        if let Err(fault) = written {
+            return Err(told(fault));
+        }
+        Ok(())
     }
 }
 
@@ -245,14 +283,4 @@ fn answer_in(alloc: Global, body: Option<Text>) -> Result<Option<Answer>, Fault>
         Err(AnswerFault::NotAnswer) => Err(Fault::Store),
         Err(AnswerFault::Memory) => Err(Fault::Memory),
     }
-}
-
-// The text of an answer, which is read as that answer.
-fn body_of(alloc: Global, answer: &Answer) -> Result<String, AllocError>
-    ensures reads { IfOk result (λ body. answer_of (string_bytes body) ≡ answer.now) }
-    ensures text { IfOk result (λ body. string_bytes body ≡ answer_text_of answer.now) }
-{
-    law_of_texts();
-    let body = answer_text(alloc, answer)?;
-    Ok(body)
 }

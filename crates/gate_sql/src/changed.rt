@@ -1,6 +1,11 @@
 ghost use Rattle.std.specs.Prelude.{◌≡◌, ◌++◌, map, IfOk, OnOk, IsPermutation, List as ListOf};
+ghost use Rattle.gate_state.specs.declared.state.State.{State as StateOf};
 ghost use Rattle.gate_sql.specs.Changed as changed;
 ghost use Rattle.gate_sql.specs.Changed.{by_key, by_keys, begin_so, unmatched};
+ghost use Rattle.gate_sql.specs.Encoding as encoding;
+ghost use Rattle.gate_sql.specs.Parts as parts;
+ghost use Rattle.gate_sql.specs.Parts.{AreStates};
+ghost use Rattle.gate_tables.specs.Applied.{applied};
 ghost use Rattle.gate_tables.specs.Contents.{AreSame};
 ghost use Rattle.gate_tables.specs.declared.row.Rows.{Rows as RowsOf};
 ghost use Rattle.gate_tables.specs.Differences.{AreApart, HaveKeys, differences, gone, differing, is_same};
@@ -8,9 +13,9 @@ ghost use Rattle.gate_tables.specs.Keys.{has_key, key_of};
 
 mod keyed;
 
-use crate::laws::law_of_keys_of;
-use crate::rows::rows_of;
-use gate_queue::Gate;
+use crate::laws::{law_of_changes_since, law_of_keys_of, law_of_keys_since};
+use crate::rows::{rows_now, rows_of, rows_then};
+use gate_queue::{Before, Gate};
 use gate_tables::{RowChange, Rows};
 use gate_text::List;
 use keyed::Keyed;
@@ -26,6 +31,24 @@ pub fn changed_rows(alloc: Global, old: &Gate, new: &Gate) -> Result<Vec<RowChan
     law_of_keys_of(new);
     let before = rows_of(alloc, old)?;
     row_changes(alloc, before, rows_of(alloc, new)?)
+}
+
+/// The row changes that lead from the rows of a state, of which parts were noted, to those of a gate, listed as `changed_rows` lists
+/// them. It makes and compares the rows of these parts and of new batches alone. `AllocError` if there is no memory for them.
+pub fn changes_since(
+    alloc: Global,
+    before: &Before,
+    gate: &Gate,
+) -> Result<Vec<RowChange>, AllocError>
+    ensures value { (old : StateOf) → AreStates before.now old gate.now → IfOk result (λ changes. changes.items ≡ parts.changes_since before.now gate.now) }
+    ensures leads { (old : StateOf) (rows : RowsOf) → AreStates before.now old gate.now → AreSame rows (encoding.rows_of old)
+        → IfOk result (λ changes. AreSame (applied changes.items rows) (encoding.rows_of gate.now)) }
+{
+    law_of_keys_since();
+    law_of_changes_since();
+    let then = rows_then(alloc, before, gate)?;
+    let now = rows_now(alloc, before, gate)?;
+    row_changes(alloc, then, now)
 }
 
 /// The row changes that lead from rows to others.

@@ -5,12 +5,13 @@ ghost use Rattle.gate_tables.specs.Differences.{HaveKeys};
 ghost use Rattle.gate_sql.specs.Changed.{LawOfChangedRows};
 ghost use Rattle.gate_sql.specs.Decoding.{state_in};
 ghost use Rattle.gate_sql.specs.Encoding.{rows_of};
+ghost use Rattle.gate_sql.specs.Parts.{LawOfChangesSince, LawOfKeysSince};
 ghost use Rattle.gate_sql.specs.Standing.{KeepsLimits, LawOfKeys, LawOfRows};
 ghost use Rattle.gate_tables.specs.declared.row.Rows.{Rows};
 
 use gate_queue::Gate;
 use gate_state::law_of_checks;
-use gate_tables::law_of_differences;
+use gate_tables::{law_of_differences, law_of_parts};
 
 /// The law of rows: rows stand for at most one state. The rows of a state, in any order, are read as that state.
 pub fn law_of_rows()
@@ -34,6 +35,25 @@ pub fn law_of_changed_rows()
 {
     law_of_keys();
     law_of_differences();
+}
+
+/// The law of changes since: between two states of the machine whose settings and base keep their limits, and of the first of which
+/// parts were noted, what differs among the rows of these parts, applied to the rows of the first in any order, leads to the rows of
+/// the second.
+pub fn law_of_changes_since()
+    ensures { LawOfChangesSince }
+{
+    law_of_checks();
+    law_of_keys();
+    law_of_parts();
+}
+
+/// The law of keys since: in the rows of these parts no two rows of a table have one key.
+pub fn law_of_keys_since()
+    ensures { LawOfKeysSince }
+{
+    law_of_checks();
+    law_of_keys();
 }
 
 /// The law of rows for a gate: those of its state, in any order, are read as that state.

@@ -7,6 +7,7 @@ mod desk;
 mod marks;
 mod members;
 mod numbers;
+mod parts;
 mod people;
 mod statuses;
 
@@ -18,6 +19,7 @@ use gate_tables::{DeskRow, Rows};
 use gate_text::List;
 use marks::mark_rows;
 use members::member_rows;
+pub(crate) use parts::{rows_now, rows_then};
 use people::person_rows;
 use statuses::status_rows;
 use std::alloc::{AllocError, Global};
@@ -29,7 +31,7 @@ pub fn rows_of(alloc: Global, gate: &Gate) -> Result<Rows, AllocError>
     let state = gate.state();
     let batches = state.queue.batches(alloc)?;
     Ok(Rows {
-        desk: desk_rows(alloc, gate)?,
+        desk: one(alloc, desk_row(alloc, gate)?)?,
         people: person_rows(alloc, &state.desk)?,
         changes: change_rows(alloc, &state.desk)?,
         marks: mark_rows(alloc, &state.desk)?,
@@ -40,10 +42,10 @@ pub fn rows_of(alloc: Global, gate: &Gate) -> Result<Rows, AllocError>
 }
 
 // The one row of the desk, as a table.
-fn desk_rows(alloc: Global, gate: &Gate) -> Result<List<DeskRow>, AllocError>
-    ensures { IfOk result (λ rows. rows ≡ encoding.desk_row gate.now ∷ []) }
+fn one(alloc: Global, row: DeskRow) -> Result<List<DeskRow>, AllocError>
+    ensures { IfOk result (λ rows. rows ≡ row ∷ []) }
 {
     let mut rows = Vec::new(alloc);
-    rows.push(desk_row(alloc, gate)?)?;
+    rows.push(row)?;
     Ok(List::from(rows))
 }

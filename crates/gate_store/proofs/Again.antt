@@ -1,6 +1,8 @@
 -- In the value that is written for an answer, that answer is found.
 use Rattle.std.proofs.Common.{◌≡◌, ◌≢◌, ◌<◌, ◌^◌, ℕ, List, [], ◌∷◌, map, Some, Result, Ok, Err, refl, sym, ap, ◌∙◌, arith}
 use Rattle.std.specs.List.{All}
+use Rattle.std.specs.Option.{unwrap_or}
+use Rattle.std.specs.Result.{result_ok}
 use Rattle.std.proofs.lemmas.List.Elements.{All-head, All-tail}
 use Rattle.serde_json.specs.Data.{Data}
 use Rattle.serde_json.specs.View.{items_of}
@@ -15,6 +17,7 @@ use Rattle.gate_state.specs.declared.reply.Reply.TheVariants.{Done, Denied}
 use Rattle.gate_store.specs.Answers.{head_data, order_data, reply_data, answer_data}
 use Rattle.gate_store.specs.Found.{below, each_in, head_in, order_in, reply_in, answer_in}
 use Rattle.gate_store.specs.Limits.{IsHead, IsOrder, IsReply, IsAnswer}
+use Rattle.gate_store.specs.Reading.{LawOfTexts, answer_in_value}
 use Rattle.gate_store.specs.declared.reading.AnswerFault.{AnswerFault}
 use Rattle.gate_store.specs.declared.reading.AnswerFault.TheVariants.{NotAnswer}
 use Rattle.gate_rules.specs.declared.rule.Rule.TheVariants.{UnknownChange, NotACommand, NotPermitted, NotOpen, NothingToRetry, Landing, NoSettings, NoBase, AlreadyApproved, NotApproved, AlreadyTrying, NotTrying, Blocked, TooFewReviews, AlreadyOpen, ChangeLanded, StaleHead, NotMember, OwnChange, BadSettings, ClockBack, NoSuchBatch, SameAsBase}
@@ -84,3 +87,7 @@ none_found d none replies is same = cc (sym none ∙ ap answer_in same ∙ answe
 
 pub found_alone : (d : Data) (found replies : List Reply) → answer_in d ≡ Ok found → IsAnswer replies → d ≡ answer_data replies → found ≡ replies
 found_alone d found replies is good same = cc (sym is ∙ ap answer_in same ∙ answer_again replies good)
+
+-- so a text whose value is written for an answer is read as that answer
+pub texts_law : LawOfTexts
+texts_law text answer good is = ap answer_in_value is ∙ ap (λ found. unwrap_or (result_ok found) []) (answer_again answer good)

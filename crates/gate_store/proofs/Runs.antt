@@ -91,9 +91,15 @@ module _ (old new : Records) (delivery : Delivery) where
   headline_one (Ok answer) is led tell = headline_is old new (delivery ∷ []) led (tell_one tell) (answer ∷ []) (ap (λ (a : List Reply). a ∷ []) is)
   headline_one (Err fault) is led tell = tt
 
-  pub tells_one : (result : Result (List Reply) Fault) → OnOk result (new ≡ after_delivery old delivery) → OnOk result AreTold
+  -- by the answer that is due, whatever was handed back for it
+  pub headline_due : {X : Type 0} (result : Result X Fault) → OnOk result (new ≡ after_delivery old delivery) → OnOk result AreTold
+      → OnOk result (Headline old (delivery ∷ []) (answer_to old delivery ∷ []) new)
+  headline_due (Ok done) led tell = headline_is old new (delivery ∷ []) led (tell_one tell) (answer_to old delivery ∷ []) refl
+  headline_due (Err fault) led tell = tt
+
+  pub tells_one : {X : Type 0} (result : Result X Fault) → OnOk result (new ≡ after_delivery old delivery) → OnOk result AreTold
       → OnOk result ((history : List Entry) → Legal history old.state → HistoryTells old (delivery ∷ []) new history)
-  tells_one (Ok answer) led tell = tells_is old new (delivery ∷ []) led (tell_one tell)
+  tells_one (Ok done) led tell = tells_is old new (delivery ∷ []) led (tell_one tell)
   tells_one (Err fault) led tell = tt
 
 -- ONE DELIVERY MORE, the one at a place, after all before it

@@ -4,6 +4,7 @@
 --     Acts       the acts of an event
 --     Answers    the text of an answer
 --     Limits     which answers there are
+--     Looking    what a look at the gate shows
 --     Reading    the answer of a text
 -- Found is for private clauses: what is looked up in a JSON value.
 pub mod Acts
@@ -11,5 +12,6 @@ pub mod Answers
 pub mod Found
 pub mod Headline
 pub mod Limits
+pub mod Looking
 pub mod Reading
 pub mod Run

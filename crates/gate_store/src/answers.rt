@@ -7,6 +7,7 @@ ghost use Rattle.serde_json.specs.View.{view};
 ghost use Rattle.gate_state.specs.declared.reply.Order.TheVariants.{Notice};
 ghost use Rattle.gate_state.specs.declared.reply.Reply.TheVariants.{Denied};
 ghost use Rattle.gate_store.specs.Answers.{detail_of, branch_word_of, head_data, heads_data, order_data, orders_data, why_word_of, reply_data, answer_data, answer_text_of};
+ghost use Rattle.gate_store.specs.Reading.{answer_of};
 ghost use Rattle.gate_store.specs.Limits.{IsRule, IsHead, IsOrder, IsReply, IsAnswer};
 
 use gate_queue::{Head, Order, Reply, Why};
@@ -188,6 +189,7 @@ fn answer_value(alloc: Global, answer: &[Reply]) -> Result<Value, AllocError>
 pub fn answer_text(alloc: Global, answer: &Answer) -> Result<String, AllocError>
     ensures text { IfOk result (λ text. string_bytes text ≡ answer_text_of answer.now) }
     ensures reads_back { IfOk result (λ text. read (string_bytes text) ≡ Some (answer_data answer.now)) }
+    ensures reads { IfOk result (λ text. answer_of (string_bytes text) ≡ answer.now) }
     ensures good { OnOk result (IsAnswer answer.now) }
 {
     answer_value(alloc, answer.as_slice())?.to_string(alloc)

@@ -1,8 +1,11 @@
 ghost use Rattle.std.specs.Prelude.{◌≡◌, None, IfOk, IfErr, OnOk, OnErr};
+ghost use Rattle.gate_queue.specs.Before.{IsBefore};
+ghost use Rattle.gate_store.specs.Answers.{answer_text_of};
+ghost use Rattle.gate_store.specs.Reading.{answer_of};
 ghost use Rattle.gate_store.specs.Run.{Records, IsOfBooks, kept_under, with_answer};
 
 use crate::answers::Answer;
-use gate_queue::{Fault, Gate};
+use gate_queue::{Before, Fault, Gate};
 use gate_text::DeliveryId;
 use std::alloc::Global;
 
@@ -52,4 +55,30 @@ pub trait Book {
         ensures was { is_sound self.new → is_sound self.old }
         ensures cause { IfErr result may_answer }
         ensures fault { IfErr result IsOfBooks };
+
+    /// Does what `commit` does. It is told besides what acts may have changed since the state that the book shows, and the text of
+    /// the answer, so that a book needn't compare whole states, nor make the text anew.
+    fn commit_since(
+        &mut self,
+        alloc: Global,
+        before: &Before,
+        gate: &Gate,
+        id: &DeliveryId,
+        answer: &Answer,
+        text: &str,
+    ) -> Result<(), Fault>
+        requires free { is_sound self.old → kept_under (shows self.old) id.now ≡ None }
+        requires stands { is_sound self.old → IsBefore before.now (shows self.old).state gate.now }
+        requires text { text.now ≡ answer_text_of answer.now }
+        requires reads { answer_of text.now ≡ answer.now }
+        ensures ok { is_sound self.new → OnOk result (shows self.new ≡ with_answer (shows self.old) gate.now id.now answer.now) }
+        ensures err { is_sound self.new → OnErr result (shows self.new ≡ shows self.old) }
+        ensures was { is_sound self.new → is_sound self.old }
+        ensures cause { IfErr result may_answer }
+        ensures fault { IfErr result IsOfBooks }
+    {
+        let _before = before;
+        let _text = text;
+        self.commit(alloc, gate, id, answer)
+    }
 }

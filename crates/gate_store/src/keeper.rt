@@ -1,21 +1,27 @@
 ghost use Rattle.std.specs.Prelude.{◌≡◌, ◌⊎◌, ◌∷◌, [], List, None, IfOk, IfErr, IfSome, OnOk, OnErr, length, take, drop};
+ghost use Rattle.std.specs.Borrow.{sem};
+ghost use Rattle.std.specs.Io.BufRead.{Rests};
+ghost use Rattle.std.specs.String.{string_bytes};
+ghost use Rattle.gate_queue.specs.Before.{IsBefore};
 ghost use Rattle.gate_queue.specs.History.{Entry, Legal, StateTells};
+ghost use Rattle.gate_store.specs.Answers.{answer_text_of};
+ghost use Rattle.gate_store.specs.Reading.{answer_of};
 ghost use Rattle.gate_store.specs.Headline.{Each, Headline, HistoryTells, Tells, acts_of_all, first_in};
 ghost use Rattle.gate_store.specs.Run.{AgreesOnFull, IsFullBefore, IsOfBooks, IsOfKeepers, NoneMeetsFull, StopsBefore, acts_in, acts_meet_full, after_deliveries, after_delivery, answer_to, answers_to, kept_under, meets_full, new_acts, replies_to, stepped, with_answer};
 
-use crate::answers::Answer;
+use crate::answers::{Answer, answer_text};
 use crate::book::Book;
 use crate::delivery::{Delivery, acts_of};
 use crate::stepping::step_all;
-use gate_queue::{Fault, Gate, law_of_histories};
+use gate_queue::{Before, Fault, Gate, law_of_histories};
 use gate_text::DeliveryId;
 use std::alloc::Global;
 use std::marker::Model;
 
 /// What answers deliveries, lets each act once, and keeps the records of them in a book. A contract sees it as its book.
 ///
-/// Between deliveries it has the gate of the book at hand. So it loads only if there is none: before the first new delivery,
-/// and after a fault of acts or of a commit.
+/// Between deliveries it has the gate of the book at hand. So it loads only if there is none: for the first new delivery or the
+/// first look, and after a fault of acts, of their text or of a commit. To a commit it tells what was before the acts.
 #[derive(Drop)]
 pub struct Keeper<B: Book> {
     book: B,
@@ -34,6 +40,9 @@ impl<B: Book> Model for Keeper<B> {
 }
 
 impl<B: Book> Keeper<B> {
+    ghost use Rattle.gate_store.specs.Looking.{Looked};
+    ghost use Rattle.gate_store.specs.contracts.keeper.Keeper.{the_row};
+
     /// A keeper of this book. It takes no memory.
     pub fn new(book: B) -> Keeper<B>
         ensures value { result ≡ book }
@@ -64,6 +73,21 @@ impl<B: Book> Keeper<B> {
     {
         law_of_histories();
         self.copy_gate(alloc)
+    }
+
+    /// The gate, lent. It changes nothing but that a gate is at hand then, so the book is asked for it once, and no copy is made. The
+    /// faults are those of `gate`.
+    pub fn look(&mut self, alloc: Global) -> Result<&Gate, Fault>
+        ensures* rests { sem 𝓛 (Rests (the_row B.row B.Book) self.entry (λ new. Looked B.shows B.is_sound self.old new result)) }
+        ensures cause { IfErr result (λ fault. (fault ≡ Fault.Memory) ⊎ B.may_answer fault) }
+        ensures fault { IfErr result IsOfBooks }
+    {
+        law_of_histories();
+        self.gate = Some(take_gate(&mut self.gate, &mut self.book, alloc)?);
+        match &self.gate {
+            Some(gate) => Ok(gate),
+            None => unreachable!(),
+        }
     }
 
     // A copy of the gate at hand, or the book's if there is none.
@@ -101,6 +125,26 @@ impl<B: Book> Keeper<B> {
         ensures was { B.is_sound self.new → B.is_sound self.old }
     {
         self.answer(alloc, delivery)
+    }
+
+    /// Answers a delivery as `deliver` does, by the text of the answer. Of a delivery that acts the text is made before anything is
+    /// kept. So after any fault nothing has changed, and if there is no memory for the text, the delivery hasn't acted.
+    pub fn deliver_text(&mut self, alloc: Global, delivery: &Delivery) -> Result<String, Fault>
+        // The text and the records are those of the run.
+        ensures answer { B.is_sound self.new → IfOk result (λ text. string_bytes text ≡ answer_text_of (answer_to (B.shows self.old) delivery.now)) }
+        ensures book { B.is_sound self.new → OnOk result (B.shows self.new ≡ after_delivery (B.shows self.old) delivery.now) }
+
+        // The headline for this delivery, and all that the history tells.
+        ensures headline { B.is_sound self.new → OnOk result (Headline (B.shows self.old) (delivery.now ∷ []) (answer_to (B.shows self.old) delivery.now ∷ []) (B.shows self.new)) }
+        ensures history { B.is_sound self.new → OnOk result ((history : List Entry) → Legal history (B.shows self.old).state → HistoryTells (B.shows self.old) (delivery.now ∷ []) (B.shows self.new) history) }
+
+        // A fault changes nothing.
+        ensures err { B.is_sound self.new → OnErr result (B.shows self.new ≡ B.shows self.old) }
+        ensures full { B.is_sound self.new → AgreesOnFull result (meets_full (B.shows self.old) delivery.now) }
+        ensures cause { IfErr result (IsOfKeepers B.may_answer) }
+        ensures was { B.is_sound self.new → B.is_sound self.old }
+    {
+        self.text(alloc, delivery)
     }
 
     /// Answers deliveries in order, and stops at the first fault. With the answers comes the fault, if there was one; then the
@@ -162,13 +206,32 @@ impl<B: Book> Keeper<B> {
         if let Some(answer) = self.book.kept(alloc, &delivery.id)? {
             return Ok(answer);
         }
-        self.step(alloc, delivery)
+        let acted = self.step(alloc, delivery)?;
+        Ok(acted.answer)
+    }
+
+    // The same, by the text of the answer.
+    fn text(&mut self, alloc: Global, delivery: &Delivery) -> Result<String, Fault>
+        ensures answer { B.is_sound self.new → IfOk result (λ text. string_bytes text ≡ answer_text_of (answer_to (B.shows self.old) delivery.now)) }
+        ensures book { B.is_sound self.new → OnOk result (B.shows self.new ≡ after_delivery (B.shows self.old) delivery.now) }
+        ensures history { B.is_sound self.new → OnOk result ((history : List Entry) → Legal history (B.shows self.old).state → Each Tells history (B.shows self.old).state (new_acts (B.shows self.old) delivery.now)) }
+        ensures err { B.is_sound self.new → OnErr result (B.shows self.new ≡ B.shows self.old) }
+        ensures full { B.is_sound self.new → AgreesOnFull result (meets_full (B.shows self.old) delivery.now) }
+        ensures cause { IfErr result (IsOfKeepers B.may_answer) }
+        ensures was { B.is_sound self.new → B.is_sound self.old }
+    {
+        if let Some(kept) = self.book.kept(alloc, &delivery.id)? {
+            return Ok(answer_text(alloc, &kept)?);
+        }
+        let acted = self.step(alloc, delivery)?;
+        Ok(acted.text)
     }
 
     // Lets a delivery act whose identifier has no kept answer. Once the gate is taken, a fault leaves none at hand.
-    fn step(&mut self, alloc: Global, delivery: &Delivery) -> Result<Answer, Fault>
+    fn step(&mut self, alloc: Global, delivery: &Delivery) -> Result<Acted, Fault>
         requires free { B.is_sound self.old → kept_under (B.shows self.old) delivery.now.id ≡ None }
-        ensures answer { B.is_sound self.new → IfOk result (λ answer. answer ≡ replies_to (B.shows self.old).state (acts_in delivery.now)) }
+        ensures answer { B.is_sound self.new → IfOk result (λ acted. acted.answer ≡ replies_to (B.shows self.old).state (acts_in delivery.now)) }
+        ensures text { IfOk result (λ acted. string_bytes acted.text ≡ answer_text_of acted.answer) }
         ensures book { B.is_sound self.new → OnOk result (B.shows self.new ≡ stepped (B.shows self.old) delivery.now) }
         ensures history { B.is_sound self.new → OnOk result ((history : List Entry) → Legal history (B.shows self.old).state → Each Tells history (B.shows self.old).state (acts_in delivery.now)) }
         ensures err { B.is_sound self.new → OnErr result (B.shows self.new ≡ B.shows self.old) }
@@ -178,30 +241,45 @@ impl<B: Book> Keeper<B> {
     {
         let acts = acts_of(alloc, delivery)?;
         let gate = take_gate(&mut self.gate, &mut self.book, alloc)?;
-        let (gate, answer) = step_all(gate, alloc, acts.as_slice())?;
-        self.commit(alloc, gate, &delivery.id, &answer)?;
-        Ok(answer)
+        let (gate, before, answer) = step_all(gate, alloc, acts.as_slice())?;
+        let text = answer_text(alloc, &answer)?;
+        let acted = Acted { answer, text };
+        self.commit(alloc, &before, gate, &delivery.id, &acted)?;
+        Ok(acted)
     }
 
-    // Keeps a gate and an answer in the book, and has the gate at hand then.
+    // Keeps a gate and an answer in the book, which is told what was before the acts. The gate is at hand then.
     fn commit(
         &mut self,
         alloc: Global,
+        before: &Before,
         gate: Gate,
         id: &DeliveryId,
-        answer: &Answer,
+        acted: &Acted,
     ) -> Result<(), Fault>
         requires free { B.is_sound self.old → kept_under (B.shows self.old) id.now ≡ None }
-        ensures ok { B.is_sound self.new → OnOk result (B.shows self.new ≡ with_answer (B.shows self.old) gate id.now answer.now) }
+        requires stands { B.is_sound self.old → IsBefore before.now (B.shows self.old).state gate }
+        requires text { string_bytes acted.now.text ≡ answer_text_of acted.now.answer }
+        requires reads { answer_of (string_bytes acted.now.text) ≡ acted.now.answer }
+        ensures ok { B.is_sound self.new → OnOk result (B.shows self.new ≡ with_answer (B.shows self.old) gate id.now acted.now.answer) }
         ensures err { B.is_sound self.new → OnErr result (B.shows self.new ≡ B.shows self.old) }
         ensures was { B.is_sound self.new → B.is_sound self.old }
         ensures cause { IfErr result B.may_answer }
         ensures fault { IfErr result IsOfBooks }
     {
-        self.book.commit(alloc, &gate, id, answer)?;
+        let text = acted.text.as_str();
+        self.book
+            .commit_since(alloc, before, &gate, id, &acted.answer, text)?;
         self.gate = Some(gate);
         Ok(())
     }
+}
+
+// What a delivery that acted is answered, and the text of that.
+#[derive(Drop)]
+struct Acted {
+    answer: Answer,
+    text: String,
 }
 
 // Takes the gate at hand, or loads the book's if there is none.

@@ -1,20 +1,23 @@
 ghost use Rattle.std.specs.Prelude.{◌≡◌, ◌<◌, List, length, Err, IsTrue, IfOk, IfErr};
 ghost use Rattle.std.specs.List.{All};
 ghost use Rattle.gate_state.specs.Acts.{ActKeepsLimits};
+ghost use Rattle.gate_queue.specs.Before.{IsBefore};
 ghost use Rattle.gate_queue.specs.History.{Entry, Legal};
 ghost use Rattle.gate_store.specs.Headline.{Each, Tells};
 ghost use Rattle.gate_store.specs.Run.{AgreesOnFull, IsOfActs, acts_meet_full, is_full, replies_to, after_all};
 
 use crate::answers::Answer;
-use gate_queue::{Act, Fault, Gate};
+use gate_queue::{Act, Before, Fault, Gate};
 use std::alloc::Global;
 
-/// Lets acts that keep their limits step on the gate in order, and answers the gate after them and their replies. `Full`
-/// if an act meets a full gate, and at once if the first does; else the one fault is `Memory`. After a fault the gate is spent.
-pub fn step_all(gate: Gate, alloc: Global, acts: &[Act]) -> Result<(Gate, Answer), Fault>
+/// Lets acts that keep their limits step on the gate in order, and answers the gate after them, what was before them, and their
+/// replies. `Full` if an act meets a full gate, and at once if the first does; else the one fault is `Memory`. After a fault the
+/// gate is spent.
+pub fn step_all(gate: Gate, alloc: Global, acts: &[Act]) -> Result<(Gate, Before, Answer), Fault>
     requires { All ActKeepsLimits acts.now }
-    ensures replies { IfOk result (λ done. done.1 ≡ replies_to gate acts.now) }
+    ensures replies { IfOk result (λ done. done.2 ≡ replies_to gate acts.now) }
     ensures gate { IfOk result (λ done. done.0 ≡ after_all gate acts.now) }
+    ensures before { IfOk result (λ done. IsBefore done.1 gate done.0) }
 
     // Each entry tells, after every history that led to the state.
     ensures history { IfOk result (λ _. (history : List Entry) → Legal history gate → Each Tells history gate acts.now) }
@@ -24,12 +27,17 @@ pub fn step_all(gate: Gate, alloc: Global, acts: &[Act]) -> Result<(Gate, Answer
     ensures at_once { IsTrue (is_full gate) → 0 < length acts.now → result ≡ Err Fault.Full }
     ensures cause { IfErr result IsOfActs }
 {
+    let mut before = Before::of(alloc, &gate);
     let mut gate = gate;
     let mut replies = Answer::from(Vec::new(alloc));
     for act in acts {
+        if gate.is_full() {
+            return Err(Fault::Full);
+        }
+        before.note(alloc, &gate, act)?;
         let (next, reply) = gate.act(alloc, act)?;
         replies.push(reply)?;
         gate = next;
     }
-    Ok((gate, replies))
+    Ok((gate, before, replies))
 }

@@ -57,7 +57,7 @@ module _ {R : Type 0} (form : Form R) (known : IsKeyed form) where
   one_key : (r x : R) → key_of form x ≡ key_of form r → alike r x ≡ true
   one_key r x same = ap (λ k. begin_with k (form.values x)) (sym same) ∙ begins_itself (key_width form.layout) (form.values x)
 
-  own : (r : R) → alike r r ≡ true
+  pub own : (r : R) → alike r r ≡ true
   own r = one_key r r refl
 
   back : (r x : R) → alike r x ≡ true → alike x r ≡ true

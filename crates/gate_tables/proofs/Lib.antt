@@ -8,6 +8,8 @@ pub mod Finding
 pub mod Inserting
 pub mod Leading
 pub mod Leaving
+pub mod Moved
+pub mod Others
 pub mod Picking
 pub mod Placing
 pub mod Putting

@@ -65,3 +65,20 @@ pub record HaveKeys (rows : Rows) : Type 0 where
 -- The differences, applied to the first in any order, lead to the second.
 abbrev pub LawOfDifferences : Type 0
 LawOfDifferences = (old new rows : Rows) → HaveKeys old → HaveKeys new → AreSame rows old → AreSame (applied (differences old new) rows) new
+
+-- some rows, and others beside them
+abbrev pub with_others : Rows → Rows → Rows
+with_others rows others = record {
+  desk = rows.desk ++ others.desk;
+  people = rows.people ++ others.people;
+  changes = rows.changes ++ others.changes;
+  marks = rows.marks ++ others.marks;
+  batches = rows.batches ++ others.batches;
+  members = rows.members ++ others.members;
+  statuses = rows.statuses ++ others.statuses;
+}
+
+-- The differences of parts suffice: if both have the same others beside them, they lead from the one with these to the other with these.
+abbrev pub LawOfParts : Type 0
+LawOfParts = (old new others rows : Rows) → HaveKeys (with_others old others) → HaveKeys (with_others new others) → AreSame rows (with_others old others)
+    → AreSame (applied (differences old new) rows) (with_others new others)

@@ -24,7 +24,7 @@ mod tables;
 
 pub use change::{Row, RowChange, RowKey};
 pub use fault::TablesFault;
-pub use laws::law_of_differences;
+pub use laws::{law_of_differences, law_of_parts};
 pub use make::is_blank;
 pub use row::{BatchRow, ChangeRow, DeskRow, MarkRow, MemberRow, PersonRow, Rows, StatusRow};
 pub use tables::{NotMade, Tables};

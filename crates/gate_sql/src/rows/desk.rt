@@ -13,13 +13,31 @@ pub(crate) fn desk_row(alloc: Global, gate: &Gate) -> Result<DeskRow, AllocError
     ensures { IfOk result (λ row. row ≡ encoding.desk_row gate.now) }
 {
     let desk = gate.desk();
-    let settings = desk.settings();
+    desk_row_of(
+        alloc,
+        gate.next(),
+        desk.clock(),
+        desk.base(),
+        desk.settings(),
+    )
+}
+
+/// The row by the number of the next batch, the clock, the base and the settings.
+pub(crate) fn desk_row_of(
+    alloc: Global,
+    next: u64,
+    clock: u64,
+    base: Option<Commit>,
+    settings: Option<&Settings>,
+) -> Result<DeskRow, AllocError>
+    ensures { IfOk result (λ row. row ≡ encoding.desk_row_of next clock base (option_copied settings.entry)) }
+{
     Ok(DeskRow {
         one: 1,
         version: 1,
-        next_batch: integer(gate.next()),
-        clock: integer(desk.clock()),
-        base: base_text(alloc, desk.base())?,
+        next_batch: integer(next)?,
+        clock: integer(clock)?,
+        base: base_text(alloc, base)?,
         timeout_sec: timeout_of(settings),
         required_approvals: approvals_of(settings),
         max_batch_size: size_of(settings),

@@ -26,7 +26,8 @@ pub(crate) fn mark_rows(alloc: Global, desk: &Desk) -> Result<List<MarkRow>, All
     Ok(List::from(rows))
 }
 
-fn push_settings(
+/// Adds a row for each mark of the settings.
+pub(crate) fn push_settings(
     alloc: Global,
     rows: &mut Vec<MarkRow>,
     settings: Option<&Settings>,
@@ -54,7 +55,8 @@ fn push_changes(
     Ok(())
 }
 
-fn push_change(
+/// Adds a row for each mark of a change.
+pub(crate) fn push_change(
     alloc: Global,
     rows: &mut Vec<MarkRow>,
     number: u32,

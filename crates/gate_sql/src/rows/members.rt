@@ -1,7 +1,6 @@
 ghost use Rattle.std.specs.Prelude.{◌≡◌, ◌++◌, IfOk, OnOk, map};
-ghost use Rattle.std.specs.List.{All, flat_map};
+ghost use Rattle.std.specs.List.{flat_map};
 ghost use Rattle.gate_sql.specs.Encoding as encoding;
-ghost use Rattle.gate_sql.specs.Limits.{BatchKeepsLimits};
 
 use crate::rows::numbers::{integer, place_number};
 use gate_state::Batch;
@@ -11,7 +10,6 @@ use std::alloc::{AllocError, Global};
 
 /// A row for each change of each batch.
 pub(crate) fn member_rows(alloc: Global, batches: &[&Batch]) -> Result<List<MemberRow>, AllocError>
-    requires { All (λ batch. BatchKeepsLimits batch.now) batches.now }
     ensures { IfOk result (λ rows. rows ≡ flat_map encoding.members_of (map (λ batch. batch.now) batches.now)) }
 {
     let mut rows = Vec::new(alloc);
@@ -22,10 +20,9 @@ pub(crate) fn member_rows(alloc: Global, batches: &[&Batch]) -> Result<List<Memb
 }
 
 fn push_batch(rows: &mut Vec<MemberRow>, batch: &Batch) -> Result<(), AllocError>
-    requires { BatchKeepsLimits batch.now }
     ensures { OnOk result (rows.new.items ≡ rows.old.items ++ encoding.members_of batch.now) }
 {
-    let number = integer(batch.number);
+    let number = integer(batch.number)?;
     for (place, change) in batch.changes.as_slice().iter().enumerate() {
         rows.push(MemberRow {
             batch: number,

@@ -1,16 +1,18 @@
-ghost use Rattle.std.specs.Prelude.{◌≡◌, ◌≤◌, IfOk, pos};
+ghost use Rattle.std.specs.Prelude.{◌≡◌, IfOk, pos};
 ghost use Rattle.gate_sql.specs.Encoding as encoding;
 
 use gate_rules::{Phase, Repeat, Role};
 use gate_state::{Branch, Report, Stage};
 use std::alloc::AllocError;
 
-/// A number that a state keeps, as the database takes it.
-pub(crate) fn integer(number: u64) -> i64
-    requires { number ≤ 9_000_000_000_000_000 }
-    ensures { result ≡ pos number }
+/// A number as the database takes it. `AllocError` for one above the greatest that it takes, which no state keeps.
+pub(crate) fn integer(number: u64) -> Result<i64, AllocError>
+    ensures { IfOk result (λ integer. integer ≡ pos number) }
 {
-    number as i64
+    match i64::try_from(number) {
+        Ok(integer) => Ok(integer),
+        Err(_) => Err(AllocError),
+    }
 }
 
 pub(crate) fn flag(is: bool) -> i64

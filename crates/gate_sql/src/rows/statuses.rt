@@ -1,12 +1,11 @@
-ghost use Rattle.std.specs.Prelude.{◌≡◌, ◌++◌, ◌≤◌, IfOk, OnOk, map};
+ghost use Rattle.std.specs.Prelude.{◌≡◌, ◌++◌, IfOk, OnOk, map};
 ghost use Rattle.std.specs.Cmp.Lexicographic.{slice_cmp};
 ghost use Rattle.std.specs.FinMap as finite;
-ghost use Rattle.std.specs.List.{All, flat_map};
+ghost use Rattle.std.specs.List.{flat_map};
 ghost use Rattle.std.specs.List.Sorted.{IsStrictlySortedBy};
 ghost use Rattle.std.specs.Map.{keys_of};
 ghost use Rattle.std.specs.Ordering.{nat_cmp};
 ghost use Rattle.gate_sql.specs.Encoding as encoding;
-ghost use Rattle.gate_sql.specs.Limits.{BatchKeepsLimits};
 
 use crate::rows::numbers::{integer, report_number};
 use gate_state::{Batch, Report, Reports, Stage};
@@ -17,7 +16,6 @@ use std::collections::BTreeMap;
 
 /// A row for each report of each batch.
 pub(crate) fn status_rows(alloc: Global, batches: &[&Batch]) -> Result<List<StatusRow>, AllocError>
-    requires { All (λ batch. BatchKeepsLimits batch.now) batches.now }
     ensures { IfOk result (λ rows. rows ≡ flat_map encoding.statuses_of (map (λ batch. batch.now) batches.now)) }
 {
     let mut rows = Vec::new(alloc);
@@ -28,7 +26,6 @@ pub(crate) fn status_rows(alloc: Global, batches: &[&Batch]) -> Result<List<Stat
 }
 
 fn push_batch(alloc: Global, rows: &mut Vec<StatusRow>, batch: &Batch) -> Result<(), AllocError>
-    requires { BatchKeepsLimits batch.now }
     ensures { OnOk result (rows.new.items ≡ rows.old.items ++ encoding.statuses_of batch.now) }
 {
     match &batch.stage {
@@ -43,7 +40,6 @@ fn push_reports(
     number: u64,
     reports: &Reports,
 ) -> Result<(), AllocError>
-    requires { number ≤ 9_000_000_000_000_000 }
     ensures { OnOk result (rows.new.items ≡ rows.old.items ++ map (encoding.status_row number) (finite.entries reports.now)) }
 {
     push_entries(alloc, rows, number, reports.as_map())
@@ -55,7 +51,6 @@ fn push_entries(
     number: u64,
     reports: &BTreeMap<Context, Report>,
 ) -> Result<(), AllocError>
-    requires { number ≤ 9_000_000_000_000_000 }
     ensures value { OnOk result (rows.new.items ≡ rows.old.items ++ map (encoding.status_row number) reports.now.entries) }
     ensures ordered { IsStrictlySortedBy (slice_cmp nat_cmp) (keys_of reports.now.entries) }
 {
@@ -71,11 +66,10 @@ fn status_row(
     name: &Context,
     report: Report,
 ) -> Result<StatusRow, AllocError>
-    requires { number ≤ 9_000_000_000_000_000 }
     ensures { IfOk result (λ row. row ≡ encoding.status_row number (name.now, report)) }
 {
     Ok(StatusRow {
-        batch: integer(number),
+        batch: integer(number)?,
         name: Text::from_str(alloc, name.text())?,
         report: report_number(report),
     })

@@ -5,6 +5,9 @@ use Rattle.serde_json.specs.Read.{read, max_depth}
 use Rattle.serde_json.specs.Written.{compact_text, has_float}
 use Rattle.gate_state.specs.declared.reply.Reply.{Reply}
 use Rattle.gate_store.specs.Answers.{answer_data, answer_text_of}
+use Rattle.gate_store.specs.Limits.{IsAnswer}
+use Rattle.gate_store.specs.Reading.{answer_of}
+use Rattle.gate_store.proofs.Again.{texts_law}
 use Rattle.gate_store.proofs.Depths.{answer_within}
 use Rattle.gate_store.proofs.Whole.{answer_whole}
 use Rattle.gate_store.proofs.answers.answer_text.Goals as goal
@@ -25,3 +28,10 @@ returns-clause-reads_back c =
     IfOk-weaker c.to_string.result _ (λ text. read (string_bytes text) ≡ Some (answer_data c.args.answer.now))
     (λ text again. again (subst (λ (d : Data). depth d ≤ max_depth) (sym is) (answer_within answer)) ∙ ap Some is ∙ ap (λ (a : List Reply). Some (answer_data a)) c.as_slice.ensures.value)
     c.to_string.ensures.reads_back
+
+pub returns-clause-reads : goal.returns-clause-reads
+returns-clause-reads c =
+    let answer = c.args.answer.now in
+    let good : IsAnswer answer = subst IsAnswer c.as_slice.ensures.value c.in_ok-answer_value.ensures.good in
+    IfOk-weaker c.to_string.result (λ text. read (string_bytes text) ≡ Some (answer_data answer)) (λ text. answer_of (string_bytes text) ≡ answer)
+    (λ text back. texts_law (string_bytes text) answer good back) (returns-clause-reads_back c)

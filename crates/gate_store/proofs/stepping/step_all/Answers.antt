@@ -1,7 +1,8 @@
-use Rattle.std.proofs.Common.{rules, sym, ◌∙◌, ap, ◌≡◌, ◌<◌, ℕ, false, ltb, ◌++◌, [], ◌∷◌, arith}
+use Rattle.std.proofs.Common.{rules, inl, refl, sym, ◌∙◌, ap, ◌≡◌, ◌<◌, ℕ, false, ltb, ◌++◌, [], ◌∷◌, arith}
 use Rattle.std.proofs.lemmas.Bool.Decides.{nat_tests}
 use Rattle.std.proofs.lemmas.Bool.{true≢false}
 use Rattle.std.proofs.lemmas.List.{drop_all}
+use Rattle.std.proofs.lemmas.Result.{err_from_is_err_and}
 use Rattle.gate_store.specs.Run.{is_full, acts_meet_full}
 use Rattle.gate_store.proofs.Telling.{full_met, told_next, full_next, led_next, led_more, tells_next}
 use Rattle.gate_store.proofs.stepping.step_all.Goals as goal
@@ -30,6 +31,7 @@ loop-act-preserved c =
       led = led_next acts place act c.act-item.is within old s t step.1 c.loop-act.invariant.led;
       history = λ history legal.
           tells_next acts place act c.act-item.is within old s t reply (step.0, step.1) c.loop-act.invariant.so_far c.in_ok-next.ensures.history history legal (c.loop-act.invariant.history history legal);
+      before = rw step.1 (c.in_ok-note.ensures.before old c.loop-act.invariant.before);
       so_far = led_more acts place act c.act-item.is within old s t step.1 c.loop-act.invariant.so_far;
     }
 
@@ -39,3 +41,13 @@ returns-clause-at_once c full some =
     let none : acts_meet_full c.args.gate c.args.acts.now ≡ false =
     sym c.loop-act.invariant.full ∙ ap (acts_meet_full c.loop-act.gate) (drop_all c.loop-act.act-index c.args.acts.now c.loop-act-test.false) in
     absurd (true≢false (sym met ∙ none))
+
+pub returns-in_err-push-clause-full : goal.returns-in_err-push-clause-full
+returns-in_err-push-clause-full c =
+    let told = err_from_is_err_and c.from_residual-in_err-push.result c.from_residual-in_err-push.ensures.1 in
+    rw (told.1, told.2) tt
+
+pub returns-in_err-push-clause-cause : goal.returns-in_err-push-clause-cause
+returns-in_err-push-clause-cause c =
+    let told = err_from_is_err_and c.from_residual-in_err-push.result c.from_residual-in_err-push.ensures.1 in
+    rw (told.1, told.2) (inl refl)

@@ -1,4 +1,5 @@
 use Rattle.std.proofs.Common.{◌≡◌, true, ◌++◌, List, drop, take}
+use Rattle.gate_queue.specs.Before.{IsBefore}
 use Rattle.gate_queue.specs.History.{Entry, Legal}
 use Rattle.gate_store.specs.Headline.{Each, Tells}
 use Rattle.gate_store.specs.Run.{replies_to, after_all, is_full, acts_meet_full}
@@ -11,5 +12,6 @@ invariant-loop-act l = record {
   first : is_full l.fn.gate ≡ true → l.gate ≡ l.fn.gate;
   led : after_all l.gate (drop l.act-index l.acts) ≡ after_all l.fn.gate l.acts;
   history : (history : List Entry) → Legal history l.fn.gate → Each Tells history l.fn.gate (take l.act-index l.acts);
+  before : IsBefore l.before l.fn.gate l.gate;
   so_far : l.gate ≡ after_all l.fn.gate (take l.act-index l.acts);
 }
