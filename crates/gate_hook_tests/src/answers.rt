@@ -71,6 +71,8 @@ const DENIALS_AND_EMPTY_ANSWERS: &str = r#"
     [{"detail":[4294967295,4294967295],"number":11,"rule":"TooFewReviews","verdict":"denied"}]
     [{"detail":0,"number":17,"rule":"BadSettings","verdict":"denied"}]
     [{"detail":255,"number":17,"rule":"BadSettings","verdict":"denied"}]
+    [{"detail":"lint","number":21,"rule":"HeadStatus","verdict":"denied"}]
+    [{"detail":"é \"\\/","number":21,"rule":"HeadStatus","verdict":"denied"}]
 "#;
 
 const ORDERS: &str = r#"
@@ -158,6 +160,8 @@ const BAD_NUMBERS_AND_RULES: &str = r#"
     [{"number":7,"verdict":"denied"}]
     [{"number":7,"rule":"noSettings","verdict":"denied"}]
     [{"number":21,"rule":"Unknown","verdict":"denied"}]
+    [{"detail":"lint","number":10,"rule":"HeadStatus","verdict":"denied"}]
+    [{"detail":"lint","number":21,"rule":"Blocked","verdict":"denied"}]
 "#;
 
 const BAD_DETAILS: &str = r#"
@@ -186,6 +190,10 @@ const BAD_DETAILS: &str = r#"
     [{"detail":-1,"number":17,"rule":"BadSettings","verdict":"denied"}]
     [{"detail":1.0,"number":17,"rule":"BadSettings","verdict":"denied"}]
     [{"detail":"1","number":17,"rule":"BadSettings","verdict":"denied"}]
+    [{"number":21,"rule":"HeadStatus","verdict":"denied"}]
+    [{"detail":"","number":21,"rule":"HeadStatus","verdict":"denied"}]
+    [{"detail":["lint"],"number":21,"rule":"HeadStatus","verdict":"denied"}]
+    [{"detail":"\u007f","number":21,"rule":"HeadStatus","verdict":"denied"}]
 "#;
 
 const BAD_NOTICES: &str = r#"

@@ -105,6 +105,7 @@ module _ (events : List Event) (c : ℕ) (rest : Rest) (done : Option Act) (endi
     priority = priority_after events c rest done;
     labels = labels_after events c rest done;
     reviews = reviews_after events c rest done;
+    passed = set.empty;
     delegates = delegates_after events c rest done;
     approved = approvers_by;
     trying = trying_by;

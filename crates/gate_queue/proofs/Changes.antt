@@ -3,7 +3,8 @@ use Rattle.std.proofs.Common.{◌≡◌, ℕ, Bool, true, false, cond, not, ◌&
 use Rattle.std.proofs.lemmas.Bool.Decides.{Decides-eqb}
 use Rattle.std.specs.Cmp.{nat_cmp_total, unsigned_ties}
 use Rattle.std.specs.FinMap as finite
-use Rattle.std.specs.FinMap.{get-insert}
+use Rattle.std.specs.FinMap.{FinMap, get-insert, nat_cmp-IsAntisymmetric, same_map}
+use Rattle.std.specs.Ordering.{nat_cmp}
 use Rattle.std.specs.List.{list_any}
 use Rattle.std.specs.Option.{option_map, option_map_or}
 use Rattle.gate_text.specs.Settings.{SettingsView}
@@ -19,6 +20,14 @@ pub get-with_change : (desk : DeskView) (number : ℕ) (change : Change) (c : �
     → finite.get (with_change desk number change).changes c ≡ cond (eqb c number) (Some change) (finite.get desk.changes c)
 get-with_change desk number change c =
     get-insert nat_cmp_total desk.changes number change c ∙ ap (λ (b : Bool). cond b (Some change) (finite.get desk.changes c)) (sym (unsigned_ties c number))
+
+-- what is put where it stands already changes nothing
+pub same_change : (desk : DeskView) (number : ℕ) (change : Change) → finite.get desk.changes number ≡ Some change → with_change desk number change ≡ desk
+same_change desk number change had = ap (λ (changes : FinMap nat_cmp Change). record desk { changes = changes }) (same_map nat_cmp_total nat_cmp-IsAntisymmetric _ _ (λ c.
+    get-with_change desk number change c ∙ by c (eqb c number) refl)) where
+      by : (c : ℕ) (b : Bool) → eqb c number ≡ b → cond b (Some change) (finite.get desk.changes c) ≡ finite.get desk.changes c
+      by c true is = sym (ap (finite.get desk.changes) (same_number c number is) ∙ had)
+      by c false is = refl
 
 not_there : (alter : Change → Change) (b : Bool) (had : Option Change) → (b ≡ true → had ≡ None) → had ≡ cond b (option_map alter had) had
 not_there alter false had none = refl

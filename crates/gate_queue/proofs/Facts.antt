@@ -93,6 +93,7 @@ module _ (events : List Event) (c n : ℕ) where
           priority = (sym blank.priority) i;
           labels = (sym blank.labels) i;
           reviews = set.empty;
+          passed = set.empty;
           delegates = (sym blank.delegates) i;
           approved = (sym (ended events c (Opened n author head) refl refl)) i;
           trying = false;

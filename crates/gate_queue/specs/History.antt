@@ -344,6 +344,7 @@ change_of events change author = record {
   priority = priority_back events change;
   labels = labels_back events change;
   reviews = reviews_back events change;
+  passed = set.empty;
   delegates = delegates_back events change;
   approved = approvers_back events change;
   trying = trying_back events change;

@@ -177,6 +177,7 @@ just_opened author head = record {
   priority = pos 0;
   labels = set.empty;
   reviews = set.empty;
+  passed = set.empty;
   delegates = set.empty;
   approved = None;
   trying = false;
@@ -184,20 +185,21 @@ just_opened author head = record {
   last = None;
 }
 
--- Opened again, a change keeps all but its author, its head and its reviews. It wasn't open, so it isn't tried.
+-- Opened again, a change keeps all but its author, its head, its reviews and the statuses of its head. It wasn't open, so it isn't
+-- tried.
 abbrev pub opened : List ℕ → List ℕ → Option Change → Change
 opened author head None = just_opened author head
-opened author head (Some change) = record change { author = author; head = head; phase = phase.Opened; reviews = set.empty; trying = false }
+opened author head (Some change) = record change { author = author; head = head; phase = phase.Opened; reviews = set.empty; passed = set.empty; trying = false }
 
--- Another head ends the reviews, the approval and the try; the same head does nothing.
+-- Another head ends the reviews, the statuses of the head, the approval and the try; the same head does nothing.
 abbrev pub moved_to : List ℕ → Change → Change
-moved_to head change = record change { head = head; reviews = set.empty; approved = None; trying = false }
+moved_to head change = record change { head = head; reviews = set.empty; passed = set.empty; approved = None; trying = false }
 
 abbrev pub pushed : List ℕ → Change → Change
 pushed head change = if bytes_eq change.head head then change else moved_to head change
 
 abbrev pub closed : Change → Change
-closed change = record change { phase = phase.Closed; approved = None; trying = false }
+closed change = record change { phase = phase.Closed; passed = set.empty; approved = None; trying = false }
 
 -- the approval ends if the settings, if there are any, are against it
 abbrev pub unless_against : (SettingsView → Change → Bool) → Option SettingsView → Change → Change
@@ -466,7 +468,7 @@ told commit name state s =
 -- they have landed if the new base is the commit that was to land. Those of its changes that are approved then wait again, which
 -- is all of them if it wasn't landing. What has landed isn't tried any longer; all other tries go on.
 abbrev pub landed : Change → Change
-landed change = record change { phase = phase.Landed; approved = None; landing = false; trying = false }
+landed change = record change { phase = phase.Landed; passed = set.empty; approved = None; landing = false; trying = false }
 
 abbrev pub released : Option (List ℕ) → List ℕ → Change → Change
 released None commit change = with_landing false change
@@ -596,7 +598,7 @@ DeskTakesNoMemory desk (Role person role) = role ≡ Nobody
 DeskTakesNoMemory desk (Settings text) = ⊥
 DeskTakesNoMemory desk (Base commit) = ⊤
 DeskTakesNoMemory desk (Opened change author head) = ⊥
-DeskTakesNoMemory desk (Pushed change head) = notices desk (Pushed change head) ≡ []
+DeskTakesNoMemory desk (Pushed change head) = is_head (look desk) change head ≡ true
 DeskTakesNoMemory desk (Closed change) = notices desk (Closed change) ≡ []
 DeskTakesNoMemory desk (Labeled change label) = ⊥
 DeskTakesNoMemory desk (Unlabeled change label) = ⊤

@@ -1,16 +1,16 @@
-ghost use Rattle.std.specs.Prelude.{◌≡◌, [], ◌∷◌, not, ◌&&◌, ◌||◌, Some, None, is_some, true, false, IfOk, IsOk, OnOk};
+ghost use Rattle.std.specs.Prelude.{◌≡◌, [], ◌∷◌, not, ◌&&◌, ◌||◌, Some, None, is_some, true, false, IfOk, IsOk, IsTrue, OnOk, if◌then◌else◌};
 ghost use Rattle.std.specs.FinMap as finite;
 ghost use Rattle.std.specs.FinSet as set;
 ghost use Rattle.std.specs.List.{fold};
-ghost use Rattle.gate_rules.specs.View.{with_change, without_approval};
+ghost use Rattle.gate_rules.specs.View.{look, with_change, without_approval};
 ghost use Rattle.gate_state.specs.declared.reply.Order.TheVariants.{Notice};
 ghost use Rattle.gate_state.specs.declared.reply.Why.TheVariants as why;
 ghost use Rattle.gate_queue.specs.Machine as machine;
-ghost use Rattle.gate_queue.specs.Machine.{altered, ends_approval, ends_either, notice_if, notice_of};
+ghost use Rattle.gate_queue.specs.Machine.{altered, ends_approval, ends_either, is_head, notice_if, notice_of};
 
 use gate_rules::{Change, Desk, Phase, Repeat, has_too_few_reviews, is_blocked};
 use gate_state::{Order, Orders, Why};
-use gate_text::{ChangeNo, Commit, Label, LabelSet, Name, NameSet, Names};
+use gate_text::{ChangeNo, Commit, ContextSet, Label, LabelSet, Name, NameSet, Names};
 use std::alloc::{AllocError, Global};
 
 /// No orders.
@@ -66,8 +66,23 @@ fn keep(
     ensures orders { IfOk result (λ orders. orders ≡ notice_if (was_approved && not (is_some change.approved)) number why) }
 {
     let has_ended = was_approved && change.approved.is_none();
+    keep_ended(desk, alloc, number, has_ended, change, why)
+}
+
+// The same, if it is known whether something has ended.
+fn keep_ended(
+    desk: &mut Desk,
+    alloc: Global,
+    number: ChangeNo,
+    has_ended: bool,
+    change: Change,
+    why: Why,
+) -> Result<Orders, AllocError>
+    ensures desk { OnOk result (desk.new ≡ with_change desk.old number change) }
+    ensures orders { IfOk result (λ orders. orders ≡ notice_if has_ended number why) }
+{
     let orders = ending_notice(alloc, has_ended, number, why)?;
-    desk.keep_change(number, change)?;
+    desk.keep_change(alloc, number, change)?;
     Ok(orders)
 }
 
@@ -115,24 +130,45 @@ pub fn mark_landing(desk: &mut Desk, changes: &[ChangeNo])
 }
 
 /// Ends that changes are landing that were to land with a commit. If it is the new base, they have landed, and aren't tried any
-/// longer.
-pub fn release(desk: &mut Desk, changes: &[ChangeNo], commit: Commit, base: Option<Commit>)
+/// longer. What has succeeded on their heads is forgotten then.
+pub fn release(
+    desk: &mut Desk,
+    alloc: Global,
+    changes: &[ChangeNo],
+    commit: Commit,
+    base: Option<Commit>,
+)
     ensures { desk.new ≡ machine.all_altered (machine.released base commit) desk.old changes.now }
 {
+    release_all(desk, alloc, changes, base == Some(commit));
+}
+
+fn release_all(desk: &mut Desk, alloc: Global, changes: &[ChangeNo], have_landed: bool)
+    ensures { desk.new ≡ machine.all_altered (if have_landed then machine.landed else machine.with_landing false) desk.old changes.now }
+{
     for number in changes {
-        desk.alter(*number, |change| release_one(change, commit, base));
+        release_one(desk, alloc, *number, have_landed);
     }
 }
 
-fn release_one(change: &mut Change, commit: Commit, base: Option<Commit>)
-    ensures { change.new ≡ machine.released base commit change.old }
+fn release_one(desk: &mut Desk, alloc: Global, number: ChangeNo, has_landed: bool)
+    ensures { desk.new ≡ altered desk.old number (if has_landed then machine.landed else machine.with_landing false) }
 {
-    change.landing = false;
-    if base == Some(commit) {
-        change.phase = Phase::Landed;
-        change.approved = None;
-        change.trying = false;
+    if has_landed {
+        desk.shut(number, |change| land(change, alloc));
+    } else {
+        desk.alter(number, |change| change.landing = false);
     }
+}
+
+fn land(change: &mut Change, alloc: Global)
+    ensures { change.new ≡ machine.landed change.old }
+{
+    change.phase = Phase::Landed;
+    change.passed = ContextSet::new(alloc);
+    change.approved = None;
+    change.landing = false;
+    change.trying = false;
 }
 
 /// Sets the priority of a change.
@@ -153,7 +189,9 @@ pub fn delegate_author(desk: &mut Desk, alloc: Global, number: ChangeNo) -> Resu
 }
 
 fn add_author(change: &mut Change, alloc: Global) -> Result<(), AllocError>
-    ensures { OnOk result (change.new ≡ machine.with_author_as_delegate change.old) }
+    ensures ok { OnOk result (change.new ≡ machine.with_author_as_delegate change.old) }
+    ensures head { change.new.head ≡ change.old.head }
+    ensures phase { change.new.phase ≡ change.old.phase }
 {
     let author = change.author.copy(alloc)?;
     change.delegates.insert(author)
@@ -208,7 +246,7 @@ pub fn open(
         Some(change) => reopened(change.copy(alloc)?, alloc, author, head),
         None => just_opened(alloc, author, head),
     };
-    desk.keep_change(number, opened)
+    desk.keep_change(alloc, number, opened)
 }
 
 fn reopened(mut change: Change, alloc: Global, author: Name, head: Commit) -> Change
@@ -218,6 +256,7 @@ fn reopened(mut change: Change, alloc: Global, author: Name, head: Commit) -> Ch
     change.head = head;
     change.phase = Phase::Opened;
     change.reviews = NameSet::new(alloc);
+    change.passed = ContextSet::new(alloc);
     change.trying = false;
     change
 }
@@ -232,6 +271,7 @@ fn just_opened(alloc: Global, author: Name, head: Commit) -> Change
         priority: 0,
         labels: LabelSet::new(alloc),
         reviews: NameSet::new(alloc),
+        passed: ContextSet::new(alloc),
         delegates: NameSet::new(alloc),
         approved: None,
         trying: false,
@@ -240,7 +280,8 @@ fn just_opened(alloc: Global, author: Name, head: Commit) -> Change
     }
 }
 
-/// Gives a change a head. Another one ends its reviews, its approval and its try.
+/// Gives a change a head. Another one ends its reviews, its approval and its try, and what has succeeded on the head before is
+/// forgotten.
 pub fn push(
     desk: &mut Desk,
     alloc: Global,
@@ -249,23 +290,28 @@ pub fn push(
 ) -> Result<Orders, AllocError>
     ensures desk { OnOk result (desk.new ≡ altered desk.old number (machine.pushed head)) }
     ensures orders { IfOk result (λ orders. orders ≡ notice_of desk.old number why.Pushed (ends_either (machine.pushed head))) }
-    ensures no_memory { notice_of desk.old number why.Pushed (ends_either (machine.pushed head)) ≡ [] → IsOk result }
+    ensures no_memory { IsTrue (is_head (look desk.old) number head) → IsOk result }
 {
-    let has_ended = desk.alter(number, |change| move_to(change, alloc, head));
-    ending_notice(alloc, has_ended.unwrap_or(false), number, Why::Pushed)
+    let Some(change) = desk.change(number) else {
+        return Ok(no_orders(alloc));
+    };
+    if change.head == head {
+        return Ok(no_orders(alloc));
+    }
+    let mut change = change.copy(alloc)?;
+    let has_ended = move_to(&mut change, alloc, head);
+    keep_ended(desk, alloc, number, has_ended, change, Why::Pushed)
 }
 
 // Whether the approval of the change or its try has ended by its new head.
 fn move_to(change: &mut Change, alloc: Global, head: Commit) -> bool
-    ensures change { change.new ≡ machine.pushed head change.old }
-    ensures ended { result ≡ ends_either (machine.pushed head) change.old }
+    ensures change { change.new ≡ machine.moved_to head change.old }
+    ensures ended { result ≡ ends_either (machine.moved_to head) change.old }
 {
-    if change.head == head {
-        return false;
-    }
     let has_ended = end_both(change);
     change.head = head;
     change.reviews = NameSet::new(alloc);
+    change.passed = ContextSet::new(alloc);
     has_ended
 }
 
@@ -280,22 +326,23 @@ fn end_both(change: &mut Change) -> bool
     has_ended
 }
 
-/// Closes a change, which ends its approval and its try.
+/// Closes a change, which ends its approval and its try. What has succeeded on its head is forgotten.
 pub fn close(desk: &mut Desk, alloc: Global, number: ChangeNo) -> Result<Orders, AllocError>
     ensures desk { OnOk result (desk.new ≡ altered desk.old number machine.closed) }
     ensures orders { IfOk result (λ orders. orders ≡ notice_of desk.old number why.Closed (ends_either machine.closed)) }
     ensures no_memory { notice_of desk.old number why.Closed (ends_either machine.closed) ≡ [] → IsOk result }
 {
-    let has_ended = desk.alter(number, shut);
+    let has_ended = desk.shut(number, |change| shut(change, alloc));
     ending_notice(alloc, has_ended.unwrap_or(false), number, Why::Closed)
 }
 
 // Whether the approval of the change or its try has ended by its closing.
-fn shut(change: &mut Change) -> bool
+fn shut(change: &mut Change, alloc: Global) -> bool
     ensures change { change.new ≡ machine.closed change.old }
     ensures ended { result ≡ ends_either machine.closed change.old }
 {
     change.phase = Phase::Closed;
+    change.passed = ContextSet::new(alloc);
     end_both(change)
 }
 

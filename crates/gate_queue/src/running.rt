@@ -266,19 +266,19 @@ pub fn send_back(state: State, alloc: Global, base: Option<Commit>) -> Result<St
     ensures no_memory { is_none state.queue.staging.running ≡ true → IsOk result }
 {
     let State { mut desk, queue } = state;
-    release(&mut desk, &queue.staging.running, base);
+    release(&mut desk, alloc, &queue.staging.running, base);
     let queue = queue.requeue(Branch::Staging, &Approved { desk: &desk })?;
     Ok(State { desk, queue })
 }
 
 // Ends that the changes of a batch are landing, if it was.
-fn release(desk: &mut Desk, running: &Option<Batch>, base: Option<Commit>)
+fn release(desk: &mut Desk, alloc: Global, running: &Option<Batch>, base: Option<Commit>)
     ensures { desk.new ≡ machine.released_on base desk.old running.now }
 {
     let Some(batch) = running else {
         return;
     };
     if let Stage::Landing { commit } = &batch.stage {
-        changing::release(desk, batch.changes.as_slice(), *commit, base);
+        changing::release(desk, alloc, batch.changes.as_slice(), *commit, base);
     }
 }

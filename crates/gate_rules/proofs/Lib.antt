@@ -1,2 +1,3 @@
 mod Alters
+mod Indexing
 pub mod Members

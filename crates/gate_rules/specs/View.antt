@@ -1,5 +1,5 @@
 -- THE DESK as finite maps, what each setter does to it, and how the rules see it.
-use Rattle.std.specs.Prelude.{◌≡◌, ℕ, Bool, true, false, List, [], ◌∷◌, Option, Some, None, IfSome, if◌then◌else◌}
+use Rattle.std.specs.Prelude.{◌≡◌, ℕ, ◌==◌, Bool, true, false, ◌&&◌, List, [], ◌∷◌, Option, Some, None, IfSome, if◌then◌else◌}
 use Rattle.std.specs.Ordering.{nat_cmp}
 use Rattle.std.specs.Cmp.Lexicographic.{slice_cmp}
 use Rattle.std.specs.FinMap as map
@@ -12,7 +12,7 @@ use Rattle.gate_rules.specs.declared.change.Change.{Change}
 use Rattle.gate_rules.specs.declared.role.Role.{Role}
 use Rattle.gate_rules.specs.declared.role.Role.TheVariants.{Nobody}
 use Rattle.gate_text.specs.Finite.{mapped_values}
-use Rattle.gate_rules.specs.Rules.{Look, is_member}
+use Rattle.gate_rules.specs.Rules.{Look, is_member, is_open_phase}
 
 -- A role `Nobody` is no entry.
 pub record DeskView : Type 0 where
@@ -54,6 +54,18 @@ with_clock desk now = record desk { clock = now }
 abbrev pub is_required : Option SettingsView → List ℕ → Bool
 is_required settings name = option_map_or (λ (s : SettingsView). list_any (bytes_eq name) s.status) settings false
 
+-- THE OPEN CHANGES AT A HEAD
+abbrev pub is_open_at : List ℕ → Change → Bool
+is_open_at head change = is_open_phase change.phase && bytes_eq head change.head
+
+-- whether an open change has this head
+abbrev pub is_open_head : List ℕ → DeskView → Bool
+is_open_head head desk = list_any (λ (entry : ℕ × Change). is_open_at head entry.1) (map.entries desk.changes)
+
+-- whether these are the numbers of the open changes that have it
+abbrev pub AreOpenAt : List ℕ → DeskView → List ℕ → Type 0
+AreOpenAt head desk numbers = (number : ℕ) → list_any (λ other. number == other) numbers ≡ option_map_or (is_open_at head) (map.get desk.changes number) false
+
 -- THE CHANGES THAT MEET A CONDITION
 abbrev pub without_approval : Change → Change
 without_approval change = record change { approved = None }
@@ -83,6 +95,13 @@ AltersOne run number desk None None after = after ≡ desk
 AltersOne run number desk (Some change) (Some answer) after = (altered : Change) × run change answer altered × (after ≡ with_change desk number altered)
 AltersOne run number desk None (Some answer) after = ⊥
 AltersOne run number desk (Some change) None after = ⊥
+
+-- An alteration that leaves the head of a change, and leaves it open if it was; and one after which it isn't open.
+abbrev pub KeepsHead : {T : Type 0} → (Change → T → Change → Type 0) → Type 0
+KeepsHead {T} run = (change : Change) (answer : T) (altered : Change) → run change answer altered → (altered.head ≡ change.head) × (is_open_phase altered.phase ≡ is_open_phase change.phase)
+
+abbrev pub Shuts : {T : Type 0} → (Change → T → Change → Type 0) → Type 0
+Shuts {T} run = (change : Change) (answer : T) (altered : Change) → run change answer altered → is_open_phase altered.phase ≡ false
 
 abbrev pub Alters : {T : Type 0} → (Change → T → Change → Type 0) → ℕ → DeskView → Option T → DeskView → Type 0
 Alters run number desk answer after = AltersOne run number desk (map.get desk.changes number) answer after

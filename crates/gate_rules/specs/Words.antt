@@ -3,7 +3,7 @@ use Rattle.std.specs.Prelude.{ℕ, List, codes}
 use Rattle.gate_rules.specs.declared.role.Level.{Level}
 use Rattle.gate_rules.specs.declared.role.Level.TheVariants.{Anyone, Member, MemberOrDelegate, ReviewerOrDelegate, Reviewer}
 use Rattle.gate_rules.specs.declared.rule.Rule.{Rule}
-use Rattle.gate_rules.specs.declared.rule.Rule.TheVariants.{UnknownChange, NotACommand, NotPermitted, NotOpen, NothingToRetry, Landing, NoSettings, NoBase, AlreadyApproved, NotApproved, AlreadyTrying, NotTrying, Blocked, TooFewReviews, AlreadyOpen, ChangeLanded, StaleHead, NotMember, OwnChange, BadSettings, ClockBack, NoSuchBatch, SameAsBase}
+use Rattle.gate_rules.specs.declared.rule.Rule.TheVariants.{UnknownChange, NotACommand, NotPermitted, NotOpen, NothingToRetry, Landing, NoSettings, NoBase, AlreadyApproved, NotApproved, AlreadyTrying, NotTrying, Blocked, TooFewReviews, AlreadyOpen, ChangeLanded, StaleHead, NotMember, OwnChange, BadSettings, ClockBack, NoSuchBatch, SameAsBase, HeadStatus}
 
 abbrev pub number_of : Rule → ℕ
 number_of UnknownChange = 1
@@ -29,6 +29,7 @@ number_of (BadSettings refusal) = 17
 number_of ClockBack = 18
 number_of NoSuchBatch = 19
 number_of SameAsBase = 20
+number_of (HeadStatus name) = 21
 
 abbrev pub word_of : Rule → List ℕ
 word_of UnknownChange = codes "UnknownChange"
@@ -54,6 +55,7 @@ word_of (BadSettings refusal) = codes "BadSettings"
 word_of ClockBack = codes "ClockBack"
 word_of NoSuchBatch = codes "NoSuchBatch"
 word_of SameAsBase = codes "SameAsBase"
+word_of (HeadStatus name) = codes "HeadStatus"
 
 abbrev pub level_word_of : Level → List ℕ
 level_word_of Anyone = codes "Anyone"

@@ -1,6 +1,7 @@
 ghost use Rattle.std.specs.Prelude.{◌≡◌, IfOk};
+ghost use Rattle.gate_rules.specs.Heads.{open_head};
 
-use gate_text::{Commit, LabelSet, Name, NameSet, Names, TryCopy};
+use gate_text::{Commit, ContextSet, LabelSet, Name, NameSet, Names, TryCopy};
 use std::alloc::{AllocError, Global};
 
 /// How far a change (a pull request) has come.
@@ -53,6 +54,8 @@ pub struct Change {
     pub labels: LabelSet,
     /// Who has approved of it in a review of its head.
     pub reviews: NameSet,
+    /// The statuses that have succeeded on its head, while it is open.
+    pub passed: ContextSet,
     /// Who may approve and try it besides those whose role lets them.
     pub delegates: NameSet,
     /// The approvers, if the change is approved.
@@ -66,6 +69,16 @@ pub struct Change {
 }
 
 impl Change {
+    // Its head, if it is open.
+    pub(crate) fn open_head(&self) -> Option<Commit>
+        ensures { result ≡ open_head self.now }
+    {
+        match self.phase {
+            Phase::Opened => Some(self.head),
+            Phase::Closed | Phase::Landed => None,
+        }
+    }
+
     /// A copy, or `AllocError` if there is no memory for it.
     pub fn copy(&self, alloc: Global) -> Result<Change, AllocError>
         ensures value { IfOk result (λ copy. copy ≡ self.now) }
@@ -85,6 +98,7 @@ impl Change {
             priority: self.priority,
             labels: self.labels.copy(alloc)?,
             reviews: self.reviews.copy(alloc)?,
+            passed: self.passed.copy(alloc)?,
             delegates: self.delegates.copy(alloc)?,
             approved,
             trying: self.trying,

@@ -1,23 +1,25 @@
-ghost use Rattle.std.specs.Prelude.{◌≡◌, ◌≤◌, IfOk, IsOk, OnOk, OnErr};
+ghost use Rattle.std.specs.Prelude.{◌≡◌, ◌≤◌, None, IfOk, IsOk, OnOk, OnErr};
 ghost use Rattle.std.specs.Option.{option_copied};
 ghost use Rattle.std.specs.FinMap as map;
 ghost use Rattle.std.specs.Fn.{FnOnceReturnsAtMut};
 ghost use Rattle.std.specs.List.Sorted.{IsStrictlySortedBy};
 ghost use Rattle.std.specs.Map.{keys_of};
 ghost use Rattle.std.specs.Ordering.{nat_cmp};
+ghost use Rattle.gate_rules.specs.Heads.{open_head_at};
 ghost use Rattle.gate_rules.specs.Rules as rules;
 ghost use Rattle.gate_rules.specs.View as view;
-ghost use Rattle.gate_rules.specs.View.{Alters, AreMembers, empty_desk, with_role, with_change, with_settings, with_base, with_clock, with_ended, numbers_where, is_required, role_on, look};
+ghost use Rattle.gate_rules.specs.View.{Alters, AreMembers, AreOpenAt, is_open_head, KeepsHead, Shuts, empty_desk, with_role, with_change, with_settings, with_base, with_clock, with_ended, numbers_where, is_required, role_on, look};
 ghost use Rattle.gate_rules.specs.declared.role.Role.TheVariants.{Nobody};
 
 mod rows;
 
 use crate::change::{Change, Repeat};
 use crate::condition::Condition;
+use crate::heads::Heads;
 use crate::role::{Level, Role};
 use gate_text::{ChangeNo, Command, Commit, Context, Name, Settings, copy_map};
 use std::alloc::{AllocError, Global};
-use std::collections::BTreeMap;
+use std::collections::{BTreeMap, BTreeSet};
 use std::marker::Model;
 
 /// What the rules look at: the roles of people, the changes, the settings, the base and the clock. A contract sees it
@@ -29,12 +31,15 @@ pub struct Desk {
     settings: Option<Settings>,
     base: Option<Commit>,
     clock: u64,
+    // The open changes by their heads, so that a status finds them without a walk over all.
+    heads: Heads,
 }
 
 impl Model for Desk {
     ghost use Rattle.std.specs.FinMap as map;
     ghost use Rattle.std.specs.Coded.{codes};
     ghost use Rattle.gate_text.specs.Finite.{finite_codes};
+    ghost use Rattle.gate_rules.specs.Heads.{IsIndexOf};
     ghost use Rattle.gate_rules.specs.View.{AreMembers, DeskView};
 
     ghost Value = { DeskView };
@@ -44,7 +49,7 @@ impl Model for Desk {
     ghost view = { λ desk. record { roles = map.from_entries desk.roles.entries; changes = map.from_entries desk.changes.entries; settings = desk.settings; base = desk.base; clock = desk.clock } };
 
     // A role `Nobody` is no entry.
-    ghost invariant = { λ desk. AreMembers (map.from_entries desk.roles.entries) };
+    ghost invariant = { λ desk. AreMembers (map.from_entries desk.roles.entries) × IsIndexOf (map.from_entries desk.changes.entries) desk.heads };
 }
 
 impl Desk {
@@ -58,6 +63,7 @@ impl Desk {
             settings: None,
             base: None,
             clock: 0,
+            heads: Heads::new(alloc),
         }
     }
 
@@ -75,6 +81,7 @@ impl Desk {
             settings,
             base: self.base,
             clock: self.clock,
+            heads: self.heads.copy()?,
         })
     }
 
@@ -138,6 +145,26 @@ impl Desk {
         self.clock
     }
 
+    /// Whether an open change has this head.
+    pub fn is_open_head(&self, head: Commit) -> bool
+        ensures value { result ≡ is_open_head head self.now }
+    {
+        match self.heads.at(head) {
+            Some(numbers) => !numbers.is_empty(),
+            None => false,
+        }
+    }
+
+    /// The numbers of the open changes that have this head, or `AllocError` if there is no memory for the list.
+    pub fn open_at(&self, alloc: Global, head: Commit) -> Result<Vec<ChangeNo>, AllocError>
+        ensures value { IfOk result (λ numbers. AreOpenAt head self.now numbers.items) }
+    {
+        match self.heads.at(head) {
+            Some(numbers) => listed(alloc, numbers),
+            None => Ok(Vec::new(alloc)),
+        }
+    }
+
     /// Sets the role of a person. If there is no memory for it, the desk stays as it was; to set `Nobody` takes none.
     pub fn set_role(&mut self, alloc: Global, person: &Name, role: Role) -> Result<(), AllocError>
         ensures ok { OnOk result (self.new ≡ with_role self.old person.now role) }
@@ -163,7 +190,7 @@ impl Desk {
         ensures ok { OnOk result (self.new ≡ with_change self.old number change.now) }
         ensures err { OnErr result (self.new ≡ self.old) }
     {
-        self.keep_change(number, change.copy(alloc)?)
+        self.keep_change(alloc, number, change.copy(alloc)?)
     }
 
     /// Sets the settings, in place of those that there were. It takes no memory.
@@ -190,24 +217,63 @@ impl Desk {
 
     /// Puts the change on the desk, in place of the one that has the number, if there is one. If there is no memory for
     /// it, the desk stays as it was.
-    pub fn keep_change(&mut self, number: ChangeNo, change: Change) -> Result<(), AllocError>
+    pub fn keep_change(
+        &mut self,
+        alloc: Global,
+        number: ChangeNo,
+        change: Change,
+    ) -> Result<(), AllocError>
         ensures ok { OnOk result (self.new ≡ with_change self.old number change) }
         ensures err { OnErr result (self.new ≡ self.old) }
     {
-        self.changes.insert(number, change)?;
+        let before = self.open_head(number);
+        let after = change.open_head();
+        self.heads.enter(alloc, after, number)?;
+        if let Err(refused) = put(&mut self.changes, number, change) {
+            self.heads.leave(after, number);
+            return Err(refused);
+        }
+        if before != after {
+            self.heads.leave(before, number);
+        }
         Ok(())
     }
 
+    // The head of the change of this number, if it is open.
+    fn open_head(&self, number: ChangeNo) -> Option<Commit>
+        ensures { result ≡ open_head_at self.now.changes number }
+    {
+        match self.change(number) {
+            Some(change) => change.open_head(),
+            None => None,
+        }
+    }
+
     /// Alters a change in place, and answers what the alteration answers, or nothing if the change isn't on the desk. It takes
-    /// no memory but what the alteration takes.
+    /// no memory but what the alteration takes, which leaves the head of the change, and leaves it open if it was.
     pub fn alter<T, F: FnOnce(&mut Change) -> T>(&mut self, number: ChangeNo, alter: F) -> Option<T>
-        requires { F.IsAlwaysCallable alter }
+        requires callable { F.IsAlwaysCallable alter }
+        requires kept { KeepsHead (FnOnceReturnsAtMut F.FnOnce alter) }
         ensures value { Alters (FnOnceReturnsAtMut F.FnOnce alter) number self.old result self.new }
     {
         let Some(change) = self.changes.get_mut(&number) else {
             return None;
         };
         Some(alter(change))
+    }
+
+    /// The same of an alteration after which the change isn't open.
+    pub fn shut<T, F: FnOnce(&mut Change) -> T>(&mut self, number: ChangeNo, alter: F) -> Option<T>
+        requires callable { F.IsAlwaysCallable alter }
+        requires shuts { Shuts (FnOnceReturnsAtMut F.FnOnce alter) }
+        ensures value { Alters (FnOnceReturnsAtMut F.FnOnce alter) number self.old result self.new }
+    {
+        let Some(open) = self.changes.get_mut(&number) else {
+            return None;
+        };
+        self.heads.leave(open.open_head(), number);
+        let answer = alter(open);
+        Some(answer)
     }
 
     /// The changes that meet a condition, by number upwards, or `AllocError` if there is no memory for the list.
@@ -286,6 +352,31 @@ impl Desk {
         let level = self.need(change, command);
         level.admits(self.role(person), self.is_delegate(person, change))
     }
+}
+
+// The numbers of a set, upwards.
+fn listed(alloc: Global, numbers: &BTreeSet<ChangeNo>) -> Result<Vec<ChangeNo>, AllocError>
+    ensures { IfOk result (λ listed. listed.items ≡ numbers.now.keys) }
+{
+    let mut listed = Vec::new(alloc);
+    for number in numbers {
+        listed.push(*number)?;
+    }
+    Ok(listed)
+}
+
+// Puts a change under its number. Only one that has none before can be refused.
+fn put(
+    changes: &mut BTreeMap<ChangeNo, Change>,
+    number: ChangeNo,
+    change: Change,
+) -> Result<(), AllocError>
+    ensures ok { OnOk result (map.from_entries {R = nat_cmp} changes.new.entries ≡ map.insert (map.from_entries changes.old.entries) number change) }
+    ensures same { OnErr result (changes.new.entries ≡ changes.old.entries) }
+    ensures absent { OnErr result (map.get (map.from_entries {R = nat_cmp} changes.old.entries) number ≡ None) }
+{
+    changes.insert(number, change)?;
+    Ok(())
 }
 
 // Ends the approval of a change that meets a condition.

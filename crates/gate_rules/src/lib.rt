@@ -5,6 +5,7 @@ mod change;
 mod condition;
 mod desk;
 mod fitness;
+mod heads;
 mod role;
 mod rule;
 

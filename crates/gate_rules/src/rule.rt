@@ -2,7 +2,7 @@ ghost use Rattle.std.specs.Prelude.{◌≡◌, IfOk};
 ghost use Rattle.gate_rules.specs.Words.{number_of, word_of};
 
 use crate::role::Level;
-use gate_text::Label;
+use gate_text::{Context, Label};
 use std::alloc::{AllocError, Global};
 
 /// A rule that an act has broken. Each act has a row of rules, and is answered the first of its row that fails.
@@ -54,6 +54,8 @@ pub enum Rule {
     NoSuchBatch,
     /// The commit is the present base.
     SameAsBase,
+    /// The status of this name hasn't succeeded on the change's head, the first of those that the settings want there.
+    HeadStatus(Context),
 }
 
 impl Rule {
@@ -83,6 +85,7 @@ impl Rule {
             Rule::ClockBack => 18,
             Rule::NoSuchBatch => 19,
             Rule::SameAsBase => 20,
+            Rule::HeadStatus(_) => 21,
         }
     }
 
@@ -114,6 +117,7 @@ impl Rule {
             Rule::ClockBack => "ClockBack",
             Rule::NoSuchBatch => "NoSuchBatch",
             Rule::SameAsBase => "SameAsBase",
+            Rule::HeadStatus(_) => "HeadStatus",
         }
     }
 
@@ -145,6 +149,7 @@ impl Rule {
             Rule::ClockBack => Rule::ClockBack,
             Rule::NoSuchBatch => Rule::NoSuchBatch,
             Rule::SameAsBase => Rule::SameAsBase,
+            Rule::HeadStatus(name) => Rule::HeadStatus(name.copy(alloc)?),
         })
     }
 }

@@ -1,6 +1,6 @@
 use crate::checks::cut;
 use gate_rules::{Change, Phase, Repeat, Role, Rule};
-use gate_text::{ChangeNo, Commit, Label, LabelSet, Name, NameSet, Names};
+use gate_text::{ChangeNo, Commit, ContextSet, Label, LabelSet, Name, NameSet, Names};
 use std::alloc::Global;
 use std::process::Abort;
 
@@ -110,6 +110,7 @@ pub(crate) fn change(rt: &impl Abort, alloc: Global, text: &str) -> Change {
         priority: priority.parse::<i32>().expect(rt, "a priority"),
         labels: label_set(rt, alloc, labels),
         reviews: name_set(rt, alloc, reviews),
+        passed: ContextSet::new(alloc),
         delegates: name_set(rt, alloc, delegates),
         approved: approvers(rt, alloc, approver_list),
         trying: phase_word.contains("trying"),
@@ -126,6 +127,7 @@ pub(crate) fn rule_words(rt: &impl Abort, alloc: Global, rule: &Rule) -> String 
         Rule::Blocked(label) => { format!(in alloc; "{word} {}", label.text()) }
         Rule::TooFewReviews(have, need) => { format!(in alloc; "{word} {have} {need}") }
         Rule::BadSettings(number) => { format!(in alloc; "{word} {number}") }
+        Rule::HeadStatus(name) => { format!(in alloc; "{word} {}", name.text()) }
         _ => String::from_str(alloc, word),
     };
     words.expect(rt, "memory")

@@ -1,3 +1,4 @@
+mod heads;
 mod same;
 
 use crate::checks::{check_that, check_words, cut, row_of};

@@ -1,5 +1,5 @@
 use crate::checks::{check_that, check_words, row_of};
-use gate_text::{Settings, SettingsFault, read_settings};
+use gate_text::{Context, Settings, SettingsFault, read_settings};
 use std::alloc::{AllocError, Global};
 use std::process::Abort;
 
@@ -11,9 +11,9 @@ fn push_word(rt: &impl Abort, words: &mut String, word: &str) {
     words.push_str(word).expect(rt, "memory");
 }
 
-fn statuses_of(rt: &impl Abort, alloc: Global, settings: &Settings) -> String {
+fn contexts_of(rt: &impl Abort, alloc: Global, contexts: &[Context]) -> String {
     let mut words = String::new(alloc);
-    for context in settings.status() {
+    for context in contexts {
         push_word(rt, &mut words, context.text());
     }
     words
@@ -35,13 +35,18 @@ fn limit_of(rt: &impl Abort, alloc: Global, settings: &Settings) -> String {
     words.expect(rt, "memory")
 }
 
-// Settings in words, as `ci,lint; 3600; hold; 0; no limit`: the values in the order of their checks.
+// Settings in words, as `ci,lint; 3600; hold; 0; no limit`: the values in the order of their checks. If a change needs statuses of
+// its own, they stand behind these.
 fn words_of(rt: &impl Abort, alloc: Global, settings: &Settings) -> String {
-    let mut words = statuses_of(rt, alloc, settings);
+    let mut words = contexts_of(rt, alloc, settings.status());
     let labels = labels_of(rt, alloc, settings);
     write!(words, "; {}; {labels}; ", settings.timeout_sec()).expect(rt, "memory");
     let limit = limit_of(rt, alloc, settings);
     write!(words, "{}; {limit}", settings.required_approvals()).expect(rt, "memory");
+    if !settings.pr_status().is_empty() {
+        let own = contexts_of(rt, alloc, settings.pr_status());
+        write!(words, "; {own}").expect(rt, "memory");
+    }
     words
 }
 
@@ -220,7 +225,25 @@ const TEXTS: &str = r#"<
         ["a\tb"] => 3 the key block_labels has a bad value
         ['wip', "\u007f"] => 3 the key block_labels has a bad value
         ['a', 'a', ''] => 3 the key block_labels has a bad value
+        front: status = ['ci']|pr_status = <
+        [] => ci; 3600; ; 0; no limit
+        ['lint'] => ci; 3600; ; 0; no limit; lint
+        ['b', 'a', 'b', 'c', 'a'] => ci; 3600; ; 0; no limit; b,a,c
+        ['a', 'a', 'a'] => ci; 3600; ; 0; no limit; a
+        ['ci', 'CI'] => ci; 3600; ; 0; no limit; ci,CI
+        'lint' => 3 the key pr_status has a bad value
+        "" => 3 the key pr_status has a bad value
+        0 => 3 the key pr_status has a bad value
+        true => 3 the key pr_status has a bad value
+        {} => 3 the key pr_status has a bad value
+        [1] => 3 the key pr_status has a bad value
+        ['lint', ['lint']] => 3 the key pr_status has a bad value
+        ['lint', ''] => 3 the key pr_status has a bad value
+        ["a\tb"] => 3 the key pr_status has a bad value
+        ['a', 'a', ''] => 3 the key pr_status has a bad value
         front: status = ['ci']|<
+        [pr_status] => 3 the key pr_status has a bad value
+        [[pr_status]] => 3 the key pr_status has a bad value
         [block_labels] => 3 the key block_labels has a bad value
         [[block_labels]] => 3 the key block_labels has a bad value
         block_labels.wip = true => 3 the key block_labels has a bad value
@@ -264,6 +287,8 @@ const TEXTS: &str = r#"<
         required_approvals = 101|block_labels = 1 => 3 the key block_labels has a bad value
         max_batch_size = 0|block_labels = [''] => 3 the key block_labels has a bad value
         max_batch_size = 0|required_approvals = 101 => 3 the key required_approvals has a bad value
+        pr_status = 1|max_batch_size = 0 => 3 the key max_batch_size has a bad value
+        pr_status = ['']|use_codeowners = 1 => 3 the key pr_status has a bad value
         max_batch_size = 0|use_codeowners = 1 => 3 the key max_batch_size has a bad value
         // Keys that are ignored, whatever their value. In a table the same names are other keys.
         use_squash_merge = true => ci; 3600; ; 0; no limit
@@ -276,8 +301,7 @@ const TEXTS: &str = r#"<
         up_to_date_approvals = false => ci; 3600; ; 0; no limit
         prerun_timeout_sec = 0 => ci; 3600; ; 0; no limit
         update_base_for_deletes = nan => ci; 3600; ; 0; no limit
-        pr_status = [] => ci; 3600; ; 0; no limit
-        pr_status = ['a', 'a'] => ci; 3600; ; 0; no limit
+        PR_STATUS = 1 => ci; 3600; ; 0; no limit
         colour = "red" => ci; 3600; ; 0; no limit
         committer = { name = 'x', email = 'y' } => ci; 3600; ; 0; no limit
         [committer]|name = 'x'|email = 'y' => ci; 3600; ; 0; no limit

@@ -15,7 +15,7 @@ use Rattle.std.specs.Option.{unwrap_or}
 use Rattle.std.specs.Ordering.{nat_cmp, int_eq, is_eq, is_lt, eq_by_cmp}
 use Rattle.std.specs.declared.cmp.Ordering.{Ordering}
 use Rattle.std.specs.declared.cmp.Ordering.TheVariants.{Less, Equal, Greater}
-use Rattle.gate_text.specs.Settings.{SettingsView, are_distinct, are_items, are_settings}
+use Rattle.gate_text.specs.Settings.{SettingsView, are_distinct, are_items, are_settings, is_size}
 use Rattle.gate_state.specs.Checks.{all_pairs, fit_changes, fit_names, fits, fits_approval, fits_change, fits_desk, fits_next, fits_priority, fits_queue, fits_repeat, fits_try, has_other_number, have_other_numbers, is_other_name, is_ready}
 use Rattle.gate_state.specs.declared.batch.Batch.{Batch}
 use Rattle.gate_rules.specs.declared.change.Change.{Change}
@@ -229,7 +229,7 @@ set_apart : (n : ℕ) (kind : ℤ) (words : FinSet (slice_cmp nat_cmp)) → Apar
 set_apart n kind words = mapped_apart (λ (w : List ℕ). w) mark_key (λ (word : List ℕ). mark n kind (pos 0, word)) (λ w o same. ap (λ (c : Row). bytes (column c 2)) same) (words_of words) (words_apart words)
 
 abbrev is_of_settings : ℤ → Bool
-is_of_settings kind = int_eq kind (pos 6) || int_eq kind (pos 7)
+is_of_settings kind = int_eq kind (pos 6) || int_eq kind (pos 7) || int_eq kind (pos 9)
 
 -- what holds of each mark of a list or of a set
 module _ (P : MarkRow → Type 0) (n : ℕ) (kind : ℤ) (each : (e : ℤ × List ℕ) → P (mark n kind e)) where
@@ -239,14 +239,23 @@ module _ (P : MarkRow → Type 0) (n : ℕ) (kind : ℤ) (each : (e : ℤ × Lis
   of_set : (words : FinSet (slice_cmp nat_cmp)) → AllByRecursion P (set_marks n kind words)
   of_set words = all_mapped P (λ (word : List ℕ). mark n kind (pos 0, word)) (words_of words) (all_of (λ word. P (mark n kind (pos 0, word))) (λ word. each (pos 0, word)) (words_of words))
 
+-- of each mark of a change, but for the names that passed on its head; and of all
+abbrev first_marks : ℕ × Change → List MarkRow
+first_marks e =
+    set_marks e.0 (pos 1) e.1.labels ++ set_marks e.0 (pos 2) e.1.reviews ++ set_marks e.0 (pos 3) e.1.delegates
+    ++ list_marks e.0 (pos 4) (unwrap_or e.1.approved []) ++ list_marks e.0 (pos 5) (names_of e.1.last)
+
+of_first : (P : MarkRow → Type 0) (e : ℕ × Change) → ((m : ℤ × List ℕ) → P (mark e.0 (pos 1) m)) → ((m : ℤ × List ℕ) → P (mark e.0 (pos 2) m)) → ((m : ℤ × List ℕ) → P (mark e.0 (pos 3) m))
+    → ((m : ℤ × List ℕ) → P (mark e.0 (pos 4) m)) → ((m : ℤ × List ℕ) → P (mark e.0 (pos 5) m)) → AllByRecursion P (first_marks e)
+of_first P e one two three four five =
+    all_joined P _ _ (all_joined P _ _ (all_joined P _ _ (all_joined P _ _ (of_set P e.0 (pos 1) one e.1.labels) (of_set P e.0 (pos 2) two e.1.reviews)) (of_set P e.0 (pos 3) three e.1.delegates))
+    (of_list P e.0 (pos 4) four (unwrap_or e.1.approved []))) (of_list P e.0 (pos 5) five (names_of e.1.last))
+
 of_change : (P : MarkRow → Type 0) (e : ℕ × Change) → ((kind : ℤ) (m : ℤ × List ℕ) → is_of_settings kind ≡ false → P (mark e.0 kind m)) → AllByRecursion P (marks_of e)
 of_change P e each =
-    let one = of_set P e.0 (pos 1) (λ m. each (pos 1) m refl) e.1.labels in
-    let two = of_set P e.0 (pos 2) (λ m. each (pos 2) m refl) e.1.reviews in
-    let three = of_set P e.0 (pos 3) (λ m. each (pos 3) m refl) e.1.delegates in
-    let four = of_list P e.0 (pos 4) (λ m. each (pos 4) m refl) (unwrap_or e.1.approved []) in
-    let five = of_list P e.0 (pos 5) (λ m. each (pos 5) m refl) (names_of e.1.last) in
-    all_joined P _ _ (all_joined P _ _ (all_joined P _ _ (all_joined P _ _ one two) three) four) five
+    all_joined P (first_marks e) (set_marks e.0 (pos 8) e.1.passed)
+    (of_first P e (λ m. each (pos 1) m refl) (λ m. each (pos 2) m refl) (λ m. each (pos 3) m refl) (λ m. each (pos 4) m refl) (λ m. each (pos 5) m refl))
+    (of_set P e.0 (pos 8) (λ m. each (pos 8) m refl) e.1.passed)
 
 -- marks of one kind after marks of others
 joined_kinds : (kind : ℤ) (xs ys : List MarkRow) → Apart mark_key xs → Apart mark_key ys → AllByRecursion (λ (r : MarkRow). r.kind ≢ kind) xs → AllByRecursion (λ (q : MarkRow). q.kind ≡ kind) ys → Apart mark_key (xs ++ ys)
@@ -283,7 +292,9 @@ module _ (e : ℕ × Change) (approvers : Apart (λ (w : List ℕ). w) (unwrap_o
       let not_five = all_joined (NotOf (pos 5)) (a ++ b ++ c) d
       (all_joined (NotOf (pos 5)) (a ++ b) c (all_joined (NotOf (pos 5)) a b (of_set (NotOf (pos 5)) e.0 (pos 1) (λ m same. cc same) e.1.labels) (of_set (NotOf (pos 5)) e.0 (pos 2) (λ m same. cc same) e.1.reviews)) (of_set (NotOf (pos 5)) e.0 (pos 3) (λ m same. cc same) e.1.delegates))
       (of_list (NotOf (pos 5)) e.0 (pos 4) (λ m same. cc same) (unwrap_or e.1.approved [])) in
-      joined_kinds (pos 5) (a ++ b ++ c ++ d) f four (list_apart e.0 (pos 5) (names_of e.1.last) named) not_five (of_list (λ (q : MarkRow). q.kind ≡ pos 5) e.0 (pos 5) (λ m. refl) (names_of e.1.last))
+      let five = joined_kinds (pos 5) (a ++ b ++ c ++ d) f four (list_apart e.0 (pos 5) (names_of e.1.last) named) not_five (of_list (λ (q : MarkRow). q.kind ≡ pos 5) e.0 (pos 5) (λ m. refl) (names_of e.1.last)) in
+      let not_eight = of_first (NotOf (pos 8)) e (λ m same. cc same) (λ m same. cc same) (λ m same. cc same) (λ m same. cc same) (λ m same. cc same) in
+      joined_kinds (pos 8) (first_marks e) (set_marks e.0 (pos 8) e.1.passed) five (set_apart e.0 (pos 8) e.1.passed) not_eight (of_set (λ (q : MarkRow). q.kind ≡ pos 8) e.0 (pos 8) (λ m. refl) e.1.passed)
 
 approvers_apart : (ready : Bool) (change : Change) (approved : Option (List (List ℕ))) → fits_approval ready change approved ≡ true → Apart (λ (w : List ℕ). w) (unwrap_or approved [])
 approvers_apart ready change None is = tt
@@ -311,18 +322,31 @@ each_change ready (e ∷ entries) is =
 settings_apart : (settings : Option SettingsView) → IfSome settings (λ settings. are_settings settings ≡ true) → Apart mark_key (settings_marks settings)
 settings_apart None is = tt
 settings_apart (Some settings) is =
-    let rest = second_so (are_items 1 64 settings.status) _ is in
-    let labels = first_so (are_items 0 64 settings.block_labels) _ (second_so (is_in_range 1 2147483647 settings.timeout_sec) _ rest) in
     let status = first_so (are_items 1 64 settings.status) _ is in
-    joined_kinds (pos 7) (list_marks 0 (pos 6) settings.status) (list_marks 0 (pos 7) settings.block_labels)
-    (list_apart 0 (pos 6) settings.status (texts_apart settings.status (second_so (is_in_range 1 64 (length settings.status)) (are_distinct bytes_eq settings.status) status)))
-    (list_apart 0 (pos 7) settings.block_labels (texts_apart settings.block_labels (second_so (is_in_range 0 64 (length settings.block_labels)) (are_distinct bytes_eq settings.block_labels) labels)))
-    (of_list (λ (r : MarkRow). r.kind ≢ pos 7) 0 (pos 6) (λ m same. cc same) settings.status) (of_list (λ (q : MarkRow). q.kind ≡ pos 7) 0 (pos 7) (λ m. refl) settings.block_labels)
+    let after_timeout = second_so (is_in_range 1 2147483647 settings.timeout_sec) _ (second_so (are_items 1 64 settings.status) _ is) in
+    let labels = first_so (are_items 0 64 settings.block_labels) _ after_timeout in
+    let after_approvals = second_so (is_in_range 0 100 settings.required_approvals) _ (second_so (are_items 0 64 settings.block_labels) _ after_timeout) in
+    let own = second_so (is_size settings.max_batch_size) (are_items 0 64 settings.pr_status) after_approvals in
+    let two = joined_kinds (pos 7) (list_marks 0 (pos 6) settings.status) (list_marks 0 (pos 7) settings.block_labels)
+    (items_apart (pos 6) 1 settings.status status) (items_apart (pos 7) 0 settings.block_labels labels)
+    (of_list (λ (r : MarkRow). r.kind ≢ pos 7) 0 (pos 6) (λ m same. cc same) settings.status) (of_list (λ (q : MarkRow). q.kind ≡ pos 7) 0 (pos 7) (λ m. refl) settings.block_labels) in
+    joined_kinds (pos 9) (list_marks 0 (pos 6) settings.status ++ list_marks 0 (pos 7) settings.block_labels) (list_marks 0 (pos 9) settings.pr_status) two (items_apart (pos 9) 0 settings.pr_status own)
+    (all_joined (λ (r : MarkRow). r.kind ≢ pos 9) (list_marks 0 (pos 6) settings.status) (list_marks 0 (pos 7) settings.block_labels)
+    (of_list (λ (r : MarkRow). r.kind ≢ pos 9) 0 (pos 6) (λ m same. cc same) settings.status) (of_list (λ (r : MarkRow). r.kind ≢ pos 9) 0 (pos 7) (λ m same. cc same) settings.block_labels))
+    (of_list (λ (q : MarkRow). q.kind ≡ pos 9) 0 (pos 9) (λ m. refl) settings.pr_status)
+  where
+    items_apart : (kind : ℤ) (least : ℕ) (words : List (List ℕ)) → are_items least 64 words ≡ true → Apart mark_key (list_marks 0 kind words)
+    items_apart kind least words is = list_apart 0 kind words (texts_apart words (second_so (is_in_range least 64 (length words)) (are_distinct bytes_eq words) is))
 
-of_settings : (settings : Option SettingsView) → AllByRecursion (λ (r : MarkRow). is_of_settings r.kind ≡ true) (settings_marks settings)
+abbrev IsOfSettings : MarkRow → Type 0
+IsOfSettings r = is_of_settings r.kind ≡ true
+
+of_settings : (settings : Option SettingsView) → AllByRecursion IsOfSettings (settings_marks settings)
 of_settings None = tt
-of_settings (Some settings) = all_joined (λ (r : MarkRow). is_of_settings r.kind ≡ true) (list_marks 0 (pos 6) settings.status) (list_marks 0 (pos 7) settings.block_labels)
-    (of_list (λ (r : MarkRow). is_of_settings r.kind ≡ true) 0 (pos 6) (λ m. refl) settings.status) (of_list (λ (r : MarkRow). is_of_settings r.kind ≡ true) 0 (pos 7) (λ m. refl) settings.block_labels)
+of_settings (Some settings) =
+    all_joined IsOfSettings (list_marks 0 (pos 6) settings.status ++ list_marks 0 (pos 7) settings.block_labels) (list_marks 0 (pos 9) settings.pr_status)
+    (all_joined IsOfSettings (list_marks 0 (pos 6) settings.status) (list_marks 0 (pos 7) settings.block_labels) (of_list IsOfSettings 0 (pos 6) (λ m. refl) settings.status) (of_list IsOfSettings 0 (pos 7) (λ m. refl) settings.block_labels))
+    (of_list IsOfSettings 0 (pos 9) (λ m. refl) settings.pr_status)
 
 marks_apart : (s : State) → fits s ≡ true → KeepsLimits s.desk → AreApart forms.marks (rows_of s).marks
 marks_apart s is limits =

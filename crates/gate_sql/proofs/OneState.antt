@@ -42,7 +42,7 @@ use Rattle.gate_sql.proofs.Batches.{alone_in_both, among_all, batch_again}
 use Rattle.gate_sql.proofs.Canonical.{got, map_again}
 use Rattle.gate_sql.proofs.Elements.{Among, HaveSame, among-append, among-append_left, among-append_right, same-filter, same-map, same-permutation, same-sym}
 use Rattle.gate_sql.proofs.Lanes.{first_again, running_branch, waiting_branch, lane_again, listed, map_same, mapped_back, rows_of_lane}
-use Rattle.gate_sql.proofs.Marks.{approvers_again, same_number, block_labels_again, delegates_again, labels_again, map_back, names_again, reviews_again, status_again}
+use Rattle.gate_sql.proofs.Marks.{approvers_again, same_number, block_labels_again, delegates_again, labels_again, map_back, names_again, passed_again, pr_status_again, reviews_again, status_again}
 use Rattle.gate_sql.proofs.Scanning.{any-among}
 use Rattle.gate_sql.proofs.Members.{belongs_there, or_false, in_batch, in_landing_batch, landing_there, member_is}
 
@@ -264,7 +264,7 @@ settings_again (Some settings) changes rows same within =
     let after_status = second_so (are_items 1 64 settings.status) _ within in
     let after_timeout = second_so (is_in_range 1 2147483647 settings.timeout_sec) _ after_status in
     let after_labels = second_so (are_items 0 64 settings.block_labels) _ after_timeout in
-    let size = second_so (is_in_range 0 100 settings.required_approvals) (is_size settings.max_batch_size) after_labels in
+    let size = first_so (is_size settings.max_batch_size) _ (second_so (is_in_range 0 100 settings.required_approvals) _ after_labels) in
     let some : int_eq (pos settings.timeout_sec) (pos 0) ≡ false = positive settings.timeout_sec (leb-true 1 settings.timeout_sec
     (first_so (nat_le 1 settings.timeout_sec) (nat_le settings.timeout_sec 2147483647) (first_so (is_in_range 1 2147483647 settings.timeout_sec) _ after_status))) in
     ap (λ (b : Bool). cond b None (Some (record {
@@ -273,6 +273,7 @@ settings_again (Some settings) changes rows same within =
       block_labels = list_in (pos 0) (pos 7) rows.marks;
       required_approvals = settings.required_approvals;
       max_batch_size = cond (int_eq (pos (unwrap_or settings.max_batch_size 0)) (pos 0)) None (Some (unwrap_or settings.max_batch_size 0));
+      pr_status = list_in (pos 0) (pos 9) rows.marks;
     }))) some
     ∙ (λ i. Some (record {
       status = status_again settings changes rows.marks same i;
@@ -280,6 +281,7 @@ settings_again (Some settings) changes rows same within =
       block_labels = block_labels_again settings changes rows.marks same i;
       required_approvals = settings.required_approvals;
       max_batch_size = size_again settings.max_batch_size size i;
+      pr_status = pr_status_again settings changes rows.marks same i;
     }))
 
 -- THE STATE
@@ -314,6 +316,7 @@ module _ (s : State) (rows : Rows) (fit : Fits s) (limits : KeepsLimits s.desk) 
     priority = c.priority;
     labels = labels_again s.desk.settings s.desk.changes rows.marks marks n c there i;
     reviews = reviews_again s.desk.settings s.desk.changes rows.marks marks n c there i;
+    passed = passed_again s.desk.settings s.desk.changes rows.marks marks n c there i;
     delegates = delegates_again s.desk.settings s.desk.changes rows.marks marks n c there i;
     approved = approved_again c.approved (list_in (pos n) (pos 4) rows.marks) (approvers_again s.desk.settings s.desk.changes rows.marks marks n c there) i;
     trying = trying_again s fit rows members batches n c there i;

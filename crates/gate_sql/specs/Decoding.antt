@@ -122,6 +122,7 @@ change_in rows row = record {
   priority = row.priority;
   labels = set_in row.number (pos 1) rows.marks;
   reviews = set_in row.number (pos 2) rows.marks;
+  passed = set_in row.number (pos 8) rows.marks;
   delegates = set_in row.number (pos 3) rows.marks;
   approved = if int_eq row.approved (pos 1) then Some (list_in row.number (pos 4) rows.marks) else None;
   trying = is_member row.number (λ batch. int_eq batch.branch (pos 2)) rows;
@@ -137,6 +138,7 @@ settings_in rows timeout approvals size = if int_eq timeout (pos 0) then None el
   block_labels = list_in (pos 0) (pos 7) rows.marks;
   required_approvals = nat_abs approvals;
   max_batch_size = if int_eq size (pos 0) then None else Some (nat_abs size);
+  pr_status = list_in (pos 0) (pos 9) rows.marks;
 })
 
 abbrev pub desk_in : Rows → DeskRow → DeskView

@@ -149,10 +149,11 @@ abbrev pub marks_of : ℕ × Change → List MarkRow
 marks_of entry =
     set_marks entry.0 (pos 1) entry.1.labels ++ set_marks entry.0 (pos 2) entry.1.reviews ++ set_marks entry.0 (pos 3) entry.1.delegates
     ++ list_marks entry.0 (pos 4) (unwrap_or entry.1.approved []) ++ list_marks entry.0 (pos 5) (names_of entry.1.last)
+    ++ set_marks entry.0 (pos 8) entry.1.passed
 
 abbrev pub settings_marks : Option SettingsView → List MarkRow
 settings_marks None = []
-settings_marks (Some settings) = list_marks 0 (pos 6) settings.status ++ list_marks 0 (pos 7) settings.block_labels
+settings_marks (Some settings) = list_marks 0 (pos 6) settings.status ++ list_marks 0 (pos 7) settings.block_labels ++ list_marks 0 (pos 9) settings.pr_status
 
 -- BATCHES, their changes and their reports
 abbrev pub since_of : Stage → ℤ

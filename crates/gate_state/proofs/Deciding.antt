@@ -1,22 +1,21 @@
 -- Tests over lists and maps, and what they decide.
-use Rattle.std.proofs.Common.{◌≡◌, ◌<◌, ◌≤◌, ℕ, ◌+◌, zero, suc, eqb, Bool, true, false, cond, not, ◌&&◌, ◌||◌, List, [], ◌∷◌, length, get_or, Option, Some, None, is_some, IfSome, if◌then◌else◌, refl, sym, ◌∙◌, ap, subst, arith}
+use Rattle.std.proofs.Common.{◌≡◌, ◌<◌, ◌≤◌, ℕ, ◌+◌, zero, suc, eqb, Bool, true, false, cond, not, ◌&&◌, ◌||◌, List, [], ◌∷◌, length, get_or, Option, Some, None, is_some, IfSome, if◌then◌else◌, refl, sym, ◌∙◌, ap, arith}
 use Rattle.std.proofs.lemmas.Bool.{and_parts}
 use Rattle.std.proofs.lemmas.Bool.Decides.{Decides-by_and, Decides-eqb, nat_tests}
 use Rattle.std.proofs.lemmas.List.Sums.{sum_by-cons, AllPass-from_list_all, list_all-from_AllPass}
 use Rattle.std.specs.Bool.{Decides}
-use Rattle.std.specs.Cmp.{IsTotalOrder, nat_cmp_total, tied_itself}
+use Rattle.std.specs.Cmp.{IsTotalOrder, tied_itself}
 use Rattle.std.specs.FinMap as finite
-use Rattle.std.specs.FinMap.{FinMap, IsAntisymmetric, find, nat_cmp-IsAntisymmetric}
-use Rattle.std.specs.FinMap.Entries.{is_sorted, below_all}
+use Rattle.std.specs.FinMap.{FinMap, IsAntisymmetric, find}
 use Rattle.std.specs.List.{All, AllByRecursion, AllPairs, IsDistinct, count_by, list_all, list_any}
 use Rattle.std.specs.List.Sorted.{IsStrictlySortedBy}
 use Rattle.std.specs.Map.{keys_of}
 use Rattle.std.specs.Option.{option_map_or}
 use Rattle.std.specs.Prelude.{T}
-use Rattle.std.specs.Ordering.{eq_by_cmp, is_eq, is_lt, nat_cmp}
+use Rattle.std.specs.Ordering.{eq_by_cmp, is_eq}
 use Rattle.std.specs.declared.cmp.Ordering.{Ordering}
-use Rattle.std.specs.declared.cmp.Ordering.TheVariants.{Less, Equal, Greater}
 use Rattle.gate_text.specs.Finite.{entries-from_entries}
+use Rattle.gate_text.specs.Values.{tied}
 use Rattle.gate_state.specs.Checks.{all_pairs}
 
 -- TESTS
@@ -185,13 +184,6 @@ pub entries_are : {K X : Type 0} {R : K → K → Ordering} → IsTotalOrder R �
 entries_are {R = R} total same es m sorted is = sym (entries-from_entries R total same es sorted) ∙ ap finite.entries is
 
 -- a test of each key of a finite map
-tied : {K : Type 0} {R : K → K → Ordering} → IsAntisymmetric R → (x y : K) → eq_by_cmp R x y ≡ true → x ≡ y
-tied {R = R} same x y is = same x y (equal (R x y) is) where
-  equal : (o : Ordering) → is_eq o ≡ true → o ≡ Equal
-  equal Less is = cc
-  equal Equal is = refl
-  equal Greater is = cc
-
 module _ {K X : Type 0} {R : K → K → Ordering} (total : IsTotalOrder R) (same : IsAntisymmetric R) (q : K → Bool) where
   abbrev keys_pass : List (K × X) → Bool
   keys_pass es = list_all (λ (e : K × X). q e.0) es
@@ -223,46 +215,3 @@ module _ {K X : Type 0} {R : K → K → Ordering} (total : IsTotalOrder R) (sam
     λ is k some. (Decides-listed (finite.entries m)).0 is k (ap (λ (o : Option X). is_some o) (sym (finite.get-entries m k)) ∙ some),
     λ each. (Decides-listed (finite.entries m)).1 (λ k some. each k (ap (λ (o : Option X). is_some o) (finite.get-entries m k) ∙ some)),
   )
-
--- a test of each value, under numbers
-not_below-step : {X : Type 0} (r : Ordering) (x : X) (found : Option X) → found ≡ None → is_lt r ≡ true → cond (is_eq r) (Some x) found ≡ None
-not_below-step Less x found none is = none
-not_below-step Equal x found none is = cc
-not_below-step Greater x found none is = cc
-
-module _ {X : Type 0} (p : X → Bool) (P : X → Type 0) (decides : (x : X) → Decides (p x) (P x)) where
-  not_below : (k : ℕ) (es : List (ℕ × X)) → below_all nat_cmp k es ≡ true → find nat_cmp k es ≡ None
-  not_below k [] below = refl
-  not_below k (e ∷ es) below = not_below-step (nat_cmp k e.0) e.1 (find nat_cmp k es) (not_below k es (and_parts _ _ below).1) (and_parts _ _ below).0
-
-  abbrev values_pass : List (ℕ × X) → Bool
-  values_pass es = list_all (λ (e : ℕ × X). p e.1) es
-
-  abbrev ValuesPass : List (ℕ × X) → Type 0
-  ValuesPass es = (k : ℕ) → IfSome (find nat_cmp k es) P
-
-  values-step : (e : ℕ × X) (es : List (ℕ × X)) → below_all nat_cmp e.0 es ≡ true → Decides (values_pass es) (ValuesPass es) → Decides (values_pass (e ∷ es)) (ValuesPass (e ∷ es))
-  values-step e es below rest = (there, back) where
-    there : values_pass (e ∷ es) ≡ true → ValuesPass (e ∷ es)
-    there is k = by (eq_by_cmp nat_cmp k e.0) where
-      by : (b : Bool) → IfSome (cond b (Some e.1) (find nat_cmp k es)) P
-      by true = (decides e.1).0 (and_parts _ _ is).0
-      by false = rest.0 (and_parts _ _ is).1 k
-
-    back : ValuesPass (e ∷ es) → values_pass (e ∷ es) ≡ true
-    back each = both_true _ _ ((decides e.1).1 (subst (λ (r : Ordering). IfSome (cond (is_eq r) (Some e.1) (find nat_cmp e.0 es)) P) (tied_itself nat_cmp_total e.0) (each e.0)))
-        (rest.1 (λ k. later k (eq_by_cmp nat_cmp k e.0) refl (each k))) where
-          later : (k : ℕ) (b : Bool) → eq_by_cmp nat_cmp k e.0 ≡ b → IfSome (cond b (Some e.1) (find nat_cmp k es)) P → IfSome (find nat_cmp k es) P
-          later k true ties here =
-              let gone : find nat_cmp k es ≡ None = ap (λ (n : ℕ). find nat_cmp n es) (tied nat_cmp-IsAntisymmetric k e.0 ties) ∙ not_below e.0 es below in
-              subst (λ (o : Option X). IfSome o P) (sym gone) tt
-          later k false other here = here
-
-  Decides-found : (es : List (ℕ × X)) → is_sorted nat_cmp es ≡ true → Decides (values_pass es) (ValuesPass es)
-  Decides-found [] sorted = (λ _ k. tt, λ _. refl)
-  Decides-found (e ∷ es) sorted = values-step e es (and_parts _ _ sorted).0 (Decides-found es (and_parts _ _ sorted).1)
-
-  pub Decides-values : (m : FinMap nat_cmp X) → Decides (list_all (λ (e : ℕ × X). p e.1) (finite.entries m)) ((k : ℕ) → IfSome (finite.get m k) P)
-  Decides-values m = (λ is k. subst (λ (o : Option X). IfSome o P) (sym (finite.get-entries m k)) (listed.0 is k), λ each. listed.1 (λ k. subst (λ (o : Option X). IfSome o P) (finite.get-entries m k) (each k))) where
-    listed : Decides (list_all (λ (e : ℕ × X). p e.1) (finite.entries m)) ((k : ℕ) → IfSome (find nat_cmp k (finite.entries m)) P)
-    listed = Decides-found (finite.entries m) (true_from_T _ (finite.entries_sorted m))

@@ -17,7 +17,8 @@ use Rattle.gate_rules.specs.declared.change.Repeat.TheVariants.{Approve, Approve
 use Rattle.gate_state.specs.Checks as checks
 use Rattle.gate_state.specs.Checks.{fits_priority, fit_names, fits_approval, fits_repeat, fits_change, fits_desk, is_ready}
 use Rattle.gate_state.specs.State.{IsChange, IsDesk, RepeatKeepsLimits}
-use Rattle.gate_state.proofs.Deciding.{both_true, if_true, unless_false, Decides-distinct, Decides-values}
+use Rattle.gate_state.proofs.Deciding.{both_true, if_true, unless_false, Decides-distinct}
+use Rattle.gate_text.specs.Values.{Decides-values}
 
 pub Decides-le : (a b : ℕ) → Decides (nat_le a b) (a ≤ b)
 Decides-le a b = (λ is. grind (arith, nat_tests), λ is. grind (arith, nat_tests))

@@ -20,7 +20,7 @@ use Rattle.gate_store.specs.Limits.{IsHead, IsOrder, IsReply, IsAnswer}
 use Rattle.gate_store.specs.Reading.{LawOfTexts, answer_in_value}
 use Rattle.gate_store.specs.declared.reading.AnswerFault.{AnswerFault}
 use Rattle.gate_store.specs.declared.reading.AnswerFault.TheVariants.{NotAnswer}
-use Rattle.gate_rules.specs.declared.rule.Rule.TheVariants.{UnknownChange, NotACommand, NotPermitted, NotOpen, NothingToRetry, Landing, NoSettings, NoBase, AlreadyApproved, NotApproved, AlreadyTrying, NotTrying, Blocked, TooFewReviews, AlreadyOpen, ChangeLanded, StaleHead, NotMember, OwnChange, BadSettings, ClockBack, NoSuchBatch, SameAsBase}
+use Rattle.gate_rules.specs.declared.rule.Rule.TheVariants.{UnknownChange, NotACommand, NotPermitted, NotOpen, NothingToRetry, Landing, NoSettings, NoBase, AlreadyApproved, NotApproved, AlreadyTrying, NotTrying, Blocked, TooFewReviews, AlreadyOpen, ChangeLanded, StaleHead, NotMember, OwnChange, BadSettings, ClockBack, NoSuchBatch, SameAsBase, HeadStatus}
 
 each_again : {X : Type 0} (one_in : Data → Result X AnswerFault) (data_of : X → Data) (Is : X → Type 0) → ((x : X) → Is x → one_in (data_of x) ≡ Ok x)
     → (xs : List X) → All Is xs → each_in one_in (items_of (map data_of xs)) ≡ Ok xs
@@ -78,6 +78,7 @@ reply_again (Denied (BadSettings refusal)) is = rw (is_below (2 ^ 8) refusal is)
 reply_again (Denied ClockBack) is = refl
 reply_again (Denied NoSuchBatch) is = refl
 reply_again (Denied SameAsBase) is = refl
+reply_again (Denied (HeadStatus name)) is = rw is refl
 
 pub answer_again : (replies : List Reply) → IsAnswer replies → answer_in (answer_data replies) ≡ Ok replies
 answer_again replies is = each_again reply_in reply_data IsReply reply_again replies is

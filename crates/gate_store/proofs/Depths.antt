@@ -10,7 +10,7 @@ use Rattle.gate_state.specs.declared.reply.Why.TheVariants as why
 use Rattle.gate_state.specs.declared.reply.Reply.{Reply}
 use Rattle.gate_state.specs.declared.reply.Reply.TheVariants.{Done, Denied}
 use Rattle.gate_store.specs.Answers.{head_data, order_data, reply_data, answer_data}
-use Rattle.gate_rules.specs.declared.rule.Rule.TheVariants.{UnknownChange, NotACommand, NotPermitted, NotOpen, NothingToRetry, Landing, NoSettings, NoBase, AlreadyApproved, NotApproved, AlreadyTrying, NotTrying, Blocked, TooFewReviews, AlreadyOpen, ChangeLanded, StaleHead, NotMember, OwnChange, BadSettings, ClockBack, NoSuchBatch, SameAsBase}
+use Rattle.gate_rules.specs.declared.rule.Rule.TheVariants.{UnknownChange, NotACommand, NotPermitted, NotOpen, NothingToRetry, Landing, NoSettings, NoBase, AlreadyApproved, NotApproved, AlreadyTrying, NotTrying, Blocked, TooFewReviews, AlreadyOpen, ChangeLanded, StaleHead, NotMember, OwnChange, BadSettings, ClockBack, NoSuchBatch, SameAsBase, HeadStatus}
 
 -- items, none of which nests deeper
 each_within : {X : Type 0} (data_of : X → Data) (most : ℕ) → ((x : X) → depth (data_of x) ≤ most) → (xs : List X) → items_depth (items_of (map data_of xs)) ≤ most
@@ -59,6 +59,7 @@ reply_within (Denied (BadSettings refusal)) = omega arith
 reply_within (Denied ClockBack) = omega arith
 reply_within (Denied NoSuchBatch) = omega arith
 reply_within (Denied SameAsBase) = omega arith
+reply_within (Denied (HeadStatus name)) = omega arith
 
 pub answer_within : (replies : List Reply) → depth (answer_data replies) ≤ max_depth
 answer_within replies = omega (arith, each_within reply_data 5 reply_within replies)

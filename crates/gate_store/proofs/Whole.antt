@@ -2,7 +2,7 @@
 use Rattle.std.proofs.Common.{◌≡◌, false, List, [], ◌∷◌, map, refl}
 use Rattle.serde_json.specs.View.{items_of}
 use Rattle.serde_json.specs.Written.{has_float, items_have_float}
-use Rattle.gate_rules.specs.declared.rule.Rule.TheVariants.{UnknownChange, NotACommand, NotPermitted, NotOpen, NothingToRetry, Landing, NoSettings, NoBase, AlreadyApproved, NotApproved, AlreadyTrying, NotTrying, Blocked, TooFewReviews, AlreadyOpen, ChangeLanded, StaleHead, NotMember, OwnChange, BadSettings, ClockBack, NoSuchBatch, SameAsBase}
+use Rattle.gate_rules.specs.declared.rule.Rule.TheVariants.{UnknownChange, NotACommand, NotPermitted, NotOpen, NothingToRetry, Landing, NoSettings, NoBase, AlreadyApproved, NotApproved, AlreadyTrying, NotTrying, Blocked, TooFewReviews, AlreadyOpen, ChangeLanded, StaleHead, NotMember, OwnChange, BadSettings, ClockBack, NoSuchBatch, SameAsBase, HeadStatus}
 use Rattle.gate_state.specs.declared.reply.Head.{Head}
 use Rattle.gate_state.specs.declared.reply.Order.{Order}
 use Rattle.gate_state.specs.declared.reply.Order.TheVariants.{Stage, Land, Notice}
@@ -55,6 +55,7 @@ reply_whole (Denied (BadSettings refusal)) = refl
 reply_whole (Denied ClockBack) = refl
 reply_whole (Denied NoSuchBatch) = refl
 reply_whole (Denied SameAsBase) = refl
+reply_whole (Denied (HeadStatus name)) = refl
 
 replies_whole : (replies : List Reply) → items_have_float (items_of (map reply_data replies)) ≡ false
 replies_whole [] = refl

@@ -125,13 +125,19 @@ bad_settings_in detail = do
   refusal ← refusal_in detail
   Ok (rule.BadSettings refusal)
 
+abbrev pub head_status_in : Option Data → Result Rule AnswerFault
+head_status_in detail = do
+  name ← plain_in detail
+  Ok (rule.HeadStatus name)
+
 abbrev pub rule_with : List ℕ → Option Data → Result Rule AnswerFault
 rule_with word detail =
     if bytes_eq word (codes "NotPermitted") then not_permitted_in detail
     else (if bytes_eq word (codes "Blocked") then blocked_in detail
     else (if bytes_eq word (codes "TooFewReviews") then too_few_in detail
     else (if bytes_eq word (codes "BadSettings") then bad_settings_in detail
-    else required (rule_called word))))
+    else (if bytes_eq word (codes "HeadStatus") then head_status_in detail
+    else required (rule_called word)))))
 
 abbrev pub denied_in : Data → Result Reply AnswerFault
 denied_in d = do

@@ -4,7 +4,7 @@ use Rattle.std.specs.Prelude.{◌≡◌, ◌<◌, ◌^◌, ℕ, List, Some, Ok, 
 use Rattle.std.specs.List.{All}
 use Rattle.gate_text.specs.SmallTexts.{change_no_from, commit_of, plain_of}
 use Rattle.gate_rules.specs.declared.rule.Rule.{Rule}
-use Rattle.gate_rules.specs.declared.rule.Rule.TheVariants.{Blocked, TooFewReviews, BadSettings}
+use Rattle.gate_rules.specs.declared.rule.Rule.TheVariants.{Blocked, TooFewReviews, BadSettings, HeadStatus}
 use Rattle.gate_state.specs.declared.reply.Head.{Head}
 use Rattle.gate_state.specs.declared.reply.Order.{Order}
 use Rattle.gate_state.specs.declared.reply.Order.TheVariants.{Stage, Land, Notice}
@@ -32,6 +32,7 @@ abbrev pub IsRule : Rule → Type 0
 IsRule (Blocked label) = IsPlain label
 IsRule (TooFewReviews have need) = (have < 2 ^ 32) × (need < 2 ^ 32)
 IsRule (BadSettings refusal) = refusal < 2 ^ 8
+IsRule (HeadStatus name) = IsPlain name
 IsRule _ = ⊤
 
 abbrev pub IsWhy : Why → Type 0

@@ -30,6 +30,7 @@ fn detail_value(alloc: Global, rule: &Rule) -> Result<Option<Value>, AllocError>
         Rule::Blocked(label) => json!(in alloc; label.text())?,
         Rule::TooFewReviews(have, need) => json!(in alloc; [*have, *need])?,
         Rule::BadSettings(refusal) => json!(in alloc; *refusal)?,
+        Rule::HeadStatus(name) => json!(in alloc; name.text())?,
         _ => return Ok(None),
     };
     Ok(Some(detail))

@@ -166,6 +166,14 @@ fn bad_settings_in(detail: Option<&Value>) -> Result<Rule, AnswerFault>
     Ok(Rule::BadSettings(refusal))
 }
 
+fn head_status_in(alloc: Global, detail: Option<&Value>) -> Result<Rule, AnswerFault>
+    ensures value { Finds result (found.head_status_in (seen detail.entry)) }
+    ensures good { IfOk result IsRule }
+{
+    let name = context_in(alloc, detail)?;
+    Ok(Rule::HeadStatus(name))
+}
+
 fn rule_with(alloc: Global, word: &str, detail: Option<&Value>) -> Result<Rule, AnswerFault>
     ensures value { Finds result (found.rule_with word.now (seen detail.entry)) }
     ensures good { IfOk result IsRule }
@@ -175,6 +183,7 @@ fn rule_with(alloc: Global, word: &str, detail: Option<&Value>) -> Result<Rule, 
         "Blocked" => blocked_in(alloc, detail),
         "TooFewReviews" => too_few_in(detail),
         "BadSettings" => bad_settings_in(detail),
+        "HeadStatus" => head_status_in(alloc, detail),
         _ => rule_called(word).ok_or(AnswerFault::NotAnswer),
     }
 }

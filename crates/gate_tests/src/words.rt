@@ -119,6 +119,7 @@ pub(crate) fn rule_words(rt: &impl Abort, alloc: Global, rule: &Rule) -> String 
         Rule::Blocked(label) => { format!(in alloc; "{word} {}", label.text()) }
         Rule::TooFewReviews(have, need) => { format!(in alloc; "{word} {have} {need}") }
         Rule::BadSettings(number) => { format!(in alloc; "{word} {number}") }
+        Rule::HeadStatus(name) => { format!(in alloc; "{word} {}", name.text()) }
         _ => String::from_str(alloc, word),
     };
     words.expect(rt, "memory")

@@ -8,9 +8,9 @@ use Rattle.std.specs.Option.{option_map, option_and_then, unwrap_or, ok_or}
 use Rattle.std.specs.Str.{bytes_eq}
 use Rattle.toml.specs.Data.{Data, Members, string, integer, float, boolean, datetime, array, table, get_member}
 use Rattle.gate_text.specs.Arguments.{all_of, with_name}
-use Rattle.gate_text.specs.Settings.{are_distinct, are_items, are_settings, is_size, key_name, read_at, items_in, labels_in, listed, plain_in, statuses_in, whole_in, if_distinct, if_there}
+use Rattle.gate_text.specs.Settings.{are_distinct, are_items, are_settings, is_size, key_name, read_at, items_in, listed, plain_in, statuses_in, texts_in, whole_in, if_distinct, if_there}
 use Rattle.gate_text.specs.declared.settings.fault.Key.{Key}
-use Rattle.gate_text.specs.declared.settings.fault.Key.TheVariants.{Status, TimeoutSec, BlockLabels, RequiredApprovals, MaxBatchSize}
+use Rattle.gate_text.specs.declared.settings.fault.Key.TheVariants.{Status, TimeoutSec, BlockLabels, RequiredApprovals, MaxBatchSize, PrStatus}
 use Rattle.gate_text.specs.declared.settings.fault.SettingsFault.{SettingsFault}
 use Rattle.gate_text.specs.declared.settings.fault.SettingsFault.TheVariants.{BadKey}
 use Rattle.gate_text.proofs.Tools.{bound, chosen, mapped}
@@ -94,8 +94,8 @@ no_more : (texts more : List (List ℕ)) → length (fold with_name texts more) 
 no_more texts [] = omega arith
 no_more texts (name ∷ more) = omega (arith, no_more (with_name texts name) more, one_at_most texts name (list_any (λ other. bytes_eq other name) texts))
 
-pub labels_within : (value : Data) (texts : List (List ℕ)) → labels_in value ≡ Some texts → are_items 0 64 texts ≡ true
-labels_within value texts read =
+pub texts_within : (value : Data) (texts : List (List ℕ)) → texts_in value ≡ Some texts → are_items 0 64 texts ≡ true
+texts_within value texts read =
     let items = bound (λ items. option_map (fold with_name []) (all_of (map plain_in items))) (items_in 0 64 value) read in
     let all = mapped (fold with_name []) (all_of (map plain_in items.0)) items.2 in
     let size : length all.0 ≡ length items.0 = length-all_of (map plain_in items.0) all.0 all.1 ∙ length-map items.0 plain_in in
@@ -123,15 +123,17 @@ given (Some y) fault x is = let same : y ≡ x = cc is in ap Some same
 size_within : (value : Data) (size : ℕ) → whole_in 1 1000 value ≡ Some size → is_size (Some size) ≡ true
 size_within value size read = whole_within 1 1000 value size read
 
-pub settings_within : (members : Members) (value : Data) (status : List (List ℕ)) (timeout : Option ℕ) (labels : Option (List (List ℕ))) (approvals size : Option ℕ)
-    → ok_or (statuses_in value) (BadKey Status) ≡ Ok status → read_at TimeoutSec (whole_in 1 2147483647) members ≡ Ok timeout → read_at BlockLabels labels_in members ≡ Ok labels
+pub settings_within : (members : Members) (value : Data) (status : List (List ℕ)) (timeout : Option ℕ) (labels : Option (List (List ℕ))) (approvals size : Option ℕ) (own : Option (List (List ℕ)))
+    → ok_or (statuses_in value) (BadKey Status) ≡ Ok status → read_at TimeoutSec (whole_in 1 2147483647) members ≡ Ok timeout → read_at BlockLabels texts_in members ≡ Ok labels
     → read_at RequiredApprovals (whole_in 0 100) members ≡ Ok approvals → read_at MaxBatchSize (whole_in 1 1000) members ≡ Ok size
-    → are_settings (record { status = status; timeout_sec = unwrap_or timeout 3600; block_labels = unwrap_or labels []; required_approvals = unwrap_or approvals 0; max_batch_size = size }) ≡ true
-settings_within members value status timeout labels approvals size is_status is_timeout is_labels are_approvals is =
+    → read_at PrStatus texts_in members ≡ Ok own
+    → are_settings (record { status = status; timeout_sec = unwrap_or timeout 3600; block_labels = unwrap_or labels []; required_approvals = unwrap_or approvals 0; max_batch_size = size; pr_status = unwrap_or own [] }) ≡ true
+settings_within members value status timeout labels approvals size own is_status is_timeout is_labels are_approvals is_max is_own =
     rw (
       statuses_within value status (given (statuses_in value) (BadKey Status) status is_status),
       read_within (λ r. is_in_range 1 2147483647 (unwrap_or r 3600) ≡ true) TimeoutSec (whole_in 1 2147483647) refl (whole_within 1 2147483647) (get_member (key_name TimeoutSec) members) timeout is_timeout,
-      read_within (λ r. are_items 0 64 (unwrap_or r []) ≡ true) BlockLabels labels_in refl labels_within (get_member (key_name BlockLabels) members) labels is_labels,
+      read_within (λ r. are_items 0 64 (unwrap_or r []) ≡ true) BlockLabels texts_in refl texts_within (get_member (key_name BlockLabels) members) labels is_labels,
       read_within (λ r. is_in_range 0 100 (unwrap_or r 0) ≡ true) RequiredApprovals (whole_in 0 100) refl (whole_within 0 100) (get_member (key_name RequiredApprovals) members) approvals are_approvals,
-      read_within (λ r. is_size r ≡ true) MaxBatchSize (whole_in 1 1000) refl size_within (get_member (key_name MaxBatchSize) members) size is,
+      read_within (λ r. is_size r ≡ true) MaxBatchSize (whole_in 1 1000) refl size_within (get_member (key_name MaxBatchSize) members) size is_max,
+      read_within (λ r. are_items 0 64 (unwrap_or r []) ≡ true) PrStatus texts_in refl texts_within (get_member (key_name PrStatus) members) own is_own,
     ) refl

@@ -37,9 +37,12 @@ abbrev pub all_of : {X : Type 0} → List (Option X) → Option (List X)
 all_of [] = Some []
 all_of (value ∷ values) = option_and_then (λ first. option_map (λ others. first ∷ others) (all_of values)) value
 
--- the names with one more, unless they have it
+-- a list with one more item, unless it has it
+abbrev pub with_item : {X : Type 0} → (X → X → Bool) → List X → X → List X
+with_item is_same items item = if list_any (λ other. is_same other item) items then items else items ++ item ∷ []
+
 abbrev pub with_name : List (List ℕ) → List ℕ → List (List ℕ)
-with_name names name = if list_any (λ other. bytes_eq other name) names then names else names ++ name ∷ []
+with_name names name = with_item bytes_eq names name
 
 abbrev pub names_of : List ℕ → Option (List (List ℕ))
 names_of list = option_map (fold with_name []) (all_of (map name_in (items_of list)))

@@ -6,7 +6,8 @@
 --     Limits        what everything keeps that a comment says
 --     Settings      what the text of a `bors.toml` says, or why it is refused
 -- For the code and the crates above: Reading, the grammar's one reading as a function from bytes; Steps, steps in order;
--- Finite, maps and sets of the code as finite maps and sets; LastWhere, the last item that passes a test; Same, equal settings.
+-- Finite, maps and sets of the code as finite maps and sets; LastWhere, the last item that passes a test; Same, equal settings; Values, a
+-- test of each value of a map.
 pub mod Arguments
 pub mod Finite
 pub mod Grammar
@@ -18,3 +19,4 @@ pub mod Settings
 pub mod SmallTexts
 pub mod Spaces
 pub mod Steps
+pub mod Values

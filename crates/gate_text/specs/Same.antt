@@ -26,5 +26,7 @@ same_settings-is one other same =
     let timeout = (Decides-eqb one.timeout_sec other.timeout_sec).0 (first_so (nat_eq one.timeout_sec other.timeout_sec) _ after_status) in
     let labels = same_texts one.block_labels other.block_labels (first_so (pointwise (pointwise nat_eq) one.block_labels other.block_labels) _ after_timeout) in
     let approvals = (Decides-eqb one.required_approvals other.required_approvals).0 (first_so (nat_eq one.required_approvals other.required_approvals) _ after_labels) in
-    let size = same_limit one.max_batch_size other.max_batch_size (second_so (nat_eq one.required_approvals other.required_approvals) _ after_labels) in
-    λ i. record { status = status i; timeout_sec = timeout i; block_labels = labels i; required_approvals = approvals i; max_batch_size = size i }
+    let after_approvals = second_so (nat_eq one.required_approvals other.required_approvals) _ after_labels in
+    let size = same_limit one.max_batch_size other.max_batch_size (first_so (option_eq nat_eq one.max_batch_size other.max_batch_size) _ after_approvals) in
+    let pr_status = same_texts one.pr_status other.pr_status (second_so (option_eq nat_eq one.max_batch_size other.max_batch_size) _ after_approvals) in
+    λ i. record { status = status i; timeout_sec = timeout i; block_labels = labels i; required_approvals = approvals i; max_batch_size = size i; pr_status = pr_status i }

@@ -12,7 +12,7 @@ use Rattle.gate_text.specs.Arguments.{all_of, with_name}
 use Rattle.gate_text.specs.SmallTexts.{plain_of}
 use Rattle.gate_text.specs.Steps.{◌>>=◌}
 use Rattle.gate_text.specs.declared.settings.fault.Key.{Key}
-use Rattle.gate_text.specs.declared.settings.fault.Key.TheVariants.{Status, TimeoutSec, BlockLabels, RequiredApprovals, MaxBatchSize}
+use Rattle.gate_text.specs.declared.settings.fault.Key.TheVariants.{Status, TimeoutSec, BlockLabels, RequiredApprovals, MaxBatchSize, PrStatus}
 use Rattle.gate_text.specs.declared.settings.fault.SettingsFault.{SettingsFault}
 use Rattle.gate_text.specs.declared.settings.fault.SettingsFault.TheVariants.{NotToml, NoStatus, BadKey, Memory}
 
@@ -23,15 +23,17 @@ pub record SettingsView : Type 0 where
   pub block_labels : List (List ℕ)
   pub required_approvals : ℕ
   pub max_batch_size : Option ℕ
+  pub pr_status : List (List ℕ)
 
--- whether all five values are equal, lists in their order
+-- whether all six values are equal, lists in their order
 abbrev pub same_settings : SettingsView → SettingsView → Bool
 same_settings one other =
     pointwise (pointwise nat_eq) one.status other.status
     && ((one.timeout_sec == other.timeout_sec)
     && (pointwise (pointwise nat_eq) one.block_labels other.block_labels
     && ((one.required_approvals == other.required_approvals)
-    && option_eq nat_eq one.max_batch_size other.max_batch_size)))
+    && (option_eq nat_eq one.max_batch_size other.max_batch_size
+    && pointwise (pointwise nat_eq) one.pr_status other.pr_status))))
 
 -- THEIR LIMITS
 abbrev pub are_distinct : {X : Type 0} → (X → X → Bool) → List X → Bool
@@ -52,7 +54,8 @@ are_settings s =
     && (is_in_range 1 2147483647 s.timeout_sec
     && (are_items 0 64 s.block_labels
     && (is_in_range 0 100 s.required_approvals
-    && is_size s.max_batch_size)))
+    && (is_size s.max_batch_size
+    && are_items 0 64 s.pr_status))))
 
 abbrev pub if_settings : SettingsView → Option SettingsView
 if_settings s = if are_settings s then Some s else None
@@ -83,9 +86,9 @@ if_distinct texts = if are_distinct bytes_eq texts then Some texts else None
 abbrev pub statuses_in : Data → Option (List (List ℕ))
 statuses_in value = option_and_then if_distinct (option_and_then (λ items. all_of (map plain_in items)) (items_in 1 64 value))
 
--- 0 to 64 labels, of which a later repeat is dropped
-abbrev pub labels_in : Data → Option (List (List ℕ))
-labels_in value = option_and_then (λ items. option_map (fold with_name []) (all_of (map plain_in items))) (items_in 0 64 value)
+-- 0 to 64 labels or names of statuses, of which a later repeat is dropped
+abbrev pub texts_in : Data → Option (List (List ℕ))
+texts_in value = option_and_then (λ items. option_map (fold with_name []) (all_of (map plain_in items))) (items_in 0 64 value)
 
 -- KEYS
 abbrev pub key_name : Key → List ℕ
@@ -94,6 +97,7 @@ key_name TimeoutSec = codes "timeout_sec"
 key_name BlockLabels = codes "block_labels"
 key_name RequiredApprovals = codes "required_approvals"
 key_name MaxBatchSize = codes "max_batch_size"
+key_name PrStatus = codes "pr_status"
 
 -- what is read at a key that may be absent
 abbrev pub if_there : {X : Type 0} → Key → (Data → Option X) → Option Data → Result (Option X) SettingsFault
@@ -109,15 +113,17 @@ settings_in table = do
   value ← ok_or (get_member (key_name Status) table) NoStatus
   status ← ok_or (statuses_in value) (BadKey Status)
   timeout_sec ← read_at TimeoutSec (whole_in 1 2147483647) table
-  block_labels ← read_at BlockLabels labels_in table
+  block_labels ← read_at BlockLabels texts_in table
   required_approvals ← read_at RequiredApprovals (whole_in 0 100) table
   max_batch_size ← read_at MaxBatchSize (whole_in 1 1000) table
+  pr_status ← read_at PrStatus texts_in table
   Ok (record {
     status = status;
     timeout_sec = unwrap_or timeout_sec 3600;
     block_labels = unwrap_or block_labels [];
     required_approvals = unwrap_or required_approvals 0;
     max_batch_size = max_batch_size;
+    pr_status = unwrap_or pr_status [];
   })
 
 unfoldable pub settings_of : List ℕ → Result SettingsView SettingsFault

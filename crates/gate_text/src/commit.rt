@@ -10,9 +10,9 @@ use std::str;
 // How many digits name a commit.
 const LEN: usize = 40;
 
-/// The name of a commit: 40 hexadecimal digits in lower case, as git prints a SHA-1 object name. A contract sees
-/// it as the list of its digits.
-#[derive(Clone, Copy, Debug, PartialEq, Eq)]
+/// The name of a commit: 40 hexadecimal digits in lower case, as git prints a SHA-1 object name. Names are compared and ordered by
+/// their digits. A contract sees one as the list of its digits.
+#[derive(Clone, Copy, Debug, PartialEq, Eq, PartialOrd, Ord)]
 pub struct Commit {
     digits: [u8; LEN],
 }

@@ -34,7 +34,7 @@ pub use label::Label;
 pub use list::{List, TryCopy};
 pub use map::copy_map;
 pub use name::Name;
-pub use names::{Contexts, LabelSet, Labels, NameSet, Names};
+pub use names::{ContextSet, Contexts, LabelSet, Labels, NameSet, Names};
 pub use set::Set;
 pub use settings::{Key, Settings, SettingsFault, read_settings};
 pub use text::{Text, Word};

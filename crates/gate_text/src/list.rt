@@ -1,6 +1,8 @@
 ghost use Rattle.std.specs.Prelude.{◌≡◌, ◌++◌, ◌∷◌, [], IfOk, OnOk, OnErr};
 ghost use Rattle.std.specs.Fn.{CalledAt};
+ghost use Rattle.std.specs.List.{fold};
 ghost use Rattle.std.specs.List.Retain.{IsFiltered};
+ghost use Rattle.gate_text.specs.Arguments.{with_item};
 
 use std::alloc::{AllocError, Global};
 use std::marker::Model;
@@ -72,6 +74,22 @@ impl<T: TryCopy + Drop> List<T> {
         let mut items = Vec::new(alloc);
         for item in &self.items {
             items.push(item.try_copy(alloc)?)?;
+        }
+        Ok(List { items })
+    }
+}
+
+impl<T: PartialEq + Drop> List<T> {
+    /// The values without later repeats, or `AllocError` if there is no memory for them. Each is compared with all that are
+    /// kept, so it is for a few.
+    pub(crate) fn without_repeats(self, alloc: Global) -> Result<List<T>, AllocError>
+        ensures value { IfOk result (λ list. list ≡ fold (with_item T.eq) [] self) }
+    {
+        let mut items = Vec::new(alloc);
+        for item in self.into_vec() {
+            if !items.contains(&item) {
+                items.push(item)?;
+            }
         }
         Ok(List { items })
     }

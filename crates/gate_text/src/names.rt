@@ -18,3 +18,6 @@ pub type NameSet = Set<Name>;
 
 /// A set of labels. A contract sees it as the finite set of the labels.
 pub type LabelSet = Set<Label>;
+
+/// A set of names of statuses. A contract sees it as the finite set of the names.
+pub type ContextSet = Set<Context>;

@@ -10,13 +10,13 @@ use crate::context::Context;
 use crate::label::Label;
 use crate::names::{Contexts, Labels};
 pub use fault::{Key, SettingsFault};
-use limits::{MAX_APPROVALS, MAX_TIMEOUT_SEC, are_labels, are_statuses, is_size};
+use limits::{MAX_APPROVALS, MAX_TIMEOUT_SEC, are_labels, are_pr_statuses, are_statuses, is_size};
 use reading::settings_in;
 use std::alloc::{AllocError, Global};
 use std::marker::Model;
 
 /// What a team asks of its merge queue, as its `bors.toml` says it. The keys are those of the bors-ng reference
-/// documentation. A contract sees the settings as a record of their five values.
+/// documentation. A contract sees the settings as a record of their six values.
 #[derive(Debug, Drop, PartialEq, Eq)]
 pub struct Settings {
     status: Contexts,
@@ -24,6 +24,7 @@ pub struct Settings {
     block_labels: Labels,
     required_approvals: u32,
     max_batch_size: Option<u32>,
+    pr_status: Contexts,
 }
 
 impl Model for Settings {
@@ -38,6 +39,7 @@ impl Model for Settings {
       block_labels = s.block_labels;
       required_approvals = s.required_approvals;
       max_batch_size = s.max_batch_size;
+      pr_status = s.pr_status;
     } };
 
     ghost invariant = { λ s. are_settings (record {
@@ -46,6 +48,7 @@ impl Model for Settings {
       block_labels = s.block_labels;
       required_approvals = s.required_approvals;
       max_batch_size = s.max_batch_size;
+      pr_status = s.pr_status;
     }) ≡ true };
 
     ghost inverse = { λ s. record {
@@ -54,6 +57,7 @@ impl Model for Settings {
       block_labels = s.block_labels;
       required_approvals = s.required_approvals;
       max_batch_size = s.max_batch_size;
+      pr_status = s.pr_status;
     } };
 }
 
@@ -66,14 +70,16 @@ impl Settings {
         block_labels: Labels,
         required_approvals: u32,
         max_batch_size: Option<u32>,
+        pr_status: Contexts,
     ) -> Option<Settings>
-        ensures value { result ≡ if_settings (record { status = status; timeout_sec = timeout_sec; block_labels = block_labels; required_approvals = required_approvals; max_batch_size = max_batch_size }) }
+        ensures value { result ≡ if_settings (record { status = status; timeout_sec = timeout_sec; block_labels = block_labels; required_approvals = required_approvals; max_batch_size = max_batch_size; pr_status = pr_status }) }
     {
         let is_good = are_statuses(status.as_slice())
             && (1..=MAX_TIMEOUT_SEC).contains(&timeout_sec)
             && are_labels(block_labels.as_slice())
             && required_approvals <= MAX_APPROVALS
-            && is_size(max_batch_size);
+            && is_size(max_batch_size)
+            && are_pr_statuses(pr_status.as_slice());
         if !is_good {
             return None;
         }
@@ -83,6 +89,7 @@ impl Settings {
             block_labels,
             required_approvals,
             max_batch_size,
+            pr_status,
         })
     }
 
@@ -128,6 +135,14 @@ impl Settings {
         self.max_batch_size
     }
 
+    /// The statuses that have to succeed on the head of a change before it can be approved, in the order of the text: at most
+    /// 64, no two the same, and none if the text doesn't say it.
+    pub fn pr_status(&self) -> &[Context]
+        ensures value { result.now ≡ self.now.pr_status }
+    {
+        self.pr_status.as_slice()
+    }
+
     /// A copy, or `AllocError` if there is no memory for it.
     pub fn copy(&self, alloc: Global) -> Result<Settings, AllocError>
         ensures value { IfOk result (λ copy. copy ≡ self.now) }
@@ -138,6 +153,7 @@ impl Settings {
             block_labels: self.block_labels.copy(alloc)?,
             required_approvals: self.required_approvals,
             max_batch_size: self.max_batch_size,
+            pr_status: self.pr_status.copy(alloc)?,
         })
     }
 }

@@ -1,13 +1,15 @@
-use crate::reading::words::{change_no, commit, label, name, priority};
+ghost use Rattle.std.specs.Prelude.{◌≡◌};
+
+use crate::reading::words::{change_no, commit, context, label, name, priority};
 use gate_rules::{Change, Desk, Phase, Repeat};
 use gate_tables::{ChangeRow, MarkRow, Rows, TablesFault};
-use gate_text::{LabelSet, NameSet, Names, Text};
+use gate_text::{ContextSet, LabelSet, NameSet, Names, Text};
 use std::alloc::Global;
 
 /// Puts the changes and their marks on the desk.
 pub(crate) fn put_changes(alloc: Global, desk: &mut Desk, rows: &Rows) -> Result<(), TablesFault> {
     for row in rows.changes.as_slice() {
-        desk.keep_change(change_no(row.number)?, change_in(alloc, row)?)?;
+        desk.keep_change(alloc, change_no(row.number)?, change_in(alloc, row)?)?;
     }
     for mark in rows.marks.as_slice() {
         put_mark(alloc, desk, mark)?;
@@ -24,6 +26,7 @@ fn change_in(alloc: Global, row: &ChangeRow) -> Result<Change, TablesFault> {
         priority: priority(row.priority)?,
         labels: LabelSet::new(alloc),
         reviews: NameSet::new(alloc),
+        passed: ContextSet::new(alloc),
         delegates: NameSet::new(alloc),
         approved: approvers_in(alloc, row.approved),
         trying: false,
@@ -72,24 +75,24 @@ fn put_mark(alloc: Global, desk: &mut Desk, mark: &MarkRow) -> Result<(), Tables
     .ok_or(TablesFault::Store)?
 }
 
-fn put_word(alloc: Global, change: &mut Change, kind: i64, word: &Text) -> Result<(), TablesFault> {
+fn put_word(alloc: Global, change: &mut Change, kind: i64, word: &Text) -> Result<(), TablesFault>
+    ensures head { change.new.head ≡ change.old.head }
+    ensures phase { change.new.phase ≡ change.old.phase }
+{
     match kind {
         1 => change.labels.insert(label(alloc, word)?)?,
         2 => change.reviews.insert(name(alloc, word)?)?,
         3 => change.delegates.insert(name(alloc, word)?)?,
-        4 => put_name(alloc, approvers_of(change), word)?,
-        5 => put_name(alloc, names_of(change), word)?,
+        4 => put_name(alloc, change.approved.as_mut(), word)?,
+        5 => put_name(alloc, names_of(&mut change.last), word)?,
+        8 => change.passed.insert(context(alloc, word)?)?,
         _ => return Err(TablesFault::Store),
     }
     Ok(())
 }
 
-fn approvers_of(change: &mut Change) -> Option<&mut Names> {
-    change.approved.as_mut()
-}
-
-fn names_of(change: &mut Change) -> Option<&mut Names> {
-    match &mut change.last {
+fn names_of(last: &mut Option<Repeat>) -> Option<&mut Names> {
+    match last {
         Some(Repeat::ApproveFor(names)) => Some(names),
         _ => None,
     }

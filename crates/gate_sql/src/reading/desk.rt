@@ -41,12 +41,13 @@ fn settings_in(alloc: Global, row: &DeskRow, marks: &[MarkRow]) -> Result<Settin
     };
     let mut status = Contexts::from(Vec::new(alloc));
     let mut labels = Labels::from(Vec::new(alloc));
-    match add_marks(alloc, &mut status, &mut labels, marks) {
+    let mut own = Contexts::from(Vec::new(alloc));
+    match add_marks(alloc, &mut status, &mut labels, &mut own, marks) {
         Ok(()) => {
-            Settings::new(status, timeout, labels, approvals, size).ok_or(TablesFault::Store)
+            Settings::new(status, timeout, labels, approvals, size, own).ok_or(TablesFault::Store)
         }
         Err(fault) => {
-            drop((status, labels));
+            drop((status, labels, own));
             Err(fault)
         }
     }
@@ -56,12 +57,14 @@ fn add_marks(
     alloc: Global,
     status: &mut Contexts,
     labels: &mut Labels,
+    own: &mut Contexts,
     marks: &[MarkRow],
 ) -> Result<(), TablesFault> {
     for mark in marks {
         match (mark.change_no, mark.kind) {
             (0, 6) => status.push(context(alloc, &mark.word)?)?,
             (0, 7) => labels.push(label(alloc, &mark.word)?)?,
+            (0, 9) => own.push(context(alloc, &mark.word)?)?,
             _ => (),
         }
     }

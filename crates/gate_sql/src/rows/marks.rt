@@ -37,6 +37,7 @@ pub(crate) fn push_settings(
     if let Some(settings) = settings {
         push_list(alloc, rows, 0, 6, settings.status())?;
         push_list(alloc, rows, 0, 7, settings.block_labels())?;
+        push_list(alloc, rows, 0, 9, settings.pr_status())?;
     }
     Ok(())
 }
@@ -68,7 +69,8 @@ pub(crate) fn push_change(
     push_set(alloc, rows, number, 2, &change.reviews)?;
     push_set(alloc, rows, number, 3, &change.delegates)?;
     push_approvers(alloc, rows, number, &change.approved)?;
-    push_last(alloc, rows, number, &change.last)
+    push_last(alloc, rows, number, &change.last)?;
+    push_set(alloc, rows, number, 8, &change.passed)
 }
 
 fn push_approvers(

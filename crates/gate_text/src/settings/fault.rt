@@ -19,6 +19,8 @@ pub enum Key {
     RequiredApprovals,
     /// `max_batch_size`: how many changes a batch has at most.
     MaxBatchSize,
+    /// `pr_status`: the statuses of its own that a change needs before it can be approved.
+    PrStatus,
 }
 
 impl Key {
@@ -32,6 +34,7 @@ impl Key {
             Key::BlockLabels => "block_labels",
             Key::RequiredApprovals => "required_approvals",
             Key::MaxBatchSize => "max_batch_size",
+            Key::PrStatus => "pr_status",
         }
     }
 }

@@ -48,6 +48,13 @@ pub(super) fn are_labels(labels: &[Label]) -> bool
     labels.len() <= MAX_ITEMS && are_distinct(labels)
 }
 
+// Whether these can be the statuses that a change needs of its own.
+pub(super) fn are_pr_statuses(status: &[Context]) -> bool
+    ensures { result ≡ settings.are_items 0 64 status.now }
+{
+    status.len() <= MAX_ITEMS && are_different(status)
+}
+
 // Whether this can be the greatest batch.
 pub(super) fn is_size(size: Option<u32>) -> bool
     ensures { result ≡ settings.is_size size }

@@ -1,8 +1,7 @@
-ghost use Rattle.std.specs.Prelude.{◌≡◌, [], map, IfOk, OnOk};
-ghost use Rattle.std.specs.List.{fold};
+ghost use Rattle.std.specs.Prelude.{◌≡◌, map, IfOk};
 ghost use Rattle.std.specs.Option.{option_map};
 ghost use Rattle.toml.specs.View.{view};
-ghost use Rattle.gate_text.specs.Arguments.{all_of, with_name};
+ghost use Rattle.gate_text.specs.Arguments.{all_of};
 ghost use Rattle.gate_text.specs.Settings as settings;
 
 use super::limits::{MAX_ITEMS, are_different};
@@ -71,24 +70,14 @@ fn contexts_of(alloc: Global, items: &[Value]) -> Result<Option<Contexts>, Alloc
     Ok(Some(Contexts::from(contexts)))
 }
 
-// Adds a label, unless it is there. There are few.
-fn add_label(labels: &mut Vec<Label>, label: Label) -> Result<(), AllocError>
-    ensures { OnOk result (labels.new.items ≡ with_name labels.old.items label) }
-{
-    if !labels.contains(&label) {
-        labels.push(label)?;
-    }
-    Ok(())
-}
-
-// The labels that an array lists, without later repeats, and nothing for another value.
+// The labels that an array lists, and nothing for another value.
 fn labels_of(alloc: Global, items: &[Value]) -> Result<Option<Labels>, AllocError>
-    ensures { IfOk result (λ labels. labels ≡ option_map (fold with_name []) (all_of (map settings.plain_in (map view items.now)))) }
+    ensures { IfOk result (λ labels. labels ≡ all_of (map settings.plain_in (map view items.now))) }
 {
     let mut labels = Vec::new(alloc);
     for value in items {
         match label_in(alloc, value)? {
-            Some(label) => add_label(&mut labels, label)?,
+            Some(label) => labels.push(label)?,
             None => return Ok(None),
         }
     }
@@ -110,10 +99,26 @@ pub(crate) fn statuses_in(alloc: Global, value: &Value) -> Result<Option<Context
 
 // The blocking labels that a value lists: at most 64, of which later repeats are dropped, and nothing for another value.
 pub(crate) fn labels_in(alloc: Global, value: &Value) -> Result<Option<Labels>, AllocError>
-    ensures { IfOk result (λ labels. labels ≡ settings.labels_in (view value.now)) }
+    ensures { IfOk result (λ labels. labels ≡ settings.texts_in (view value.now)) }
 {
-    match items_in(value, 0, MAX_ITEMS) {
-        Some(items) => labels_of(alloc, items),
+    let Some(items) = items_in(value, 0, MAX_ITEMS) else {
+        return Ok(None);
+    };
+    match labels_of(alloc, items)? {
+        Some(labels) => Ok(Some(labels.without_repeats(alloc)?)),
+        None => Ok(None),
+    }
+}
+
+// The same of names of statuses.
+pub(crate) fn contexts_in(alloc: Global, value: &Value) -> Result<Option<Contexts>, AllocError>
+    ensures { IfOk result (λ contexts. contexts ≡ settings.texts_in (view value.now)) }
+{
+    let Some(items) = items_in(value, 0, MAX_ITEMS) else {
+        return Ok(None);
+    };
+    match contexts_of(alloc, items)? {
+        Some(contexts) => Ok(Some(contexts.without_repeats(alloc)?)),
         None => Ok(None),
     }
 }

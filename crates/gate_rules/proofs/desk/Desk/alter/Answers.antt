@@ -1,11 +1,14 @@
-use Rattle.std.proofs.Common.{◌∙◌, sym, ap, rules}
+use Rattle.std.proofs.Common.{◌∙◌, sym, ap, subst, rules}
+use Rattle.std.specs.Option.{option_and_then}
 use Rattle.std.specs.Cmp.{nat_cmp_total}
 use Rattle.std.specs.FinMap as map
 use Rattle.std.specs.FinMap.{nat_cmp-IsAntisymmetric}
 use Rattle.std.specs.Option.{option_copied_mut}
 use Rattle.gate_text.specs.Finite.{get-entries, inserted}
 use Rattle.gate_rules.specs.View.{DeskView, with_change}
+use Rattle.gate_rules.specs.Heads.{open_head, IsIndexOf}
 use Rattle.gate_rules.proofs.Alters.{alters_none, alters_one}
+use Rattle.gate_rules.proofs.Indexing.{index_same, same_head}
 use Rattle.gate_rules.proofs.desk.Desk.alter.Goals as goal
 
 pub returns-in_default : goal.returns-in_default
@@ -27,3 +30,16 @@ returns g c =
       value = alters_one _ _ _ _ c.in-Some.change.now altered _ there (search rules)
           (rw put (ap (λ (desk : DeskView). with_change desk c.args.number altered) c.self.view_is));
     }
+
+pub invariant_of-self-2 : goal.invariant_of-self-2
+invariant_of-self-2 g c =
+    let altered = c.alter.new.arg2 in
+    let changes = map.from_entries c.self.inside.changes.entries in
+    let there = get-entries nat_cmp_total c.self.inside.changes c.args.number ∙ sym c.get_mut.ensures.value ∙ ap option_copied_mut c.in-Some.is in
+    let updates = (c.get_mut.follows.holds altered).3 (search rules) in
+    let put = inserted nat_cmp_total nat_cmp-IsAntisymmetric c.self.inside.changes (c.get_mut.follows.lender altered) c.args.number altered updates in
+    let kept = c.requires.kept c.in-Some.change.now c.alter.result altered (search rules) in (
+      c.self.invariant.0,
+      subst (λ now. IsIndexOf now c.self.inside.heads) (sym put)
+          (index_same changes c.args.number altered c.self.inside.heads c.self.invariant.1 (ap (option_and_then open_head) there ∙ sym (same_head altered c.in-Some.change.now kept.0 kept.1))),
+    )

@@ -32,13 +32,17 @@ returns-clause-ok c =
 pub invariant_of-self : goal.invariant_of-self
 invariant_of-self c =
     let roles = c.self.inside.roles in
-    let person = c.args.person.now in
-    subst AreMembers (sym (removed nat_list_cmp_total (slice_cmp-IsAntisymmetric nat_cmp-IsAntisymmetric) roles c.remove.new.self person c.remove.ensures.updates))
-    (members-remove (map.from_entries roles.entries) person c.self.invariant)
+    let person = c.args.person.now in (
+      subst AreMembers (sym (removed nat_list_cmp_total (slice_cmp-IsAntisymmetric nat_cmp-IsAntisymmetric) roles c.remove.new.self person c.remove.ensures.updates))
+          (members-remove (map.from_entries roles.entries) person c.self.invariant.0),
+      c.self.invariant.1,
+    )
 
 pub invariant_of-self-2 : goal.invariant_of-self-2
 invariant_of-self-2 c =
     let roles = c.self.inside.roles in
-    let member : is_member c.args.role ≡ true = search rules in
-    subst AreMembers (sym (inserted nat_list_cmp_total (slice_cmp-IsAntisymmetric nat_cmp-IsAntisymmetric) roles c.insert.new.self _ c.args.role c.in_ok-insert.ensures.updates))
-    (members-insert (map.from_entries roles.entries) _ c.self.invariant c.args.role member)
+    let member : is_member c.args.role ≡ true = search rules in (
+      subst AreMembers (sym (inserted nat_list_cmp_total (slice_cmp-IsAntisymmetric nat_cmp-IsAntisymmetric) roles c.insert.new.self _ c.args.role c.in_ok-insert.ensures.updates))
+          (members-insert (map.from_entries roles.entries) _ c.self.invariant.0 c.args.role member),
+      c.self.invariant.1,
+    )

@@ -11,3 +11,18 @@ pub returns-in_err-text-clause-full : goal.returns-in_err-text-clause-full
 returns-in_err-text-clause-full g c sound =
     let told = err_from_is_err_and c.from_residual-in_err-text.result c.from_residual-in_err-text.ensures.1 in
     rw (told.1, told.2) tt
+
+pub returns-in_err-text-clause-answer : goal.returns-in_err-text-clause-answer
+returns-in_err-text-clause-answer g c sound =
+    let told = err_from_is_err_and c.from_residual-in_err-text.result c.from_residual-in_err-text.ensures.1 in
+    rw told.1 tt
+
+pub returns-in_err-text-clause-book : goal.returns-in_err-text-clause-book
+returns-in_err-text-clause-book g c sound =
+    let told = err_from_is_err_and c.from_residual-in_err-text.result c.from_residual-in_err-text.ensures.1 in
+    rw told.1 tt
+
+pub returns-in_err-text-clause-history : goal.returns-in_err-text-clause-history
+returns-in_err-text-clause-history g c sound =
+    let told = err_from_is_err_and c.from_residual-in_err-text.result c.from_residual-in_err-text.ensures.1 in
+    rw told.1 tt
