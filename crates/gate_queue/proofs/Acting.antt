@@ -20,7 +20,8 @@ use Rattle.gate_text.specs.declared.command.Command.TheVariants.{Ping, Approve, 
 use Rattle.gate_text.specs.declared.command.Spoken.TheVariants.{Known, Unknown}
 use Rattle.gate_text.specs.declared.settings.fault.SettingsFault.{SettingsFault}
 use Rattle.gate_rules.specs.Rules.{Look, Texts, first_failing, is_fit}
-use Rattle.gate_rules.specs.View.{DeskView, roles_with, with_role, with_settings, with_base, with_clock, without_approval, look}
+use Rattle.gate_state.specs.declared.act.StatusState.{StatusState}
+use Rattle.gate_rules.specs.View.{DeskView, told_at, with_told, roles_with, with_role, with_settings, with_base, with_clock, without_approval, look}
 use Rattle.gate_rules.specs.declared.change.Change.{Change}
 use Rattle.gate_rules.specs.declared.change.Repeat.TheVariants as repeat
 use Rattle.gate_rules.specs.declared.role.Role.{Role as RoleOf}
@@ -36,7 +37,7 @@ use Rattle.gate_state.specs.declared.reply.Order.TheVariants.{Stage, Land, Notic
 use Rattle.gate_state.specs.declared.reply.Why.{Why}
 use Rattle.gate_state.specs.declared.reply.Why.TheVariants as why
 use Rattle.gate_queue.specs.History.{ends_why, order_ends, tells_of_try, order_ends_try, tried_back, Event, did, gave, given, last_of, said_by, role_said, settings_back, labels_back, reviews_back, author_back, approvers_back, landing_back, landed_back, landings, change_of, change_back, look_back}
-use Rattle.gate_queue.specs.Machine.{broken, bad_settings, effect, notices, notice_if, settings_notices, are_present, losing_on, quiet, under, accepted, lone, lone_altered, lone_notices, failing, try_ended, head_on, first_order, starting, with_landing, to_land, landed, released, released_at, released_on, all_altered, altered, approved_by, with_try, without_try, with_priority, with_delegates, with_author_as_delegate, without_delegates, opened, closed, pushed, labeled, without_label, reviewed, with_settled, settled}
+use Rattle.gate_queue.specs.Machine.{broken, is_good, bad_settings, effect, notices, notice_if, settings_notices, are_present, losing_on, quiet, under, accepted, lone, lone_altered, lone_notices, failing, try_ended, head_on, first_order, starting, with_landing, to_land, landed, released, released_at, released_on, all_altered, altered, approved_by, with_try, without_try, with_priority, with_delegates, with_author_as_delegate, without_delegates, opened, closed, pushed, labeled, without_label, reviewed, with_settled, settled}
 use Rattle.gate_state.specs.declared.batch.Batch.{Batch}
 use Rattle.gate_state.specs.declared.batch.Branch.{Branch}
 use Rattle.gate_state.specs.declared.batch.Stage.{Stage as StageOf}
@@ -44,9 +45,9 @@ use Rattle.gate_state.specs.declared.batch.Stage.TheVariants as stage
 use Rattle.gate_state.specs.Lanes.{is_landing}
 use Rattle.gate_state.specs.Queue.{lane_of}
 use Rattle.gate_state.specs.declared.state.State.{State}
-use Rattle.gate_queue.proofs.After.{rest_back, change_after, change_of_after, altered_as, untouched, unaltered, unless_unfit, by_number, elsewhere, order_elsewhere, order_ended, order_ended_try, quiet_line, stays}
+use Rattle.gate_queue.proofs.After.{rest_back, rest_after, change_after, change_of_after, altered_as, untouched, unaltered, unless_unfit, by_number, elsewhere, order_elsewhere, order_ended, order_ended_try, quiet_line, stays}
 use Rattle.gate_queue.proofs.Changes.{altered_look, all_look, opened_at}
-use Rattle.gate_queue.proofs.Facts.{closed_next, labeled_next, reviewed_next, unlabeled_next, pushed_next, opened_next, settled_next, unsettled_next, taken_settings}
+use Rattle.gate_queue.proofs.Facts.{closed_next, labeled_next, reviewed_next, unlabeled_next, pushed_next, opened_next, settled_next, status_next, unsettled_next, taken_settings}
 use Rattle.gate_queue.proofs.Keeping.{lands}
 use Rattle.gate_queue.proofs.Landing.{Lands, Members, none_lands, stage_rest, land_rest, not_landing_back, landing_members, base_ends, base_rest, base_landed, refused_ends}
 use Rattle.gate_queue.proofs.Next.{priority_next, author_next, names_next, none_next, withdraw_next, try_next, try_cancel_next, approve_next, approve_for_next}
@@ -57,7 +58,7 @@ use Rattle.gate_queue.proofs.Unseen.{Unseen}
 -- ONE ACT ON A CHANGE
 altered_next : (desk : DeskView) (events : List Event) (n : ℕ) (alter : Change → Change) (act : Act) → look desk ≡ look_back events
     → look_back (did act ∷ events) ≡ record (look_back events) { change = change_back (did act ∷ events) }
-    → ((c : ℕ) → (on c act ≡ cond (eqb c n) (Some act) None) × (rest_back (did act ∷ events) c ≡ rest_back events c))
+    → ((c : ℕ) → (on c act ≡ cond (eqb c n) (Some act) None) × (rest_after (did act) events c ≡ rest_back events c))
     → ((c : ℕ) → eqb c n ≡ true → option_map alter (change_back events c) ≡ change_after events c (rest_back events c) (Some act))
     → look (altered desk n alter) ≡ look_back (did act ∷ events)
 altered_next desk events n alter act same rest about next =
@@ -143,7 +144,7 @@ opening_next desk events n author head same next =
 -- a line that does nothing
 quiet_next : (desk : DeskView) (events : List Event) (n : ℕ) (act : Act) → look desk ≡ look_back events
     → look_back (did act ∷ events) ≡ record (look_back events) { change = change_back (did act ∷ events) }
-    → ((c : ℕ) → (on c act ≡ cond (eqb c n) (Some act) None) × (rest_back (did act ∷ events) c ≡ rest_back events c))
+    → ((c : ℕ) → (on c act ≡ cond (eqb c n) (Some act) None) × (rest_after (did act) events c ≡ rest_back events c))
     → ((c : ℕ) → eqb c n ≡ true → option_map (λ change. change) (change_back events c) ≡ change_after events c (rest_back events c) (Some act))
     → look desk ≡ look_back (did act ∷ events)
 quiet_next desk events n act same rest about next =
@@ -155,9 +156,17 @@ quiet_next desk events n act same rest about next =
       kept_by true (Some change) = refl
       kept_by false change = refl
 
+-- a status, of which the open changes are told whose head its commit is
+pub status_look : (desk : DeskView) (events : List Event) (commit name : List ℕ) (state : StatusState) → look desk ≡ look_back events
+    → look (with_told commit name (is_good state) desk) ≡ look_back (did (Status commit name state) ∷ events)
+status_look desk events commit name state same =
+    (λ i. record (look desk) { change = λ c. get-mapped nat_cmp (told_at commit name (is_good state)) nat_cmp_total desk.changes c i })
+    ∙ ap (λ (s : Look). record s { change = λ c. option_map (told_at commit name (is_good state)) (s.change c) }) same
+    ∙ (λ i. record (look_back events) { change = λ c. status_next events c commit name state i })
+
 -- a fact about a batch, of which the rules read nothing; and a tick, which sets the clock
 pub fact_next : (events : List Event) (act : Act) → look_back (did act ∷ events) ≡ record (look_back events) { change = change_back (did act ∷ events) }
-    → ((c : ℕ) → (on c act ≡ None) × (rest_back (did act ∷ events) c ≡ rest_back events c)) → look_back events ≡ look_back (did act ∷ events)
+    → ((c : ℕ) → (on c act ≡ None) × (rest_after (did act) events c ≡ rest_back events c)) → look_back events ≡ look_back (did act ∷ events)
 fact_next events act rest about = (λ i. record (look_back events) { change = λ c. (sym (elsewhere events c act (about c).0 (about c).1)) i }) ∙ sym rest
 
 pub tick_next : (desk : DeskView) (events : List Event) (now : ℕ) → look desk ≡ look_back events → look (with_clock desk now) ≡ look_back (did (Tick now) ∷ events)
@@ -169,7 +178,7 @@ tick_next desk events now same =
 abbrev pub AreMild : List Event → List Order → Type 0
 AreMild events [] = ⊤
 AreMild events (order ∷ orders) =
-    ((c : ℕ) → (order_ends c order ≡ false) × (order_ends_try c order ≡ false) × (rest_back (gave order ∷ events) c ≡ rest_back events c))
+    ((c : ℕ) → (order_ends c order ≡ false) × (order_ends_try c order ≡ false) × (rest_after (gave order) events c ≡ rest_back events c))
     × AreMild (gave order ∷ events) orders
 
 look_given : (events : List Event) (orders : List Order) → AreMild events orders → look_back (given events orders) ≡ look_back events

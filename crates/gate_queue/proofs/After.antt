@@ -4,7 +4,7 @@ use Rattle.std.proofs.Common.{◌≡◌, ℕ, ℤ, pos, Bool, true, false, cond,
 use Rattle.std.specs.FinSet as set
 use Rattle.std.specs.Option.{option_and_then, option_map, option_map_or, option_or, unwrap_or}
 use Rattle.gate_text.specs.Settings.{SettingsView}
-use Rattle.gate_rules.specs.Rules.{Texts, is_fit}
+use Rattle.gate_rules.specs.Rules.{Texts, is_fit, is_open_phase}
 use Rattle.gate_rules.specs.declared.change.Change.{Change}
 use Rattle.gate_rules.specs.declared.change.Phase.{Phase}
 use Rattle.gate_rules.specs.declared.change.Repeat.{Repeat}
@@ -12,7 +12,7 @@ use Rattle.gate_rules.specs.View.{without_approval}
 use Rattle.gate_state.specs.Acts.{on}
 use Rattle.gate_state.specs.declared.act.Act.{Act}
 use Rattle.gate_state.specs.declared.reply.Order.{Order}
-use Rattle.gate_queue.specs.History.{Event, did, gave, last_of, said_on, author_said, author_back, head_said, moves_head, phase_said, phase_by, landing_back, landed_back, priority_said, repeat_said, marked, label_said, labels_back, review_said, reviews_back, delegation_said, delegated, delegates_back, settings_back, fit_back, approval_said, ends_it, order_ends, ends, standing_back, approvers_back, try_said, ends_its_try, order_ends_try, tried_back, change_of, change_back}
+use Rattle.gate_queue.specs.History.{Event, did, gave, Mark, head_back, status_said, told_back, last_of, said_by, said_on, author_said, author_back, head_said, moves_head, phase_said, phase_by, landing_back, landed_back, priority_said, repeat_said, marked, label_said, labels_back, review_said, reviews_back, delegation_said, delegated, delegates_back, settings_back, fit_back, approval_said, ends_it, order_ends, ends, standing_back, approvers_back, try_said, ends_its_try, order_ends_try, tried_back, change_of, change_back}
 use Rattle.gate_queue.specs.Machine.{without_try}
 
 -- STANDING AND FIT
@@ -51,9 +51,19 @@ pub record Rest : Type 0 where
   pub settings : Option SettingsView
   pub landed : Bool
   pub landing : Bool
+  -- and what the event says of a status of the head
+  pub told : Option Mark
 
 abbrev pub rest_back : List Event → ℕ → Rest
-rest_back events c = record { settings = settings_back events; landed = landed_back events c; landing = landing_back events c }
+rest_back events c = record { settings = settings_back events; landed = landed_back events c; landing = landing_back events c; told = None }
+
+abbrev pub rest_after : Event → List Event → ℕ → Rest
+rest_after event events c = record {
+  settings = settings_back (event ∷ events);
+  landed = landed_back (event ∷ events) c;
+  landing = landing_back (event ∷ events) c;
+  told = said_by (status_said (head_back events c)) event events;
+}
 
 module _ (events : List Event) (c : ℕ) (rest : Rest) (done : Option Act) where
   abbrev moves_after : Bool
@@ -73,6 +83,9 @@ module _ (events : List Event) (c : ℕ) (rest : Rest) (done : Option Act) where
 
   abbrev reviews_after : Texts
   reviews_after = cond moves_after set.empty (marked (option_and_then review_said done) (reviews_back events c))
+
+  abbrev passed_after : Texts
+  passed_after = cond (is_open_phase phase_after) (cond moves_after set.empty (marked rest.told (told_back events c))) set.empty
 
   abbrev pub delegates_after : Texts
   delegates_after = delegated (author_back events c) (option_and_then delegation_said done) (delegates_back events c)
@@ -105,7 +118,7 @@ module _ (events : List Event) (c : ℕ) (rest : Rest) (done : Option Act) (endi
     priority = priority_after events c rest done;
     labels = labels_after events c rest done;
     reviews = reviews_after events c rest done;
-    passed = set.empty;
+    passed = passed_after events c rest done;
     delegates = delegates_after events c rest done;
     approved = approvers_by;
     trying = trying_by;
@@ -143,22 +156,22 @@ module _ (events : List Event) (c : ℕ) where
   pub unaltered : change_after events c (rest_back events c) None ≡ change_back events c
   unaltered = λ i. option_map (λ author. record (change_of events c author) { approved = untouched i }) (author_back events c)
 
-  pub elsewhere : (act : Act) → on c act ≡ None → rest_back (did act ∷ events) c ≡ rest_back events c → change_back (did act ∷ events) c ≡ change_back events c
+  pub elsewhere : (act : Act) → on c act ≡ None → rest_after (did act) events c ≡ rest_back events c → change_back (did act ∷ events) c ≡ change_back events c
   elsewhere act none same = (λ i. change_after events c (same i) (none i)) ∙ unaltered
 
-  pub order_elsewhere : (order : Order) → order_ends c order ≡ false → order_ends_try c order ≡ false → rest_back (gave order ∷ events) c ≡ rest_back events c
+  pub order_elsewhere : (order : Order) → order_ends c order ≡ false → order_ends_try c order ≡ false → rest_after (gave order) events c ≡ rest_back events c
       → change_back (gave order ∷ events) c ≡ change_back events c
   order_elsewhere order goes tries same = (λ i. change_by events c (same i) None (goes i) (tries i)) ∙ unaltered
 
   -- and one that ends its approval, or its try
-  pub order_ended : (order : Order) → order_ends c order ≡ true → order_ends_try c order ≡ false → rest_back (gave order ∷ events) c ≡ rest_back events c
+  pub order_ended : (order : Order) → order_ends c order ≡ true → order_ends_try c order ≡ false → rest_after (gave order) events c ≡ rest_back events c
       → change_back (gave order ∷ events) c ≡ option_map without_approval (change_back events c)
   order_ended order ending tries same = (λ i. change_by events c (same i) None (ending i) (tries i)) ∙ by (author_back events c) where
     by : (author : Option (List ℕ)) → option_map (change_of_by events c (rest_back events c) None true false) author ≡ option_map without_approval (option_map (change_of events c) author)
     by None = refl
     by (Some author) = refl
 
-  pub order_ended_try : (order : Order) → order_ends_try c order ≡ true → order_ends c order ≡ false → rest_back (gave order ∷ events) c ≡ rest_back events c
+  pub order_ended_try : (order : Order) → order_ends_try c order ≡ true → order_ends c order ≡ false → rest_after (gave order) events c ≡ rest_back events c
       → change_back (gave order ∷ events) c ≡ option_map without_try (change_back events c)
   order_ended_try order ending goes same = (λ i. change_by events c (same i) None (goes i) (ending i)) ∙ by (author_back events c) where
     by : (author : Option (List ℕ)) → option_map (change_of_by events c (rest_back events c) None false true) author ≡ option_map without_try (option_map (change_of events c) author)
@@ -206,7 +219,7 @@ module _ (events : List Event) (c : ℕ) where
 
   -- BY THE NUMBER: an act on one change, seen from this one
   pub by_number : (n : ℕ) (act : Act) (after : Option Change → Option Change)
-      → on c act ≡ cond (eqb c n) (Some act) None → rest_back (did act ∷ events) c ≡ rest_back events c
+      → on c act ≡ cond (eqb c n) (Some act) None → rest_after (did act) events c ≡ rest_back events c
       → (eqb c n ≡ true → after (change_back events c) ≡ change_after events c (rest_back events c) (Some act))
       → (b : Bool) → eqb c n ≡ b → cond b (after (change_back events c)) (change_back events c) ≡ change_back (did act ∷ events) c
   by_number n act after about same here true is =

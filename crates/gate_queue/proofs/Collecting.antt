@@ -7,7 +7,7 @@ use Rattle.std.proofs.lemmas.List.Folds.{list_any-append}
 use Rattle.std.specs.Cmp.{nat_cmp_total}
 use Rattle.std.specs.FinMap as finite
 use Rattle.std.specs.FinMap.{nat_cmp-IsAntisymmetric}
-use Rattle.std.specs.List.{filter, list_all}
+use Rattle.std.specs.List.{filter, list_all, list_any}
 use Rattle.std.specs.Option.{option_map, option_map_or}
 use Rattle.std.specs.Ordering.{eq_by_cmp, nat_cmp}
 use Rattle.gate_text.specs.Finite.{get-mapped}
@@ -45,6 +45,12 @@ lists-of number (Some batch) = or-false (batch.number == number)
 
 pub lists-both : (number : ℕ) (xs ys : List ℕ) → lists number (xs ++ ys) ≡ lists number xs || lists number ys
 lists-both number xs ys = list_any-append (λ other. other == number) xs ys
+
+pub listed-other : (number : ℕ) (numbers : List ℕ) → lists number numbers ≡ list_any (λ other. number == other) numbers
+listed-other number [] = refl
+listed-other number (other ∷ numbers) = λ i. flip number other i || listed-other number numbers i where
+  flip : (a b : ℕ) → (b == a) ≡ (a == b)
+  flip a b = grind (arith, nat_tests)
 
 -- a change that stays approved under new settings
 pub stays_approved : (desk : DeskView) (settings : SettingsView) (change : ℕ)

@@ -14,7 +14,8 @@ use Rattle.gate_state.specs.declared.act.StatusState.{StatusState}
 use Rattle.gate_state.specs.declared.act.StatusState.TheVariants.{Success, Failure, Error, Pending}
 use Rattle.gate_state.specs.declared.reply.Head.{Head}
 use Rattle.gate_state.specs.declared.reply.Order.TheVariants.{Stage, Land, Notice}
-use Rattle.gate_queue.specs.History.{Event, did, gave, said_by, settings_said, settings_back, is_order_on, keeps_order, is_staged_as, keeps_staged, state_said, is_bad, is_good, keeps_clean, is_clean, passes, keeps_passed, has_passed, IsTested}
+use Rattle.gate_queue.specs.History.{Event, did, gave, said_by, settings_said, settings_back, is_order_on, keeps_order, is_staged_as, keeps_staged, state_said, is_bad, keeps_clean, is_clean, passes, keeps_passed, has_passed, IsTested}
+use Rattle.gate_queue.specs.Machine.{is_good}
 use Rattle.gate_queue.specs.Words.{AllKept, Lacks, Succeeded, WasTested, LawOfTests}
 use Rattle.gate_state.specs.declared.batch.Branch.{Branch}
 use Rattle.gate_state.specs.declared.batch.Branch.TheVariants.{Staging, Trying}

@@ -11,23 +11,25 @@ use Rattle.gate_rules.specs.declared.rule.Rule.TheVariants.{ClockBack, NoSuchBat
 use Rattle.gate_state.specs.State.{IsMoment, approved_on}
 use Rattle.gate_state.specs.Acts.{subject, on}
 use Rattle.gate_state.specs.declared.act.Act.{Act}
+use Rattle.gate_state.specs.declared.act.StatusState.{StatusState}
 use Rattle.gate_state.specs.declared.act.Act.TheVariants.{Spoken, Role, Settings, Base, Opened, Pushed, Closed, Labeled, Unlabeled, Review, Staged, Conflict, Status, Refused, Tick}
 use Rattle.gate_state.specs.declared.reply.Why.{Why}
 use Rattle.gate_state.specs.declared.reply.Why.TheVariants as why
 use Rattle.gate_queue.specs.History.{Event, did, given, change_back, look_back, landing_with}
 use Rattle.gate_state.specs.Lanes.{is_landing, requeued}
-use Rattle.gate_queue.specs.Machine.{broken, missing, has_ordered, has_landing, effect, notices, notice_if, settings_notices, quiet, about, with_desk, are_present, losing_on, under, accepted, given_up, lands_with, sent_back, ended_on_time, all_starting, done}
+use Rattle.gate_queue.specs.Machine.{broken, heads_told, missing, has_ordered, has_landing, effect, notices, notice_if, settings_notices, quiet, about, with_desk, are_present, losing_on, under, accepted, given_up, lands_with, sent_back, ended_on_time, all_starting, done}
 use Rattle.gate_state.specs.Queue as specs
 use Rattle.gate_state.specs.declared.batch.Batch.{Batch}
 use Rattle.gate_state.specs.declared.batch.Branch.TheVariants.{Staging, Trying}
 use Rattle.gate_state.specs.declared.lane.Lane.{Lane}
 use Rattle.gate_state.specs.declared.state.State.{State}
-use Rattle.gate_queue.proofs.Acting.{about_look, about_mild, role_next, settings_next, settings_mild, fact_next, tick_next, base_look, refusal_look, one_rule}
-use Rattle.gate_queue.proofs.After.{rest_back}
+use Rattle.gate_queue.proofs.Acting.{about_look, about_mild, status_look, role_next, settings_next, settings_mild, fact_next, tick_next, base_look, refusal_look, one_rule}
+use Rattle.gate_queue.proofs.After.{rest_back, rest_after}
 use Rattle.gate_queue.proofs.Fitness.{passed, unless_so}
 use Rattle.gate_queue.proofs.Growing.{queue_grows, same_grows, about_grows, accepted_grows}
 use Rattle.gate_queue.proofs.Landing.{Lands, base_ends, refused_ends}
-use Rattle.gate_queue.proofs.States.{Holds, ordered_so, clock_holds, still_clock, ended_on_time_holds}
+use Rattle.gate_queue.proofs.Held.{Holds, heads_told_holds}
+use Rattle.gate_queue.proofs.States.{ordered_so, clock_holds, still_clock, ended_on_time_holds}
 use Rattle.gate_queue.proofs.Steps.{Goes, Kept, AreNotices, did_kept, ended_kept, notices_kept, failing_kept, try_ended_kept, then_kept, told_kept, ended_on_time_kept, all_starting_kept, tries_left_staging, same_goes, followed_goes, accepted_goes, staged_goes}
 
 -- NOTICES
@@ -84,10 +86,14 @@ module _ (events : List Event) (s : State) (is : Holds s) (kept : Kept events s)
 
   -- a fact of which the rules read nothing
   pub fact_kept : (act : Act) → look_back (did act ∷ events) ≡ record (look_back events) { change = change_back (did act ∷ events) }
-      → ((c : ℕ) → (on c act ≡ None) × (rest_back (did act ∷ events) c ≡ rest_back events c))
+      → ((c : ℕ) → (on c act ≡ None) × (rest_after (did act) events c ≡ rest_back events c))
       → ((number : ℕ) → landing_with (did act ∷ events) number ≡ landing_with events number) → broken (look s.desk) act ≡ None → Kept (did act ∷ events) s
   fact_kept act rest elsewhere landing holds =
       did_kept events act s s kept (holds_back act holds) (kept.same ∙ fact_next events act rest elsewhere) landing (same_grows 0 s.queue) (same_goes s.queue.staging.running)
+
+  pub status_kept : (commit name : List ℕ) (state : StatusState) → Kept (did (Status commit name state) ∷ events) (heads_told commit name state s)
+  status_kept commit name state =
+      did_kept events (Status commit name state) s (heads_told commit name state s) kept refl (status_look s.desk events commit name state kept.same) (λ number. refl) (same_grows 0 s.queue) (same_goes s.queue.staging.running)
 
   pub clock_kept : (now : ℕ) → broken (look s.desk) (Tick now) ≡ None → Kept (did (Tick now) ∷ events) (with_desk s (with_clock s.desk now))
   clock_kept now holds =
@@ -113,7 +119,7 @@ module _ (events : List Event) (s : State) (is : Holds s) (kept : Kept events s)
   given_up_kept number true there next = failing_kept (did (Conflict number) ∷ events) s why.Conflict refl (ordered_so s.queue.staging number there) next
   given_up_kept number false there next = try_ended_kept (did (Conflict number) ∷ events) s why.TryFailed refl next
 
-  pub done_kept : (act : Act) → ((now : ℕ) → act ≡ Tick now → IsMoment now) → missing s.queue act ≡ None → broken (look s.desk) act ≡ None → Kept (given (did act ∷ events) (done s act).orders) (done s act).state
+  pub done_kept : (act : Act) → ((now : ℕ) → act ≡ Tick now → IsMoment now) → missing s act ≡ None → broken (look s.desk) act ≡ None → Kept (given (did act ∷ events) (done s act).orders) (done s act).state
   done_kept (Spoken n person spoken) limit there holds = about_kept (Spoken n person spoken) n refl (λ number. refl) holds
   done_kept (Opened n author head) limit there holds = about_kept (Opened n author head) n refl (λ number. refl) holds
   done_kept (Pushed n head) limit there holds = about_kept (Pushed n head) n refl (λ number. refl) holds
@@ -137,7 +143,7 @@ module _ (events : List Event) (s : State) (is : Holds s) (kept : Kept events s)
   done_kept (Conflict batch) limit there holds =
       given_up_kept batch (has_ordered batch s.queue.staging) refl (fact_kept (Conflict batch) refl (λ c. (refl, refl)) (λ number. refl) holds)
   done_kept (Status commit name state) limit there holds =
-      told_kept (did (Status commit name state) ∷ events) s commit name state is (fact_kept (Status commit name state) refl (λ c. (refl, refl)) (λ number. refl) holds)
+      told_kept (did (Status commit name state) ∷ events) (heads_told commit name state s) commit name state (heads_told_holds s commit name state is) (status_kept commit name state)
   done_kept (Refused batch) limit there holds =
       let landing = unless_so (has_landing batch s.queue.staging) NoSuchBatch there in
       ended_kept events (Refused batch) s (done s (Refused batch)).state kept (holds_back (Refused batch) holds) (refusal_look s.desk events kept.same batch s.queue.staging.running landing kept.landing kept.members)

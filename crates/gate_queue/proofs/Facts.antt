@@ -1,26 +1,40 @@
 -- What the history says of a change after one more fact: the change as it was said before, altered.
 use Rattle.std.proofs.Common.{◌≡◌, ℕ, Bool, true, false, cond, not, ◌&&◌, List, ◌∷◌, Option, Some, None, Result, Ok, refl, sym, ◌∙◌, ap}
 use Rattle.std.proofs.lemmas.Slice.Eq.{bytes_eq-Decides}
+use Rattle.std.specs.Bool.{then_some}
+use Rattle.std.specs.Cmp.Lexicographic.{slice_cmp}
 use Rattle.std.specs.FinSet as set
+use Rattle.std.specs.Ordering.{nat_cmp}
 use Rattle.std.specs.Option.{option_map, option_or}
 use Rattle.std.specs.Result.{result_ok}
 use Rattle.std.specs.Str.{bytes_eq}
 use Rattle.gate_text.specs.Settings.{SettingsView, settings_of}
 use Rattle.gate_rules.specs.Rules.{Texts, is_open_phase, is_fit}
 use Rattle.gate_rules.specs.declared.change.Phase.TheVariants as phase
-use Rattle.gate_state.specs.declared.act.Act.TheVariants.{Settings, Opened, Pushed, Closed, Labeled, Unlabeled, Review}
-use Rattle.gate_queue.specs.History.{Event, did, last_of, said_on, author_back, head_back, phase_by, phase_back, landed_back, settings_back, labels_back, reviews_back, approval_said, standing_back, tried_back, change_of, change_back}
-use Rattle.gate_queue.specs.Machine.{closed, pushed, moved_to, labeled, with_label, without_label, reviewed, with_review, opened, settled}
-use Rattle.gate_queue.proofs.After.{Rest, rest_back, change_after, change_of_after, altered_here, silent, ended, stays, standing_fit, unless_unfit, elsewhere}
+use Rattle.gate_state.specs.declared.act.Act.TheVariants.{Settings, Opened, Pushed, Closed, Labeled, Unlabeled, Review, Status}
+use Rattle.gate_state.specs.declared.act.StatusState.{StatusState}
+use Rattle.gate_rules.specs.View.{told_at, with_status}
+use Rattle.gate_rules.specs.declared.change.Change.{Change}
+use Rattle.gate_queue.specs.History.{Event, did, put, taken, marked, told_back, last_of, said_on, author_back, head_back, phase_by, phase_back, landed_back, settings_back, labels_back, reviews_back, approval_said, standing_back, tried_back, change_of, change_back}
+use Rattle.gate_queue.specs.Machine.{is_good, closed, pushed, moved_to, labeled, with_label, without_label, reviewed, with_review, opened, settled}
+use Rattle.gate_queue.proofs.After.{Rest, rest_back, rest_after, altered_as, untouched, change_after, change_of_after, altered_here, silent, ended, stays, standing_fit, unless_unfit, elsewhere}
 use Rattle.gate_queue.proofs.Fitness.{still_fit, opened_so, labeled_approval, reviewed_approval, settled_as_fit}
 use Rattle.gate_queue.proofs.Unseen.{Unseen, blank_landing}
+
+either_empty : (b : Bool) → cond b (set.empty {R = slice_cmp nat_cmp}) set.empty ≡ set.empty
+either_empty true = refl
+either_empty false = refl
 
 module _ (events : List Event) (c n : ℕ) where
   -- a change that is closed was open, so it hasn't landed
   pub closed_next : landed_back events c ≡ false → option_map closed (change_back events c) ≡ change_after events c (rest_back events c) (Some (Closed n))
   closed_next here =
       altered_here events c closed (Closed n) refl
-      (λ author is. λ i. record (closed (change_of events c author)) { phase = phase_by ((sym here) i) (Some phase.Closed); approved = (sym (ended events c (Closed n) refl refl)) i })
+      (λ author is. λ i. record (closed (change_of events c author)) {
+        phase = phase_by ((sym here) i) (Some phase.Closed);
+        passed = cond (is_open_phase (phase_by ((sym here) i) (Some phase.Closed))) (told_back events c) set.empty;
+        approved = (sym (ended events c (Closed n) refl refl)) i;
+      })
 
   pub labeled_next : (label : List ℕ) → option_map (labeled (settings_back events) label) (change_back events c) ≡ change_after events c (rest_back events c) (Some (Labeled n label))
   labeled_next label =
@@ -60,6 +74,7 @@ module _ (events : List Event) (c n : ℕ) where
       λ i. record (change_of events c author) {
         head = at i;
         reviews = (sym reviews) i;
+        passed = cond (is_open_phase (phase_back events c)) (cond ((sym moving) i) set.empty (told_back events c)) set.empty;
         approved = (sym (stays events c act refl moving (λ was. fit ∙ was))) i;
         trying = (not ((sym moving) i) && tried_back events c) && not (landed_back events c);
       }
@@ -69,6 +84,7 @@ module _ (events : List Event) (c n : ℕ) where
       let reviews = ap (λ (b : Bool). cond b set.empty (reviews_back events c)) moving in
       λ i. record (moved_to head (change_of events c author)) {
         reviews = (sym reviews) i;
+        passed = (sym (ap (λ (b : Bool). cond (is_open_phase (phase_back events c)) (cond b set.empty (told_back events c)) set.empty) moving ∙ either_empty (is_open_phase (phase_back events c)))) i;
         approved = (sym (ended events c act refl moving)) i;
         trying = (not ((sym moving) i) && tried_back events c) && not (landed_back events c);
       }
@@ -93,7 +109,7 @@ module _ (events : List Event) (c n : ℕ) where
           priority = (sym blank.priority) i;
           labels = (sym blank.labels) i;
           reviews = set.empty;
-          passed = set.empty;
+          passed = cond (is_open_phase (phase_by ((sym here) i) (Some phase.Opened))) set.empty set.empty;
           delegates = (sym blank.delegates) i;
           approved = (sym (ended events c (Opened n author head) refl refl)) i;
           trying = false;
@@ -102,7 +118,11 @@ module _ (events : List Event) (c n : ℕ) where
         }
     opened_from (Some had) is =
         let approved = none_standing (standing_back events c) refl ∙ sym (ended events c (Opened n author head) refl refl) in
-        λ i. record (opened author head (Some (change_of events c had))) { phase = phase_by ((sym here) i) (Some phase.Opened); approved = approved i }
+        λ i. record (opened author head (Some (change_of events c had))) {
+          phase = phase_by ((sym here) i) (Some phase.Opened);
+          passed = cond (is_open_phase (phase_by ((sym here) i) (Some phase.Opened))) set.empty set.empty;
+          approved = approved i;
+        }
 
     pub opened_next : Some (opened author head (change_back events c)) ≡ change_after events c (rest_back events c) (Some (Opened n author head))
     opened_next = ap Some (opened_from (author_back events c) refl)
@@ -126,3 +146,20 @@ module _ (events : List Event) (c : ℕ) (text : List ℕ) (settings : SettingsV
 
   pub unsettled_next : settings_back events ≡ Some settings → change_back events c ≡ change_back (did (Settings text) ∷ events) c
   unsettled_next same = sym (elsewhere events c (Settings text) refl (λ i. under ((taken_settings ∙ sym same) i)))
+
+-- a status of the head
+status_as : (is_open here success : Bool) (name : List ℕ) (told : Texts) (change : Change)
+    → cond (is_open && here) (with_status name success (record change { passed = cond is_open told set.empty })) (record change { passed = cond is_open told set.empty })
+    ≡ record change { passed = cond is_open (marked (then_some here (cond success (put name) (taken name))) told) set.empty }
+status_as true true true name told change = refl
+status_as true true false name told change = refl
+status_as true false success name told change = refl
+status_as false here success name told change = refl
+
+pub status_next : (events : List Event) (c : ℕ) (commit name : List ℕ) (state : StatusState)
+    → option_map (told_at commit name (is_good state)) (change_back events c) ≡ change_back (did (Status commit name state) ∷ events) c
+status_next events c commit name state = altered_as (told_at commit name (is_good state)) (change_of events c) (change_of_after events c rest None) (author_back events c) (λ author is.
+    status_as (is_open_phase (phase_back events c)) (bytes_eq commit (head_back events c)) (is_good state) name (told_back events c) (change_of events c author)
+    ∙ (λ i. record (change_of_after events c rest None author) { approved = (sym (untouched events c)) i })) where
+      rest : Rest
+      rest = rest_after (did (Status commit name state)) events c

@@ -220,7 +220,7 @@ module _ (s : State) (change : ℕ) (is : IsState s) where
 
   -- ACT BY ACT
   holds_by : (act : Act) → denial s act ≡ None → broken (look s.desk) act ≡ None
-  holds_by act holds = (none_both (missing s.queue act) (broken (look s.desk) act) holds).1
+  holds_by act holds = (none_both (missing s act) (broken (look s.desk) act) holds).1
 
   new_by : (person : List ℕ) (command : Command) → first_failing (begins_with_rules (look s.desk) person change command (approval_rules (look s.desk) change)) ≡ None
       → (is_known (look s.desk) change ≡ true) × (approved_on s.desk change ≡ false)

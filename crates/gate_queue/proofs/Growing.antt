@@ -12,7 +12,7 @@ use Rattle.gate_state.specs.declared.act.Act.TheVariants.{Spoken, Role, Settings
 use Rattle.gate_state.specs.declared.act.StatusState.{StatusState}
 use Rattle.gate_state.specs.declared.act.StatusState.TheVariants.{Success, Failure, Error, Pending}
 use Rattle.gate_state.specs.declared.reply.Why.TheVariants as why
-use Rattle.gate_queue.specs.Machine.{followed, tried_by, all_but, quiet, then_next, with_desk, with_queue, about, under, accepted, are_present, failing, try_ended, has_passed, has_staged, to_land, if_passed, goes_on, told_of, told_staging, try_if_passed, try_goes_on, try_told_of, told_trying, told, sent_back, tries_left, lands_with, has_overdue, timed_out, try_timed_out, ended_on_time, starting, all_starting, ordered_on, given_up, done}
+use Rattle.gate_queue.specs.Machine.{heads_told, followed, tried_by, all_but, quiet, then_next, with_desk, with_queue, about, under, accepted, are_present, failing, try_ended, has_passed, has_staged, to_land, if_passed, goes_on, told_of, told_staging, try_if_passed, try_goes_on, try_told_of, told_trying, told, sent_back, tries_left, lands_with, has_overdue, timed_out, try_timed_out, ended_on_time, starting, all_starting, ordered_on, given_up, done}
 use Rattle.gate_state.specs.Queue as specs
 use Rattle.gate_state.specs.Service.{OnlyNew}
 use Rattle.gate_state.specs.declared.batch.Batch.{Batch}
@@ -274,6 +274,6 @@ queue_grows s (Unlabeled change label) = about_grows s change (Unlabeled change 
 queue_grows s (Review change person head approves) = about_grows s change (Review change person head approves)
 queue_grows s (Staged batch commit) = more_grows 4 (omega arith) (staged_grows (ordered_on batch s.queue) s.queue s.desk.clock commit)
 queue_grows s (Conflict batch) = more_grows 4 (omega arith) (given_up_grows (ordered_on batch s.queue) s)
-queue_grows s (Status commit name state) = more_grows 4 (omega arith) (told_grows s commit name state)
+queue_grows s (Status commit name state) = more_grows 4 (omega arith) (told_grows (heads_told commit name state s) commit name state)
 queue_grows s (Refused batch) = more_grows 4 (omega arith) (sent_back_grows None s)
 queue_grows s (Tick now) = more_grows 4 (omega arith) (tick_grows (with_desk s (with_clock s.desk now)) now)

@@ -20,7 +20,7 @@ use Rattle.gate_state.specs.declared.batch.Batch.{Batch}
 use Rattle.gate_state.specs.declared.batch.Branch.{Branch}
 use Rattle.gate_state.specs.declared.batch.Stage.{Stage as StageOf}
 use Rattle.gate_state.specs.declared.batch.Stage.TheVariants as stage
-use Rattle.gate_queue.proofs.After.{rest_back}
+use Rattle.gate_queue.proofs.After.{rest_back, rest_after}
 use Rattle.gate_queue.proofs.Keeping.{lands}
 
 -- LISTS AND TESTS
@@ -103,7 +103,7 @@ never_landing number (gave (Land batch base commit) ∷ events) none =
 
 -- AN ORDER TO STAGE a number that was never to land leaves what is landing and has landed.
 pub stage_rest : (events : List Event) (number : ℕ) (branch : Branch) (base : List ℕ) (heads : List Head) (c : ℕ) → landings number events ≡ 0
-    → rest_back (gave (Stage number branch base heads) ∷ events) c ≡ rest_back events c
+    → rest_after (gave (Stage number branch base heads)) events c ≡ rest_back events c
 stage_rest events number branch base heads c none =
     let never = never_landing number events none in
     λ i. record (rest_back events c) {
@@ -148,7 +148,7 @@ named_heads desk c (first ∷ changes) known =
 
 -- AN ORDER TO LAND the running batch, when none is landing
 pub land_rest : (events : List Event) (batch : Batch) (base commit : List ℕ) (c : ℕ) → Lands events None → Members events (Some batch)
-    → rest_back (gave (Land batch.number base commit) ∷ events) c ≡ record (rest_back events c) { landing = list_any (eqb c) batch.changes }
+    → rest_after (gave (Land batch.number base commit)) events c ≡ record (rest_back events c) { landing = list_any (eqb c) batch.changes }
 land_rest events batch base commit c none members =
     λ i. record (rest_back events c) { landing = (list_any_same _ (λ n. eqb n batch.number) (λ n. test n (eqb n batch.number)) (batches_back events c) ∙ members c) i } where
       test : (n : ℕ) (b : Bool) → is_some (option_flatten (option_or (then_some b (Some commit)) (last_of (landing_said n) events))) ≡ b
@@ -174,7 +174,7 @@ pub base_ends : (events : List Event) (base : List ℕ) → Lands (did (Base bas
 base_ends events base number = refl
 
 -- on which nothing lands if nothing was landing
-pub base_rest : (events : List Event) (base : List ℕ) (c : ℕ) → Lands events None → rest_back (did (Base base) ∷ events) c ≡ rest_back events c
+pub base_rest : (events : List Event) (base : List ℕ) (c : ℕ) → Lands events None → rest_after (did (Base base)) events c ≡ rest_back events c
 base_rest events base c none = λ i. record (rest_back events c) { landed = still i; landing = (not_landing_back (did (Base base) ∷ events) c (base_ends events base) ∙ sym (not_landing_back events c none)) i } where
   still : landed_back (did (Base base) ∷ events) c ≡ landed_back events c
   still = list_any_same _ (has_landed events) (λ n. ap (λ (o : Option (List ℕ)). are_same (Some base) o || has_landed events n) (none n)) (batches_back events c)

@@ -38,7 +38,7 @@ use Rattle.gate_state.specs.declared.reply.Why.TheVariants as why
 use Rattle.gate_queue.specs.History.{Entry, Event, did, gave, given, ends_why, happened, events_of, last_of, said_on, author_back, head_back, settings_back, phase_back, labels_back, reviews_back, approval_said, standing_back, approvers_back, landing_back, trying_back, approvers_on, change_of, change_back, look_back, stages, keeps_order, keeps_staged, state_said, base_back, IsStandingAt, IsTriedAt, AreRightHeads, IsRightOrder, Legal, StateTells, EntryTells, entry_of, orders_in, denied_by}
 use Rattle.gate_state.specs.Lanes as lanes
 use Rattle.gate_state.specs.Lanes.{batches_of, is_landing}
-use Rattle.gate_queue.specs.Machine.{broken, denial, meaning, acted, missing, on_either, has_ordered, is_ordered, has_staged, is_staged_with, empty_state, answered, quiet, then_next, about, with_desk, with_queue, effect, notices, are_present, under, accepted, lone, lone_notices, failing, try_ended, given_up, ordered_on, has_passed, goes_on, told_of, told_staging, try_if_passed, try_goes_on, try_told_of, told_trying, told, lands_with, sent_back, has_overdue, timed_out, try_timed_out, ended_on_time, head_on, first_order, starting, all_starting, done, reply_to, unless_denied, after}
+use Rattle.gate_queue.specs.Machine.{broken, heads_told, denial, meaning, acted, missing, on_either, has_ordered, is_ordered, has_staged, is_staged_with, empty_state, answered, quiet, then_next, about, with_desk, with_queue, effect, notices, are_present, under, accepted, lone, lone_notices, failing, try_ended, given_up, ordered_on, has_passed, goes_on, told_of, told_staging, try_if_passed, try_goes_on, try_told_of, told_trying, told, lands_with, sent_back, has_overdue, timed_out, try_timed_out, ended_on_time, head_on, first_order, starting, all_starting, done, reply_to, unless_denied, after}
 use Rattle.gate_state.specs.Queue as specs
 use Rattle.gate_state.specs.Queue.{lane_of}
 use Rattle.gate_state.specs.Service.{IsAlone}
@@ -53,12 +53,13 @@ use Rattle.gate_state.specs.declared.lane.Lane.{Lane}
 use Rattle.gate_queue.specs.declared.outcome.Outcome.{Outcome}
 use Rattle.gate_state.specs.declared.state.State.{State}
 use Rattle.gate_queue.proofs.After.{standing_fit}
-use Rattle.gate_queue.proofs.Doing.{about_are, accepted_are, fact_kept, clock_kept, done_kept}
+use Rattle.gate_queue.proofs.Doing.{about_are, accepted_are, status_kept, clock_kept, done_kept}
 use Rattle.gate_queue.proofs.Fitness.{opened_so, passed, unless_so}
 use Rattle.gate_queue.proofs.Meaning.{meaning_allowed, meaning_right}
 use Rattle.gate_queue.proofs.Growing.{waits}
 use Rattle.gate_state.specs.Lemmas.Numbers.{has_number}
-use Rattle.gate_queue.proofs.States.{Holds, clock_holds, ended_on_time_holds, starting_holds, still_clock, still_state, queued_held, tried_held}
+use Rattle.gate_queue.proofs.Held.{Holds, heads_told_holds}
+use Rattle.gate_queue.proofs.States.{clock_holds, ended_on_time_holds, starting_holds, still_clock, still_state, queued_held, tried_held}
 use Rattle.gate_queue.proofs.Steps.{Kept, AreNotices, IsNext, stage_on, given-append, other_number, first_used, first_kind, first_based, still_runs, tries_left_staging, starting_kept, ended_on_time_kept}
 use Rattle.gate_queue.proofs.Tested.{Tests, TestsAt, IsAt, Elsewhere, EndNone, stage_tests, other_tests, staged_tests, unasked, elsewhere_told}
 use Rattle.gate_queue.proofs.Testing.{standing_approved, stands_all, report_of, followed_runs, notices_tests, act_tests, restarted_tests, failed_tests, requeued_tests, goes_on_tests, goes_on_right}
@@ -313,22 +314,22 @@ starting_tests branch events s now is kept tests = by (lane_of branch s.queue).r
     on None based some = cc some
     on (Some base) based some = first_tests branch base based at
 
--- A STATUS
-module _ (events : List Event) (s : State) (commit name : List ℕ) (is : Holds s) (whole : Whole events s) where
-  abbrev told_back : StatusState → List Event
-  told_back state = did (Status commit name state) ∷ events
+-- A STATUS, after the open changes were told of it whose head its commit is
+module _ (events : List Event) (s : State) (commit name : List ℕ) (is : Holds s) (tests : Tests events s.queue.staging.running) (accepted : s.desk.settings ≡ settings_back events) where
+  abbrev as_told : StatusState → List Event
+  as_told state = did (Status commit name state) ∷ events
 
   -- the orders are right, and stay so after notices that end no approval
   abbrev IsTold : StatusState → Outcome → List Order → Type 0
   IsTold state told later =
-      Tests (given (told_back state) told.orders) told.state.queue.staging.running
-      × All (IsRightOrder (given (given (told_back state) told.orders) later) (Status commit name state)) told.orders
+      Tests (given (as_told state) told.orders) told.state.queue.staging.running
+      × All (IsRightOrder (given (given (as_told state) told.orders) later) (Status commit name state)) told.orders
 
   told_of_whole : (state : StatusState) (later : List Order) → EndNone later → is_required s.desk.settings name ≡ true → has_staged commit s.queue.staging ≡ true
-      → look s.desk ≡ look_back (told_back state) → IsTold state (told_of name state s) later
+      → look s.desk ≡ look_back (as_told state) → IsTold state (told_of name state s) later
   told_of_whole state later none required there same = of state same where
-    goes : (r : Report) → look s.desk ≡ look_back (told_back (report_of r)) → IsTold (report_of r) (goes_on name r s) later
-    goes r same = on s.queue.staging.running refl there whole.tests where
+    goes : (r : Report) → look s.desk ≡ look_back (as_told (report_of r)) → IsTold (report_of r) (goes_on name r s) later
+    goes r same = on s.queue.staging.running refl there tests where
       on : (running : Option Batch) → s.queue.staging.running ≡ running → option_map_or (λ (batch : Batch). is_staged_with commit batch.stage) running false ≡ true → Tests events running
           → IsTold (report_of r) (goes_on name r s) later
       on None runs so tests = cc so
@@ -345,17 +346,17 @@ module _ (events : List Event) (s : State) (commit name : List ℕ) (is : Holds 
     failed_whole : (said : StatusState) → IsTold said (failing (why.Failed name) s) later
     failed_whole said =
         let orders = (failing (why.Failed name) s).orders in (
-          failed_tests (given (told_back said) orders) s.queue.next s.queue.staging,
-          notices_right (given (given (told_back said) orders) later) (Status commit name said) orders (lone_are (why.Failed name) (lone s.queue.staging.running)),
+          failed_tests (given (as_told said) orders) s.queue.next s.queue.staging,
+          notices_right (given (given (as_told said) orders) later) (Status commit name said) orders (lone_are (why.Failed name) (lone s.queue.staging.running)),
         )
 
-    of : (said : StatusState) → look s.desk ≡ look_back (told_back said) → IsTold said (told_of name said s) later
+    of : (said : StatusState) → look s.desk ≡ look_back (as_told said) → IsTold said (told_of name said s) later
     of Success same = goes report.Success same
     of Pending same = goes report.Pending same
     of Failure same = failed_whole Failure
     of Error same = failed_whole Error
 
-  told_staging_whole : (state : StatusState) (later : List Order) → EndNone later → is_required s.desk.settings name ≡ true → look s.desk ≡ look_back (told_back state)
+  told_staging_whole : (state : StatusState) (later : List Order) → EndNone later → is_required s.desk.settings name ≡ true → look s.desk ≡ look_back (as_told state)
       → IsTold state (told_staging commit name state s) later
   told_staging_whole state later none required same = by (has_staged commit s.queue.staging) refl where
     by : (b : Bool) → has_staged commit s.queue.staging ≡ b → IsTold state (if b then told_of name state s else quiet s) later
@@ -363,11 +364,11 @@ module _ (events : List Event) (s : State) (commit name : List ℕ) (is : Holds 
     by false elsewhere = (
       act_tests events (Status commit name state) [] s.queue.staging.running s
           (λ batch runs. elsewhere_told events commit name state batch.number batch.stage
-          (sym (ap (λ (o : Option Batch). option_map_or (λ (b : Batch). is_staged_with commit b.stage) o false) runs) ∙ elsewhere)) tt is same (inl refl) whole.tests,
-      All-nil (IsRightOrder (given (told_back state) later) (Status commit name state)),
+          (sym (ap (λ (o : Option Batch). option_map_or (λ (b : Batch). is_staged_with commit b.stage) o false) runs) ∙ elsewhere)) tt is same (inl refl) tests,
+      All-nil (IsRightOrder (given (as_told state) later) (Status commit name state)),
     )
 
-  told_whole : (state : StatusState) → look s.desk ≡ look_back (told_back state) → IsTold state (told commit name state s) []
+  told_whole : (state : StatusState) → look s.desk ≡ look_back (as_told state) → IsTold state (told commit name state s) []
   told_whole state same = by (is_required s.desk.settings name) refl where
     by : (b : Bool) → is_required s.desk.settings name ≡ b
         → IsTold state (if b then then_next (told_staging commit name state s) (told_trying commit name state) else quiet s) []
@@ -376,16 +377,16 @@ module _ (events : List Event) (s : State) (commit name : List ℕ) (is : Holds 
         let later = told_trying commit name state first.state in
         let aside = told_trying_aside first.state commit name state in
         let one = told_staging_whole state later.orders aside.orders required same in (
-          then_tests (told_back state) first (told_trying commit name state) (aside_tests (given (told_back state) first.orders) first.state later aside one.0),
-          subst (λ (es : List Event). All (IsRightOrder es (Status commit name state)) (first.orders ++ later.orders)) (sym (given-append (told_back state) first.orders later.orders))
-              (All-append (IsRightOrder (given (given (told_back state) first.orders) later.orders) (Status commit name state)) first.orders later.orders one.1
-              (notices_right (given (given (told_back state) first.orders) later.orders) (Status commit name state) later.orders (end_none_are later.orders aside.orders))),
+          then_tests (as_told state) first (told_trying commit name state) (aside_tests (given (as_told state) first.orders) first.state later aside one.0),
+          subst (λ (es : List Event). All (IsRightOrder es (Status commit name state)) (first.orders ++ later.orders)) (sym (given-append (as_told state) first.orders later.orders))
+              (All-append (IsRightOrder (given (given (as_told state) first.orders) later.orders) (Status commit name state)) first.orders later.orders one.1
+              (notices_right (given (given (as_told state) first.orders) later.orders) (Status commit name state) later.orders (end_none_are later.orders aside.orders))),
         )
     by false required = (
       act_tests events (Status commit name state) [] s.queue.staging.running s
-          (λ batch runs. unasked events commit name state batch.number batch.stage (ap (λ (l : Look). is_required l.settings name) (sym whole.kept.same) ∙ required))
-          tt is same (inl refl) whole.tests,
-      All-nil (IsRightOrder (told_back state) (Status commit name state)),
+          (λ batch runs. unasked events commit name state batch.number batch.stage (ap (λ (o : Option SettingsView). is_required o name) (sym accepted) ∙ required))
+          tt is same (inl refl) tests,
+      All-nil (IsRightOrder (as_told state) (Status commit name state)),
     )
 
 -- NEW SETTINGS
@@ -540,7 +541,7 @@ module _ (events : List Event) (s : State) (is : Holds s) (whole : Whole events 
             (starting_right Staging all_events e now act e_is last.same) (starting_right Trying all_events one.state now act one_is last.same)),
       )
 
-  done_then : (act : Act) → ((now : ℕ) → act ≡ Tick now → IsMoment now) → missing s.queue act ≡ None → broken (look s.desk) act ≡ None → Holds (done s act).state
+  done_then : (act : Act) → ((now : ℕ) → act ≡ Tick now → IsMoment now) → missing s act ≡ None → broken (look s.desk) act ≡ None → Holds (done s act).state
       → Kept (given (did act ∷ events) (done s act).orders) (done s act).state → Then act
   done_then (Spoken n person spoken) limit there holds later kept =
       about_then (Spoken n person spoken) n (silent_act (Spoken n person spoken) refl refl refl (λ number. refl) (λ commit name. refl)) later kept
@@ -573,7 +574,8 @@ module _ (events : List Event) (s : State) (is : Holds s) (whole : Whole events 
   )
   done_then (Conflict batch) limit there holds later kept = given_up_then batch (ordered_on batch s.queue) later kept
   done_then (Status commit name state) limit there holds later kept =
-      told_whole events s commit name is whole state (fact_kept events s is whole.kept (Status commit name state) refl (λ c. (refl, refl)) (λ number. refl) holds).same
+      told_whole events (heads_told commit name state s) commit name (heads_told_holds s commit name state is) whole.tests (ap (λ (l : Look). l.settings) whole.kept.same) state
+      (status_kept events s is whole.kept commit name state).same
   done_then (Refused batch) limit there holds later kept =
       (requeued_tests (did (Refused batch) ∷ events) _ s.queue.next s.queue.staging, All-nil (IsRightOrder (did (Refused batch) ∷ events) (Refused batch)))
   done_then (Tick now) limit there holds later kept = tick_then now (limit now refl) holds kept
@@ -600,7 +602,7 @@ whole_by : (events : List Event) (old : State) (act : Act) → IsState old → W
 whole_by events old act is whole (Some rule) denied later = (whole, All-nil (IsRightOrder events act))
 whole_by events old act is whole None holds later =
     let means = meaning (look old.desk) act in
-    let both = none_both (missing old.queue means) (broken (look old.desk) means) (meaning_allowed old act holds) in
+    let both = none_both (missing old means) (broken (look old.desk) means) (meaning_allowed old act holds) in
     let was : Holds old = record { desk = is.desk; queue = is.queue } in
     let will : Holds (done old means).state = record { desk = later.desk; queue = later.queue } in
     let kept = done_kept events old was whole.kept means (moment_of old means will) both.0 both.1 in
@@ -727,7 +729,7 @@ tells history old act is legal =
       ordered_rightly = next.1;
       by_rule =
           rule_answered (denial old act) (acted old act).orders
-          ∙ ap (λ (s : Look). option_or (missing old.queue act) (broken s act)) whole.kept.same;
+          ∙ ap (λ (s : Look). option_or (missing old act) (broken s act)) whole.kept.same;
       denied = λ rule denied. unchanged old _ (acted old act).orders (denial old act) rule denied;
       legal = (old, legal, (refl, refl), is);
     } where

@@ -10,6 +10,7 @@ pub mod Facts
 pub mod Fitness
 pub mod Following
 pub mod Growing
+pub mod Held
 pub mod Keeping
 pub mod Landing
 pub mod Lanes
@@ -24,6 +25,7 @@ pub mod Premises
 pub mod Sets
 pub mod States
 pub mod Steps
+pub mod Telling
 pub mod Tested
 pub mod Testing
 pub mod Unseen

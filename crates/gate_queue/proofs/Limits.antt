@@ -13,7 +13,7 @@ use Rattle.gate_text.specs.declared.command.Command.{Command}
 use Rattle.gate_text.specs.declared.command.Command.TheVariants.{Ping, Approve, ApproveFor, Withdraw, Priority, Try, TryCancel, DelegateAuthor, DelegateTo, DelegateNone, Retry}
 use Rattle.gate_text.specs.declared.command.Spoken.TheVariants.{Known, Unknown}
 use Rattle.gate_rules.specs.Rules.{Look, first_failing, begins_with_rules, approval_rules, Texts, is_known, is_open, is_landing, is_open_phase, is_blocked, has_too_few_reviews, has_settings, has_base, permits, need}
-use Rattle.gate_rules.specs.View.{DeskView, empty_desk, with_role, with_base, with_clock, without_approval, look}
+use Rattle.gate_rules.specs.View.{DeskView, is_open_at, with_status, told_at, with_told, empty_desk, with_role, with_base, with_clock, without_approval, look}
 use Rattle.gate_rules.specs.declared.change.Change.{Change}
 use Rattle.gate_rules.specs.declared.change.Repeat.TheVariants as repeat
 use Rattle.gate_rules.specs.declared.rule.Rule.TheVariants.{UnknownChange, NotPermitted, NotOpen, Landing, NoSettings, NoBase}
@@ -111,6 +111,11 @@ module _ (settings : Option SettingsView) (base : Option (List ℕ)) where
   map_keeps alter None so is = tt
   map_keeps alter (Some change) so is = so change refl is
 
+  -- a change that was told of a status of its head
+  if_told : (name : List ℕ) (success b : Bool) (change : Change) → Is change → Is (cond b (with_status name success change) change)
+  if_told name success true change is = record { priority = is.priority; opened = is.opened; ready = is.ready; approvers = is.approvers; tried = is.tried; last = is.last }
+  if_told name success false change is = is
+
 -- under other settings, or on another base
 ready_still : (settings later : Option SettingsView) (base now : Option (List ℕ)) → (is_some settings ≡ true → is_some later ≡ true) → (is_some base ≡ true → is_some now ≡ true)
     → (had : Option Change) → IfSome had (IsChange settings base) → IfSome had (IsChange later now)
@@ -163,6 +168,13 @@ settings_keep desk settings is = record {
   changes = λ c. subst (λ (o : Option Change). IfSome o (IsChange (Some settings) desk.base)) (sym (get-mapped nat_cmp (settled settings) nat_cmp_total desk.changes c))
       (map_keeps (Some settings) desk.base (settled settings) (finite.get desk.changes c) (λ change here. if_ended (Some settings) desk.base (loses_approval settings change) change)
       (ready_still desk.settings (Some settings) desk.base desk.base (λ some. refl) (λ some. some) (finite.get desk.changes c) (is.changes c)));
+  clock = is.clock;
+}
+
+pub told_keeps : (desk : DeskView) (head name : List ℕ) (success : Bool) → IsDesk (look desk) → IsDesk (look (with_told head name success desk))
+told_keeps desk head name success is = record {
+  changes = λ c. subst (λ (o : Option Change). IfSome o (IsChange desk.settings desk.base)) (sym (get-mapped nat_cmp (told_at head name success) nat_cmp_total desk.changes c))
+      (map_keeps desk.settings desk.base (told_at head name success) (finite.get desk.changes c) (λ change here. if_told desk.settings desk.base name success (is_open_at head change) change) (is.changes c));
   clock = is.clock;
 }
 

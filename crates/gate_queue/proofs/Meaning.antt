@@ -21,7 +21,6 @@ use Rattle.gate_state.specs.declared.reply.Order.TheVariants.{Stage, Land, Notic
 use Rattle.gate_queue.specs.History.{Event, IsRightOrder}
 use Rattle.gate_queue.specs.Machine.{broken, missing, denial, repeated, meaning, done, unless_denied, after}
 use Rattle.gate_state.specs.State.{IsChange, RepeatKeepsLimits, IsState}
-use Rattle.gate_state.specs.declared.queue.Queue.{Queue}
 use Rattle.gate_state.specs.declared.state.State.{State}
 use Rattle.gate_queue.proofs.Wording.{none_both}
 
@@ -73,13 +72,13 @@ meaning_holds : (s : Look) (act : Act) → broken s act ≡ None → broken s (m
 meaning_holds s act holds =
     means (λ a. broken s a ≡ None) s act holds (λ n person is. repeated_holds s person n (last_command s n) refl (subst (λ a. broken s a ≡ None) is holds))
 
-meaning_there : (s : Look) (queue : Queue) (act : Act) → missing queue (meaning s act) ≡ missing queue act
-meaning_there s queue act = means (λ a. missing queue a ≡ missing queue act) s act refl (λ n person is. ap (missing queue) (sym is))
+meaning_there : (l : Look) (s : State) (act : Act) → missing s (meaning l act) ≡ missing s act
+meaning_there l s act = means (λ a. missing s a ≡ missing s act) l act refl (λ n person is. ap (missing s) (sym is))
 
 pub meaning_allowed : (s : State) (act : Act) → denial s act ≡ None → denial s (meaning (look s.desk) act) ≡ None
 meaning_allowed s act holds =
-    let both = none_both (missing s.queue act) (broken (look s.desk) act) holds in
-    λ i. option_or ((meaning_there (look s.desk) s.queue act ∙ both.0) i) (meaning_holds (look s.desk) act both.1 i)
+    let both = none_both (missing s act) (broken (look s.desk) act) holds in
+    λ i. option_or ((meaning_there (look s.desk) s act ∙ both.0) i) (meaning_holds (look s.desk) act both.1 i)
 
 -- What an act means, means itself.
 meaning_repeated : (s : Look) (n : ℕ) (person : List ℕ) (last : Option Repeat) → last_command s n ≡ last → meaning s (Spoken n person (Known (repeated last))) ≡ Spoken n person (Known (repeated last))

@@ -3,7 +3,7 @@ use Rattle.std.proofs.Common.{◌≡◌, ℕ, Bool, true, false, not, List, [], 
 use Rattle.std.proofs.lemmas.Bool.{not-true}
 use Rattle.std.specs.Option.{option_map, option_map_or}
 use Rattle.gate_text.specs.declared.command.Command.{Command}
-use Rattle.gate_rules.specs.Rules.{first_failing, begins_with_rules, approval_rules, try_rules, is_known, is_open, is_landing, is_landed, is_approved, is_open_phase, is_landed_phase, has_settings, has_base, permits, need, of_both, blocked_rule, too_few_rule}
+use Rattle.gate_rules.specs.Rules.{first_failing, begins_with_rules, approval_rules, try_rules, is_known, is_open, is_landing, is_landed, is_approved, is_open_phase, is_landed_phase, has_settings, has_base, permits, need, of_both, blocked_rule, head_status_rule, too_few_rule}
 use Rattle.gate_rules.specs.declared.change.Change.{Change}
 use Rattle.gate_rules.specs.declared.change.Phase.{Phase}
 use Rattle.gate_rules.specs.declared.rule.Rule.TheVariants.{UnknownChange, NotPermitted, NotOpen, Landing, NoSettings, NoBase, AlreadyApproved, AlreadyOpen, ChangeLanded}
@@ -28,7 +28,8 @@ fits_at events person n command holds author is =
     let base = passed (has_base s) NoBase _ settings.1 in
     let new = passed (not (is_approved s n)) AlreadyApproved _ base.1 in
     let blocked = passed_rule (of_both blocked_rule (settings_back events) (change_back events n)) _ new.1 in
-    let few = passed_rule (of_both too_few_rule (settings_back events) (change_back events n)) _ blocked.1 in
+    let reported = passed_rule (of_both head_status_rule (settings_back events) (change_back events n)) _ blocked.1 in
+    let few = passed_rule (of_both too_few_rule (settings_back events) (change_back events n)) _ reported.1 in
     let there : change_back events n ≡ option_map (change_of events n) author = ap (option_map (change_of events n)) is in
     by author (sym (ap (λ (c : Option Change). option_map_or (λ (x : Change). is_open_phase x.phase) c false) there) ∙ opened.0) settings.0
     (sym (ap (of_both blocked_rule (settings_back events)) there) ∙ blocked.0) (sym (ap (of_both too_few_rule (settings_back events)) there) ∙ few.0) where

@@ -7,10 +7,10 @@ use Rattle.std.specs.List.{fold, list_any}
 use Rattle.std.specs.Option.{unwrap_or, option_or, option_and_then, option_map_or}
 use Rattle.std.specs.Ordering.{nat_cmp}
 use Rattle.std.specs.Str.{bytes_eq}
-use Rattle.gate_rules.specs.Rules.{Texts}
+use Rattle.gate_rules.specs.Rules.{Texts, is_open_phase}
 use Rattle.gate_text.specs.Finite.{contains-each, known_by_order}
-use Rattle.gate_queue.specs.History.{Event, Mark, put, taken, marked, Delegation, to_author, to_people, to_nobody, with_author, delegated, last_of, said_on, author_back, moves, label_said, labels_back, review_said, reviews_back, delegation_said, delegates_back}
-use Rattle.gate_queue.specs.Words.{mark_of, marks, is_labeled, has_reviewed, names_person, takes_back, is_delegated}
+use Rattle.gate_queue.specs.History.{Event, Mark, put, taken, marked, Delegation, to_author, to_people, to_nobody, with_author, delegated, last_of, since, said_by, said_on, author_back, head_back, phase_back, moves, status_said, told_back, passed_back, label_said, labels_back, review_said, reviews_back, delegation_said, delegates_back}
+use Rattle.gate_queue.specs.Words.{mark_of, marks, is_labeled, has_reviewed, head_marks, has_succeeded_there, names_person, takes_back, is_delegated}
 
 -- SETS AND TESTS
 inserted : (s : Texts) (k q : List ℕ) → set.contains (set.insert s k) q ≡ (bytes_eq q k || set.contains s q)
@@ -66,6 +66,19 @@ review_step false mark reviews person had is = review_marked mark reviews person
 pub reviews_law : (events : List Event) (c : ℕ) (person : List ℕ) → set.contains (reviews_back events c) person ≡ has_reviewed events c person
 reviews_law [] c person = emptied person
 reviews_law (event ∷ events) c person = review_step (moves c event events) (said_on c review_said event events) (reviews_back events c) person _ (reviews_law events c person)
+
+-- THE STATUSES OF A HEAD
+told_law : (events : List Event) (c : ℕ) (name : List ℕ) → set.contains (told_back events c) name
+    ≡ since (λ event before. not (moves c event before) && unwrap_or (head_marks c name event before) false) (λ event before. not (moves c event before) && is_none (head_marks c name event before)) events
+told_law [] c name = emptied name
+told_law (event ∷ events) c name = review_step (moves c event events) (said_by (status_said (head_back events c)) event events) (told_back events c) name _ (told_law events c name)
+
+pub passed_law : (events : List Event) (c : ℕ) (name : List ℕ) → set.contains (passed_back events c) name ≡ has_succeeded_there events c name
+passed_law events c name = by (is_open_phase (phase_back events c)) where
+  by : (b : Bool) → set.contains (cond b (told_back events c) set.empty) name
+      ≡ (b && since (λ event before. not (moves c event before) && unwrap_or (head_marks c name event before) false) (λ event before. not (moves c event before) && is_none (head_marks c name event before)) events)
+  by true = told_law events c name
+  by false = emptied name
 
 -- DELEGATES
 or_swap : (a b : Bool) → (a || b) ≡ (b || a)

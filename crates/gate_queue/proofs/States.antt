@@ -30,7 +30,7 @@ use Rattle.gate_state.specs.declared.act.StatusState.{StatusState}
 use Rattle.gate_state.specs.declared.act.StatusState.TheVariants.{Success, Failure, Error, Pending}
 use Rattle.gate_state.specs.declared.reply.Why.{Why}
 use Rattle.gate_state.specs.declared.reply.Why.TheVariants as why
-use Rattle.gate_queue.specs.Machine.{empty_state, broken, denial, meaning, missing, has_ordered, is_ordered, has_staged, is_staged_with, effect, all_altered, without_try, closed, with_label, without_label, with_review, quiet, then_next, with_desk, with_queue, about, with_settled, settled, loses_approval, are_present, with_new_settings, under, accepted, lone, lone_altered, failing, has_passed, with_landing, to_land, if_passed, goes_on, told_of, told_staging, told_trying, try_told_of, try_goes_on, try_if_passed, try_ended, told, given_up, landed, released, released_at, released_on, sent_back, is_landing_with, lands_with, tries_left, rebased, is_overdue, has_overdue, timed_out, try_timed_out, ended_on_time, starting, done, unless_denied, after}
+use Rattle.gate_queue.specs.Machine.{empty_state, heads_told, broken, denial, meaning, missing, has_ordered, is_ordered, has_staged, is_staged_with, effect, all_altered, without_try, closed, with_label, without_label, with_review, quiet, then_next, with_desk, with_queue, about, with_settled, settled, loses_approval, are_present, with_new_settings, under, accepted, lone, lone_altered, failing, has_passed, with_landing, to_land, if_passed, goes_on, told_of, told_staging, told_trying, try_told_of, try_goes_on, try_if_passed, try_ended, told, given_up, landed, released, released_at, released_on, sent_back, is_landing_with, lands_with, tries_left, rebased, is_overdue, has_overdue, timed_out, try_timed_out, ended_on_time, starting, done, unless_denied, after}
 use Rattle.gate_state.specs.Queue as specs
 use Rattle.gate_state.specs.Service.{IsInOrder, QueueIsInOrder, IsAlone, AreAlone}
 use Rattle.gate_state.specs.declared.batch.Batch.{Batch}
@@ -53,25 +53,7 @@ use Rattle.gate_queue.proofs.Limits.{lone_keeps, all_keep, ended_keeps, untried_
 use Rattle.gate_queue.proofs.Meaning.{meaning_allowed, meaning_limits}
 use Rattle.gate_queue.proofs.Only.{opened_only, line_only, pushed_only, fewer_only, against_only}
 use Rattle.gate_queue.proofs.Wording.{none_both}
-
--- WHAT HOLDS of a state, but for the limit of the next number
-pub record Holds (s : State) : Type 0 where
-  pub desk : IsDesk (look s.desk)
-  pub queue : IsQueue s.desk s.queue
-
--- the batches of a branch, if the settings, the clock and what the branch sees have stayed
-record Same (on : Branch) (old new : DeskView) : Type 0 where
-  settings : new.settings ≡ old.settings
-  clock : new.clock ≡ old.clock
-  wanted : (c : ℕ) → (marks_on on new).wanted c ≡ (marks_on on old).wanted c
-  landing : (c : ℕ) → (marks_on on new).landing c ≡ (marks_on on old).landing c
-  priority : (c : ℕ) → (marks_on on new).priority c ≡ (marks_on on old).priority c
-
-still_branch : (on : Branch) (old new : DeskView) (lane : Lane) → Same on old new → IsBranch on old.clock old.settings (marks_on on old) lane
-    → IsBranch on new.clock new.settings (marks_on on new) lane
-still_branch on old new lane same is =
-    on_time on old new lane same.settings same.clock
-    (subst (λ (marks : Marks). IsBranch on old.clock old.settings marks lane) (λ i. record { wanted = λ c. (sym (same.wanted c)) i; landing = λ c. (sym (same.landing c)) i; priority = λ c. (sym (same.priority c)) i }) is)
+use Rattle.gate_queue.proofs.Held.{Holds, still_branch, heads_told_holds}
 
 -- AN ACT ABOUT A CHANGE
 about_holds : (s : State) (act : Act) (n : ℕ) → Holds s → ActKeepsLimits act → broken (look s.desk) act ≡ None → OnlyAt n s.desk (effect s.desk act) → Holds (about s n act).state
@@ -698,7 +680,7 @@ staged_holds s batch commit is = record { desk = is.desk; queue = by (has_ordere
   }
 
 -- ANY ACT
-pub done_holds : (s : State) (act : Act) → Holds s → ActKeepsLimits act → missing s.queue act ≡ None → broken (look s.desk) act ≡ None → Holds (done s act).state
+pub done_holds : (s : State) (act : Act) → Holds s → ActKeepsLimits act → missing s act ≡ None → broken (look s.desk) act ≡ None → Holds (done s act).state
 done_holds s (Spoken n person spoken) is limits there holds = about_holds s (Spoken n person spoken) n is limits holds (line_only s.desk n person spoken holds)
 done_holds s (Opened n author head) is limits there holds = about_holds s (Opened n author head) n is limits holds (opened_only s.desk n author head)
 done_holds s (Pushed n head) is limits there holds = about_holds s (Pushed n head) n is limits holds (pushed_only s.desk n head)
@@ -722,7 +704,7 @@ done_holds s (Conflict batch) is limits there holds = by (has_ordered batch s.qu
   by : (b : Bool) → has_ordered batch s.queue.staging ≡ b → Holds (given_up (if b then Staging else Trying) s).state
   by true ordered = failing_holds s why.Conflict is (ordered_so s.queue.staging batch ordered)
   by false ordered = try_ended_holds s why.TryFailed is
-done_holds s (Status commit name state) is limits there holds = told_holds s commit name state is
+done_holds s (Status commit name state) is limits there holds = told_holds (heads_told commit name state s) commit name state (heads_told_holds s commit name state is)
 done_holds s (Refused batch) is limits there holds = refused_holds s is
 done_holds s (Tick now) is limits there holds = tick_holds s now limits (leb-true s.desk.clock now (passed (leb s.desk.clock now) ClockBack [] holds).0) is
 
@@ -733,7 +715,7 @@ still_state s is room act limits = by (denial s act) refl where
 
   by : (rule : Option Rule) → denial s act ≡ rule → IsState (unless_denied rule s (done s means).state)
   by None holds =
-      let both = none_both (missing s.queue means) (broken (look s.desk) means) (meaning_allowed s act holds) in
+      let both = none_both (missing s means) (broken (look s.desk) means) (meaning_allowed s act holds) in
       let next = done_holds s means (record { desk = is.desk; queue = is.queue }) (meaning_limits s is act limits) both.0 both.1 in
       record { desk = next.desk; low = omega (arith, (queue_grows s means).next, is.low); high = omega (arith, (queue_grows s means).few, room); queue = next.queue }
   by (Some rule) denied = is

@@ -45,7 +45,8 @@ use Rattle.gate_queue.proofs.Growing.{waits, Grows, same_grows, failed_grows, st
 use Rattle.gate_queue.proofs.Keeping.{lands, some_there, tried_by_staging}
 use Rattle.gate_queue.proofs.Landing.{Lands, Members, list_any_skip, commit_of, landing_of, none_lands, named_heads, staged_named}
 use Rattle.gate_state.specs.Lemmas.Numbers.{has_number, all_uses}
-use Rattle.gate_queue.proofs.States.{Holds, ready, tried_ready, running_ready, queued_held, tried_held, staged_so, overdue_so, reported_holds, starting_holds}
+use Rattle.gate_queue.proofs.Held.{Holds}
+use Rattle.gate_queue.proofs.States.{ready, tried_ready, running_ready, queued_held, tried_held, staged_so, overdue_so, reported_holds, starting_holds}
 use Rattle.gate_queue.proofs.Unseen.{Unseen, order_unseen, still_unseen}
 
 abbrev once : Bool → ℕ

@@ -23,10 +23,10 @@ use Rattle.gate_state.specs.declared.reply.Head.{Head}
 use Rattle.gate_state.specs.declared.reply.Order.{Order}
 use Rattle.gate_state.specs.declared.reply.Order.TheVariants.{Stage, Land, Notice}
 use Rattle.gate_state.specs.declared.reply.Why.{Why}
-use Rattle.gate_queue.specs.History.{Event, did, gave, last_of, since, said_by, said_on, settings_back, base_back, head_said, head_back, moves_head, fit_back, approval_said, ends_it, standing_back, heads_said, heads_back, is_order_on, keeps_order, is_ordered_on, keeps_staged, is_staged_as, is_staged_back, state_said, is_bad, is_good, keeps_clean, is_clean, passes, keeps_passed, has_passed, is_order_at, keeps_head, is_unmoved, given, ends_why, IsTested, IsReadyToLand, IsRightLanding}
+use Rattle.gate_queue.specs.History.{Event, did, gave, last_of, since, said_by, said_on, settings_back, base_back, head_said, head_back, moves_head, fit_back, approval_said, ends_it, standing_back, heads_said, heads_back, is_order_on, keeps_order, is_ordered_on, keeps_staged, is_staged_as, is_staged_back, state_said, is_bad, keeps_clean, is_clean, passes, keeps_passed, has_passed, is_order_at, keeps_head, is_unmoved, given, ends_why, IsTested, IsReadyToLand, IsRightLanding}
 use Rattle.gate_rules.specs.View.{is_required}
 use Rattle.gate_state.specs.Lanes.{is_success, has_succeeded}
-use Rattle.gate_queue.specs.Machine.{is_staged_with}
+use Rattle.gate_queue.specs.Machine.{is_good, is_staged_with}
 use Rattle.gate_state.specs.declared.batch.Batch.{Batch}
 use Rattle.gate_state.specs.declared.batch.Branch.{Branch}
 use Rattle.gate_state.specs.declared.batch.Branch.TheVariants.{Staging}

@@ -37,7 +37,8 @@ use Rattle.gate_state.specs.declared.lane.Lane.{Lane}
 use Rattle.gate_state.specs.declared.queue.Queue.{Queue}
 use Rattle.gate_state.specs.declared.state.State.{State}
 use Rattle.gate_queue.proofs.Keeping.{lands, none_landing, tried_by_staging}
-use Rattle.gate_queue.proofs.States.{Holds, queued_there}
+use Rattle.gate_queue.proofs.Held.{Holds}
+use Rattle.gate_queue.proofs.States.{queued_there}
 use Rattle.gate_queue.proofs.Steps.{AreNotices}
 use Rattle.gate_queue.proofs.Tested.{Tests, TestsAt, IsOrdered, IsReported, AllStand, Elsewhere, EndNone, did_tests, notice_tests, as_reported, ordered_here, reported_here, is_tested, are_ready, still_right}
 

@@ -1,5 +1,5 @@
 -- What an act leaves as it was, act by act.
-use Rattle.std.proofs.Common.{◌≡◌, ◌<◌, ◌≤◌, ℕ, ℤ, Bool, true, false, not, ◌||◌, if◌then◌else◌, List, Option, Some, None, Result, Ok, Err, refl, sym, ◌∙◌, ap, arith}
+use Rattle.std.proofs.Common.{◌≡◌, ◌<◌, ◌≤◌, ℕ, ℤ, Bool, true, false, cond, not, ◌||◌, if◌then◌else◌, List, Option, Some, None, Result, Ok, Err, refl, sym, ◌∙◌, ap, subst, arith}
 use Rattle.std.proofs.lemmas.Bool.{or_parts, not-true, and_parts}
 use Rattle.std.proofs.lemmas.List.Folds.{list_any-append}
 use Rattle.std.proofs.lemmas.Map.Text.{is_eq-slice_cmp}
@@ -16,7 +16,7 @@ use Rattle.gate_text.specs.declared.command.Command.TheVariants.{Approve, Approv
 use Rattle.gate_text.specs.declared.command.Spoken.TheVariants.{Known, Unknown}
 use Rattle.gate_text.specs.declared.settings.fault.SettingsFault.{SettingsFault}
 use Rattle.gate_rules.specs.Rules.{is_member, last_command}
-use Rattle.gate_rules.specs.View.{DeskView, with_role, without_approval, look}
+use Rattle.gate_rules.specs.View.{DeskView, is_open_at, is_required, with_status, told_at, with_role, without_approval, look}
 use Rattle.gate_rules.specs.declared.change.Change.{Change}
 use Rattle.gate_rules.specs.declared.change.Repeat.{Repeat}
 use Rattle.gate_rules.specs.declared.change.Repeat.TheVariants as repeat
@@ -28,12 +28,14 @@ use Rattle.gate_state.specs.Queue.{batches_of, taken_out, restarted}
 use Rattle.gate_state.specs.State.{approved_on, priority_on, trying_on, IsState}
 use Rattle.gate_state.specs.declared.act.Act.{Act}
 use Rattle.gate_state.specs.declared.act.Act.TheVariants.{Spoken, Role, Settings, Base, Opened, Pushed, Closed, Labeled, Unlabeled, Review, Staged, Conflict, Status, Refused, Tick}
+use Rattle.gate_state.specs.declared.act.StatusState.{StatusState}
 use Rattle.gate_state.specs.declared.batch.Batch.{Batch}
 use Rattle.gate_state.specs.declared.batch.Branch.TheVariants.{Staging, Trying}
 use Rattle.gate_state.specs.declared.queue.Queue.{Queue}
 use Rattle.gate_state.specs.declared.state.State.{State}
-use Rattle.gate_queue.specs.Machine.{denial, repeated, done, acted, unless_denied as denied, effect, about, all_but, followed, tried_by, approval_followed, size_on, pushed, closed, labeled, with_label, without_label, reviewed, with_review, loses_approval, settled, with_new_settings, resettled, under, accepted, are_present, quiet, ordered_on, sent_back, rebased, tries_left, lands_with, with_desk}
-use Rattle.gate_queue.specs.MayChange.{Parts, no_parts, Untouched, LawOfUntouched, unless_denied, may_do, is_numbered, one_numbered, is_joined, of_change, in_front, of_base, stays_tried, of_settings, of_text, of_person, is_run, is_in_front}
+use Rattle.gate_queue.specs.Machine.{denial, repeated, done, acted, unless_denied as denied, effect, about, all_but, followed, tried_by, approval_followed, size_on, pushed, closed, labeled, with_label, without_label, reviewed, with_review, loses_approval, settled, with_new_settings, resettled, under, accepted, are_present, quiet, then_next, on_either, has_staged, is_good, heads_told, told_of, told_staging, try_told_of, told_trying, told, ordered_on, sent_back, rebased, tries_left, lands_with, with_desk}
+use Rattle.gate_queue.specs.declared.outcome.Outcome.{Outcome}
+use Rattle.gate_queue.specs.MayChange.{Parts, no_parts, with_heads, of_status, Untouched, LawOfUntouched, unless_denied, may_do, is_numbered, one_numbered, is_joined, of_change, in_front, of_base, stays_tried, of_settings, of_text, of_person, is_run, is_in_front}
 use Rattle.gate_queue.proofs.Changes.{against_same}
 use Rattle.gate_queue.proofs.Desks.{released_desk, Effect, same_effect, kept_effect, spoken_effect, opened_effect, pushed_same}
 use Rattle.gate_queue.proofs.Lanes.{joined_later, Same, enqueued_same, tried_same, taken_out_same, none_loses, taken_running, restarted_same}
@@ -188,6 +190,47 @@ settings_untouched s is (Ok settings) = by (are_present s.desk settings) where
   by true = same_untouched no_parts s
   by false = under_untouched s is settings
 
+-- A STATUS
+unstaged : (commit name : List ℕ) (state : StatusState) (s : State) → on_either (has_staged commit) s.queue ≡ false → told commit name state s ≡ quiet s
+unstaged commit name state s none = by (is_required s.desk.settings name) where
+  parts : (has_staged commit s.queue.staging ≡ false) × (has_staged commit s.queue.trying ≡ false)
+  parts = or_parts (has_staged commit s.queue.staging) (has_staged commit s.queue.trying) none
+
+  staging : told_staging commit name state s ≡ quiet s
+  staging = ap (λ (b : Bool). cond b (told_of name state s) (quiet s)) parts.0
+
+  trying : told_trying commit name state s ≡ quiet s
+  trying = ap (λ (b : Bool). cond b (try_told_of name state s) (quiet s)) parts.1
+
+  by : (b : Bool) → cond b (then_next (told_staging commit name state s) (told_trying commit name state)) (quiet s) ≡ quiet s
+  by true = ap (λ (first : Outcome). then_next first (told_trying commit name state)) staging ∙ ap (λ (next : Outcome). record { state = next.state; orders = next.orders }) trying
+  by false = refl
+
+module _ (s : State) (commit name : List ℕ) (state : StatusState) where
+  abbrev heads : State
+  heads = heads_told commit name state s
+
+  kept_elsewhere : (had : Option Change) → option_map_or (is_open_at commit) had false ≡ false → option_map (told_at commit name (is_good state)) had ≡ had
+  kept_elsewhere None other = refl
+  kept_elsewhere (Some change) other = ap (λ (b : Bool). Some (cond b (with_status name (is_good state) change) change)) other
+
+  after_heads : (may : Parts) (t : State) → Untouched may heads t → Untouched (with_heads s commit may) s t
+  after_heads may t same = record {
+    people = same.people;
+    changes = λ number other.
+        let parts = or_parts (may.change number) (option_map_or (is_open_at commit) (finite.get s.desk.changes number) false) other in
+        same.changes number parts.0 ∙ get-mapped nat_cmp (told_at commit name (is_good state)) nat_cmp_total s.desk.changes number ∙ kept_elsewhere (finite.get s.desk.changes number) parts.1;
+    batches = same.batches;
+    settings = same.settings;
+    next = same.next;
+  }
+
+  status_untouched : Untouched (of_status s commit) s (told commit name state heads).state
+  status_untouched = by (on_either (has_staged commit) s.queue) refl where
+    by : (b : Bool) → on_either (has_staged commit) s.queue ≡ b → Untouched (with_heads s commit (if b then in_front s else no_parts)) s (told commit name state heads).state
+    by true staged = after_heads (in_front s) _ (news_untouched heads _ (told_news commit name state heads))
+    by false none = after_heads no_parts _ (subst (λ (o : Outcome). Untouched no_parts heads o.state) (sym (unstaged commit name state heads none)) (same_untouched no_parts heads))
+
 -- A BASE
 base_untouched : (s : State) → IsState s → (base : List ℕ) → Untouched (of_base s) s (rebased base s)
 base_untouched s is base = record {
@@ -242,7 +285,7 @@ done_untouched s is (Unlabeled change label) = about_untouched s is change (Unla
 done_untouched s is (Review change person head approves) = about_untouched s is change (Review change person head approves) _ (kept_effect change s.desk (reviewed s.desk.settings person approves) (λ c. against_same (λ x. x.priority) (λ x. refl) _ s.desk.settings (with_review person approves c)))
 done_untouched s is (Staged batch commit) = news_untouched s _ (staged_news s (ordered_on batch s.queue) s.desk.clock commit)
 done_untouched s is (Conflict batch) = news_untouched s _ (given_up_news s (ordered_on batch s.queue))
-done_untouched s is (Status commit name state) = news_untouched s _ (told_news commit name state s)
+done_untouched s is (Status commit name state) = status_untouched s commit name state
 done_untouched s is (Refused batch) = news_untouched s _ (back_news s None)
 done_untouched s is (Tick now) = tick_untouched now s
 

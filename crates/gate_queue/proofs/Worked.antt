@@ -16,11 +16,12 @@ use Rattle.gate_state.specs.declared.act.StatusState.TheVariants.{Success, Failu
 use Rattle.gate_state.specs.declared.reply.Order.TheVariants.{Stage, Land, Notice}
 use Rattle.gate_state.specs.declared.reply.Why.TheVariants as why
 use Rattle.gate_state.specs.declared.reply.Reply.TheVariants.{Done}
-use Rattle.gate_queue.specs.History.{Event, did, gave, role_back, author_back, head_back, moves, landing_back, landed_back, phase_back, priority_back, standing_back, is_ordered_on, has_passed, is_unmoved, look_back}
+use Rattle.gate_queue.specs.History.{Event, did, gave, role_back, author_back, head_back, moves, landing_back, landed_back, passed_back, phase_back, priority_back, standing_back, is_ordered_on, has_passed, is_unmoved, look_back}
 use Rattle.gate_state.specs.Lanes.{fresh}
 use Rattle.gate_queue.specs.Machine.{empty_state, broken, denial, followed, reply_to, pushed, ends_approval, just_opened, approved_by}
 use Rattle.gate_state.specs.Queue.{empty_queue}
 use Rattle.gate_state.specs.declared.batch.Branch.TheVariants.{Staging}
+use Rattle.gate_queue.proofs.Sets.{passed_law}
 
 abbrev alice : List ℕ
 alice = 97 ∷ 108 ∷ []
@@ -119,10 +120,37 @@ module _ (text : List ℕ) (settings : SettingsView) (read : settings_of text �
   elsewhere : standing_back (gave (Notice 2 why.Conflict) ∷ approved_one) 1 ≡ true
   elsewhere = rw (read, free, enough set.empty) refl
 
--- Batch 7 has change 1 at its head, is ordered on base a, and is staged as commit b.
 abbrev ci : List ℕ
 ci = 99 ∷ 105 ∷ []
 
+-- A status has succeeded on the head of a change until another report of its name, a head move or a closing. One on another commit
+-- says nothing.
+abbrev succeeded : List Event
+succeeded = did (Status a ci Success) ∷ opened_one
+
+abbrev has_passed_after : List Event → Type 0
+has_passed_after events = set.contains (passed_back events 1) ci ≡ true
+
+abbrev has_not_after : List Event → Type 0
+has_not_after events = set.contains (passed_back events 1) ci ≡ false
+
+on_the_head : has_passed_after succeeded × has_not_after (did (Status b ci Success) ∷ opened_one) × has_not_after (did (Status a ci Failure) ∷ succeeded) × has_not_after (did (Status a ci Pending) ∷ succeeded)
+on_the_head = (
+  passed_law succeeded 1 ci,
+  passed_law (did (Status b ci Success) ∷ opened_one) 1 ci,
+  passed_law (did (Status a ci Failure) ∷ succeeded) 1 ci,
+  passed_law (did (Status a ci Pending) ∷ succeeded) 1 ci,
+)
+
+forgotten : has_passed_after (did (Pushed 1 a) ∷ succeeded) × has_not_after (did (Pushed 1 a) ∷ did (Pushed 1 b) ∷ succeeded) × has_not_after (did (Closed 1) ∷ succeeded) × has_not_after (did (Opened 1 carol a) ∷ did (Closed 1) ∷ succeeded)
+forgotten = (
+  passed_law (did (Pushed 1 a) ∷ succeeded) 1 ci,
+  passed_law (did (Pushed 1 a) ∷ did (Pushed 1 b) ∷ succeeded) 1 ci,
+  passed_law (did (Closed 1) ∷ succeeded) 1 ci,
+  passed_law (did (Opened 1 carol a) ∷ did (Closed 1) ∷ succeeded) 1 ci,
+)
+
+-- Batch 7 has change 1 at its head, is ordered on base a, and is staged as commit b.
 abbrev ordered_seven : List Event
 ordered_seven = gave (Stage 7 Staging a (record { change = 1; head = a } ∷ [])) ∷ opened_one
 

@@ -10,11 +10,11 @@ use Rattle.std.specs.Str.{bytes_eq}
 use Rattle.gate_state.specs.Acts.{on, ActKeepsLimits}
 use Rattle.gate_state.specs.declared.reply.Head.{Head}
 use Rattle.gate_state.specs.declared.reply.Why.TheVariants as why
-use Rattle.gate_queue.specs.Vocabulary.{SettingsView, settings_of, same_settings, Approve, ApproveFor, Withdraw, Priority, Try, TryCancel, DelegateAuthor, DelegateTo, DelegateNone, Known, Look, Texts, is_fit, DeskView, role_on, Change, Phase, Repeat, Nobody, RoleOf, Rule, Act, Spoken, Role, Settings, Base, Opened, Pushed, Closed, Labeled, Unlabeled, Review, Staged, Status, Refused, Tick, StatusState, Success, Failure, Error, Pending, Order, Stage, Land, Notice, Reply, Done, Denied, Why, State}
+use Rattle.gate_queue.specs.Vocabulary.{SettingsView, settings_of, same_settings, Approve, ApproveFor, Withdraw, Priority, Try, TryCancel, DelegateAuthor, DelegateTo, DelegateNone, Known, Look, Texts, is_open_phase, is_fit, DeskView, role_on, Change, Phase, Repeat, Nobody, RoleOf, Rule, Act, Spoken, Role, Settings, Base, Opened, Pushed, Closed, Labeled, Unlabeled, Review, Staged, Status, Refused, Tick, StatusState, Success, Failure, Error, Pending, Order, Stage, Land, Notice, Reply, Done, Denied, Why, State}
 use Rattle.gate_rules.specs.declared.change.Phase.TheVariants as phase
 use Rattle.gate_rules.specs.declared.change.Repeat.TheVariants as repeat
 use Rattle.gate_state.specs.Counts.{held, in_landing, of_any_priority}
-use Rattle.gate_queue.specs.Machine.{IsEmpty, broken, missing, meaning, reply_to, after, Step}
+use Rattle.gate_queue.specs.Machine.{IsEmpty, broken, missing, meaning, is_good, reply_to, after, Step}
 use Rattle.gate_state.specs.State.{IsState}
 use Rattle.gate_state.specs.declared.batch.Branch.{Branch}
 use Rattle.gate_state.specs.declared.batch.Branch.TheVariants.{Staging, Trying}
@@ -216,6 +216,19 @@ abbrev pub reviews_back : List Event → ℕ → Texts
 reviews_back [] change = set.empty
 reviews_back (event ∷ events) change = if moves change event events then set.empty else marked (said_on change review_said event events) (reviews_back events change)
 
+-- A status of a head: a success puts its name in, and all else takes it out.
+abbrev pub status_said : List ℕ → Act → Option Mark
+status_said head (Status commit name state) = then_some (bytes_eq commit head) (if is_good state then put name else taken name)
+status_said head _ = None
+
+-- what has succeeded on the head of a change since its last move; none on a change that isn't open
+abbrev pub told_back : List Event → ℕ → Texts
+told_back [] change = set.empty
+told_back (event ∷ events) change = if moves change event events then set.empty else marked (said_by (status_said (head_back events change)) event events) (told_back events change)
+
+abbrev pub passed_back : List Event → ℕ → Texts
+passed_back events change = if is_open_phase (phase_back events change) then told_back events change else set.empty
+
 -- who becomes a delegate: the author at that moment, the people of a list, or nobody any longer
 pub data Delegation : Type 0 where
   to_author : Delegation
@@ -344,7 +357,7 @@ change_of events change author = record {
   priority = priority_back events change;
   labels = labels_back events change;
   reviews = reviews_back events change;
-  passed = set.empty;
+  passed = passed_back events change;
   delegates = delegates_back events change;
   approved = approvers_back events change;
   trying = trying_back events change;
@@ -432,12 +445,6 @@ is_bad Success = false
 is_bad Failure = true
 is_bad Error = true
 is_bad Pending = false
-
-abbrev pub is_good : StatusState → Bool
-is_good Success = true
-is_good Failure = false
-is_good Error = false
-is_good Pending = false
 
 -- Since it was staged, none of these reports was bad.
 abbrev pub keeps_clean : ℕ → List ℕ → List ℕ → Event → List Event → Bool
@@ -555,8 +562,8 @@ pub record StateTells (history : List Entry) (s : State) : Type 0 where
   pub settings : s.desk.settings ≡ settings_back (events_of history)
   pub base : s.desk.base ≡ base_back (events_of history)
   pub clock : s.desk.clock ≡ clock_back (events_of history)
-  -- a change is there exactly if it was opened; then its author, head, phase, priority, labels, reviews, delegates, its last
-  -- command, and whether it is tried or landing, are those of the history
+  -- a change is there exactly if it was opened; then its author, head, phase, priority, labels, reviews, what has succeeded on
+  -- its head, delegates, its last command, and whether it is tried or landing, are those of the history
   pub changes : (change : ℕ) → finite.get s.desk.changes change ≡ change_back (events_of history) change
   -- a change has approvers exactly if it is standing, and then those of its last approval
   pub approvers : (change : ℕ) → approvers_on s.desk change ≡ approvers_back (events_of history) change
@@ -590,8 +597,8 @@ pub record EntryTells (history : List Entry) (old : State) (entry : Entry) (new 
   pub landed_once : (number : ℕ) → landings number (events_of (entry ∷ history)) ≤ 1
   pub ordered_rightly : All (IsRightOrder (events_of (entry ∷ history)) entry.act) (orders_in entry.reply)
   -- acts exactly by rule: done if no rule fails on the history before, and else denied by the first that does; news of a batch
-  -- is denied before, if no batch is where the news needs it
-  pub by_rule : denied_by entry.reply ≡ option_or (missing old.queue entry.act) (rule_back history entry.act)
+  -- is denied before, if no batch is where the news needs it, and of a status no open change has the commit as its head
+  pub by_rule : denied_by entry.reply ≡ option_or (missing old entry.act) (rule_back history entry.act)
   -- a denied act changes nothing
   pub denied : (rule : Rule) → entry.reply ≡ Denied rule → new ≡ old
   -- legality goes on

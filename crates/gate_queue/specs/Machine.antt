@@ -10,7 +10,7 @@ use Rattle.std.specs.Str.{bytes_eq}
 use Rattle.gate_state.specs.Acts.{subject}
 use Rattle.gate_state.specs.declared.reply.Head.{Head}
 use Rattle.gate_state.specs.declared.reply.Why.TheVariants as why
-use Rattle.gate_queue.specs.Vocabulary.{SettingsView, settings_of, fault_number, same_settings, Command, Ping, Approve, ApproveFor, Withdraw, Priority, Try, TryCancel, DelegateAuthor, DelegateTo, DelegateNone, Retry, Known, Unknown, SettingsFault, Look, asks, last_command, is_known, is_open, is_landed, is_member, is_blocked, has_too_few_reviews, first_failing, DeskView, empty_desk, with_role, with_change, with_settings, with_base, with_clock, with_ended, numbers_where, ended_if, without_approval, is_required, look, Change, Repeat, Nobody, Rule, UnknownChange, NotOpen, AlreadyOpen, ChangeLanded, StaleHead, NotMember, OwnChange, BadSettings, ClockBack, NoSuchBatch, SameAsBase, Act, Spoken, Role, Settings, Base, Opened, Pushed, Closed, Labeled, Unlabeled, Review, Staged, Conflict, Status, Refused, Tick, StatusState, Success, Failure, Error, Pending, Order, Stage, Land, Notice, Reply, Done, Denied, Why, State, Outcome}
+use Rattle.gate_queue.specs.Vocabulary.{SettingsView, settings_of, fault_number, same_settings, Command, Ping, Approve, ApproveFor, Withdraw, Priority, Try, TryCancel, DelegateAuthor, DelegateTo, DelegateNone, Retry, Known, Unknown, SettingsFault, Look, asks, last_command, is_known, is_open, is_landed, is_member, is_blocked, has_too_few_reviews, first_failing, DeskView, empty_desk, with_role, with_change, with_settings, with_base, with_clock, with_ended, numbers_where, ended_if, without_approval, is_required, is_open_head, with_told, look, Change, Repeat, Nobody, Rule, UnknownChange, NotOpen, AlreadyOpen, ChangeLanded, StaleHead, NotMember, OwnChange, BadSettings, ClockBack, NoSuchBatch, SameAsBase, Act, Spoken, Role, Settings, Base, Opened, Pushed, Closed, Labeled, Unlabeled, Review, Staged, Conflict, Status, Refused, Tick, StatusState, Success, Failure, Error, Pending, Order, Stage, Land, Notice, Reply, Done, Denied, Why, State, Outcome}
 use Rattle.gate_rules.specs.Rules as rules
 use Rattle.gate_rules.specs.declared.change.Phase.TheVariants as phase
 use Rattle.gate_rules.specs.declared.change.Repeat.TheVariants as repeat
@@ -87,7 +87,8 @@ row s (Tick now) = asks (nat_le s.clock now) ClockBack ∷ []
 abbrev pub broken : Look → Act → Option Rule
 broken s act = first_failing (row s act)
 
--- News of a batch is judged by this before: a running batch has the number, or the commit, and is where the news needs it.
+-- News of a batch is judged by this before: a running batch has the number, or the commit, and is where the news needs it. A status
+-- may also be of the head of an open change.
 abbrev pub is_ordered : StageOf → Bool
 is_ordered stage.Waiting = false
 is_ordered (stage.Ordered since) = true
@@ -116,16 +117,16 @@ abbrev pub on_either : (Lane → Bool) → Queue → Bool
 on_either test queue = test queue.staging || test queue.trying
 
 -- Tries don't land.
-abbrev pub missing : Queue → Act → Option Rule
-missing queue (Staged batch commit) = asks (on_either (has_ordered batch) queue) NoSuchBatch
-missing queue (Conflict batch) = asks (on_either (has_ordered batch) queue) NoSuchBatch
-missing queue (Status commit name state) = asks (on_either (has_staged commit) queue) NoSuchBatch
-missing queue (Refused batch) = asks (has_landing batch queue.staging) NoSuchBatch
-missing queue act = None
+abbrev pub missing : State → Act → Option Rule
+missing s (Staged batch commit) = asks (on_either (has_ordered batch) s.queue) NoSuchBatch
+missing s (Conflict batch) = asks (on_either (has_ordered batch) s.queue) NoSuchBatch
+missing s (Status commit name state) = asks (on_either (has_staged commit) s.queue || is_open_head commit s.desk) NoSuchBatch
+missing s (Refused batch) = asks (has_landing batch s.queue.staging) NoSuchBatch
+missing s act = None
 
 -- the rule that denies an act, if one does
 abbrev pub denial : State → Act → Option Rule
-denial s act = option_or (missing s.queue act) (broken (look s.desk) act)
+denial s act = option_or (missing s act) (broken (look s.desk) act)
 
 -- whether a refusal may want memory: to read settings, or to copy what the rule names
 abbrev pub RefusalMayWantMemory : Act → Option Rule → Type 0
@@ -396,9 +397,19 @@ try_ended why s = record {
   orders = lone_notices why (lone s.queue.trying.running);
 }
 
--- A STATUS of a commit that is tested: one that isn't required does nothing. One that has failed fails the batch. Another
--- takes the place of the last report of that name; and if all required names now report a success, the batch is to land, or
--- the try has passed. If a batch of each branch was staged with the commit, that on `Staging` comes first.
+-- A STATUS of a commit first goes to the open changes whose head that is, whether or not the settings name it.
+abbrev pub is_good : StatusState → Bool
+is_good Success = true
+is_good Failure = false
+is_good Error = false
+is_good Pending = false
+
+abbrev pub heads_told : List ℕ → List ℕ → StatusState → State → State
+heads_told commit name state s = with_desk s (with_told commit name (is_good state) s.desk)
+
+-- Then it goes to the batches that are tested as this commit: one that isn't required does nothing. One that has failed fails
+-- the batch. Another takes the place of the last report of that name; and if all required names now report a success, the batch
+-- is to land, or the try has passed. If a batch of each branch was staged with the commit, that on `Staging` comes first.
 abbrev pub has_passed : Option SettingsView → StageOf → Bool
 has_passed settings stage.Waiting = false
 has_passed settings (stage.Ordered since) = false
@@ -572,7 +583,7 @@ done s (Unlabeled change label) = about s change (Unlabeled change label)
 done s (Review change person head approves) = about s change (Review change person head approves)
 done s (Staged batch commit) = quiet (with_queue s (staged (ordered_on batch s.queue) s.desk.clock commit s.queue))
 done s (Conflict batch) = given_up (ordered_on batch s.queue) s
-done s (Status commit name state) = told commit name state s
+done s (Status commit name state) = told commit name state (heads_told commit name state s)
 done s (Refused batch) = quiet (sent_back None s)
 done s (Tick now) = then_next (ended_on_time now (with_desk s (with_clock s.desk now))) (all_starting now)
 
@@ -605,7 +616,7 @@ DeskTakesNoMemory desk (Unlabeled change label) = ⊤
 DeskTakesNoMemory desk (Review change person head approves) = ⊥
 DeskTakesNoMemory desk (Staged batch commit) = ⊤
 DeskTakesNoMemory desk (Conflict batch) = ⊥
-DeskTakesNoMemory desk (Status commit name state) = is_required desk.settings name ≡ false
+DeskTakesNoMemory desk (Status commit name state) = (is_required desk.settings name ≡ false) × (is_open_head commit desk ≡ false)
 DeskTakesNoMemory desk (Refused batch) = ⊤
 DeskTakesNoMemory desk (Tick now) = ⊤
 

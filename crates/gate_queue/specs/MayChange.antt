@@ -5,8 +5,8 @@ use Rattle.std.specs.FinMap as finite
 use Rattle.std.specs.List.{list_any}
 use Rattle.std.specs.Option.{option_map_or}
 use Rattle.std.specs.Str.{bytes_eq}
-use Rattle.gate_queue.specs.Vocabulary.{SettingsView, settings_of, Known, Priority, DeskView, SettingsFault, Rule, Act, Spoken, Role, Settings, Base, Opened, Pushed, Closed, Labeled, Unlabeled, Review, Staged, Conflict, Status, Refused, Tick, State}
-use Rattle.gate_queue.specs.Machine.{denial, after, all_but, are_present, loses_approval, with_new_settings}
+use Rattle.gate_queue.specs.Vocabulary.{SettingsView, settings_of, Known, Priority, DeskView, is_open_at, SettingsFault, Rule, Act, Spoken, Role, Settings, Base, Opened, Pushed, Closed, Labeled, Unlabeled, Review, Staged, Conflict, Status, Refused, Tick, State}
+use Rattle.gate_queue.specs.Machine.{denial, after, all_but, on_either, has_staged, are_present, loses_approval, with_new_settings}
 use Rattle.gate_state.specs.Lanes.{is_fresh_beside, is_fresh_of, last_so, loses}
 use Rattle.gate_state.specs.Lanes as lanes
 use Rattle.gate_state.specs.Queue.{batch_numbered, batches_of}
@@ -67,6 +67,15 @@ in_front s = record {
   settings = false;
 }
 
+-- A STATUS may change the open changes whose head its commit is; and if a batch is tested as this commit, what news may change.
+abbrev pub with_heads : State → List ℕ → Parts → Parts
+with_heads s commit parts = record parts {
+  change = λ number. parts.change number || option_map_or (is_open_at commit) (finite.get s.desk.changes number) false;
+}
+
+abbrev pub of_status : State → List ℕ → Parts
+of_status s commit = with_heads s commit (if on_either (has_staged commit) s.queue then in_front s else no_parts)
+
 -- A BASE may change besides the tries of changes that land.
 abbrev pub stays_tried : State → ℕ → Bool
 stays_tried s change = trying_on s.desk change && not (is_run change s.queue.staging)
@@ -108,7 +117,7 @@ may_do s (Unlabeled change label) = of_change s (priority_on s.desk change) chan
 may_do s (Review change person head approves) = of_change s (priority_on s.desk change) change
 may_do s (Staged batch commit) = in_front s
 may_do s (Conflict batch) = in_front s
-may_do s (Status commit name state) = in_front s
+may_do s (Status commit name state) = of_status s commit
 may_do s (Refused batch) = in_front s
 may_do s (Tick now) = in_front s
 

@@ -7,8 +7,8 @@ pub use Rattle.gate_text.specs.declared.command.Spoken.{Spoken as SpokenOf}
 pub use Rattle.gate_text.specs.declared.command.Spoken.TheVariants.{Known, Unknown}
 pub use Rattle.gate_text.specs.declared.settings.fault.SettingsFault.{SettingsFault}
 -- people, changes, the desk, the rules
-pub use Rattle.gate_rules.specs.Rules.{Look, Texts, asks, last_command, is_known, is_open, is_landed, is_member, is_blocked, has_too_few_reviews, is_fit, first_failing}
-pub use Rattle.gate_rules.specs.View.{DeskView, empty_desk, with_role, role_on, with_change, with_settings, with_base, with_clock, with_ended, numbers_where, ended_if, without_approval, is_required, look}
+pub use Rattle.gate_rules.specs.Rules.{Look, Texts, asks, last_command, is_known, is_open, is_landed, is_member, is_blocked, has_too_few_reviews, is_fit, is_open_phase, first_failing}
+pub use Rattle.gate_rules.specs.View.{DeskView, empty_desk, with_role, role_on, with_change, with_settings, with_base, with_clock, with_ended, numbers_where, ended_if, without_approval, is_required, is_open_at, is_open_head, with_told, look}
 pub use Rattle.gate_rules.specs.declared.change.Change.{Change}
 pub use Rattle.gate_rules.specs.declared.change.Phase.{Phase}
 pub use Rattle.gate_rules.specs.declared.change.Repeat.{Repeat}

@@ -6,8 +6,8 @@ use Rattle.std.specs.List.{list_any, All}
 use Rattle.std.specs.Option.{unwrap_or, option_and_then, option_map_or}
 use Rattle.std.specs.Str.{bytes_eq}
 use Rattle.gate_state.specs.declared.reply.Head.{Head}
-use Rattle.gate_queue.specs.History.{Event, Mark, put, taken, Delegation, to_author, to_people, to_nobody, last_of, since, said_on, author_back, moves, label_said, labels_back, review_said, reviews_back, delegation_said, delegates_back, did, gave, settings_back, base_back, IsTested}
-use Rattle.gate_queue.specs.Vocabulary.{Act, SettingsView, Base, Staged, Status, StatusState, Success, Failure, Error, Stage}
+use Rattle.gate_queue.specs.History.{Event, Mark, put, taken, Delegation, to_author, to_people, to_nobody, last_of, since, said_by, said_on, author_back, head_back, phase_back, moves, status_said, passed_back, label_said, labels_back, review_said, reviews_back, delegation_said, delegates_back, did, gave, settings_back, base_back, IsTested}
+use Rattle.gate_queue.specs.Vocabulary.{Act, is_open_phase, SettingsView, Base, Staged, Status, StatusState, Success, Failure, Error, Stage}
 use Rattle.gate_state.specs.declared.batch.Branch.{Branch}
 use Rattle.gate_state.specs.declared.batch.Branch.TheVariants.{Staging}
 
@@ -54,6 +54,17 @@ has_reviewed events change person = since
     (λ event before. not (moves change event before) && is_none (marks change review_said person event before))
     events
 
+-- A status has succeeded on the head of an open change since a success of its name was reported of that head, until another report
+-- of the name there, or a head move.
+abbrev pub head_marks : ℕ → List ℕ → Event → List Event → Option Bool
+head_marks change name event before = option_and_then (mark_of name) (said_by (status_said (head_back before change)) event before)
+
+abbrev pub has_succeeded_there : List Event → ℕ → List ℕ → Bool
+has_succeeded_there events change name = is_open_phase (phase_back events change) && since
+    (λ event before. not (moves change event before) && unwrap_or (head_marks change name event before) false)
+    (λ event before. not (moves change event before) && is_none (head_marks change name event before))
+    events
+
 -- A person is a delegate of a change since a delegation, until all are taken back.
 abbrev pub names_person : List ℕ → Option (List ℕ) → Delegation → Bool
 names_person person author to_author = option_map_or (λ name. bytes_eq person name) author false
@@ -75,6 +86,7 @@ abbrev pub LawOfSets : Type 0
 LawOfSets = (events : List Event) (change : ℕ) (name : List ℕ) →
     (set.contains (labels_back events change) name ≡ is_labeled events change name)
     × (set.contains (reviews_back events change) name ≡ has_reviewed events change name)
+    × (set.contains (passed_back events change) name ≡ has_succeeded_there events change name)
     × (set.contains (delegates_back events change) name ≡ is_delegated events change name)
 
 -- TESTED. Not one of the events is this one.

@@ -2,7 +2,7 @@ ghost use Rattle.std.specs.Prelude.{◌≡◌, [], ◌∷◌, not, ◌&&◌, ◌
 ghost use Rattle.std.specs.FinMap as finite;
 ghost use Rattle.std.specs.FinSet as set;
 ghost use Rattle.std.specs.List.{fold};
-ghost use Rattle.gate_rules.specs.View.{look, with_change, without_approval};
+ghost use Rattle.gate_rules.specs.View.{is_open_head, look, with_change, with_status, with_told, without_approval};
 ghost use Rattle.gate_state.specs.declared.reply.Order.TheVariants.{Notice};
 ghost use Rattle.gate_state.specs.declared.reply.Why.TheVariants as why;
 ghost use Rattle.gate_queue.specs.Machine as machine;
@@ -10,7 +10,7 @@ ghost use Rattle.gate_queue.specs.Machine.{altered, ends_approval, ends_either, 
 
 use gate_rules::{Change, Desk, Phase, Repeat, has_too_few_reviews, is_blocked};
 use gate_state::{Order, Orders, Why};
-use gate_text::{ChangeNo, Commit, ContextSet, Label, LabelSet, Name, NameSet, Names};
+use gate_text::{ChangeNo, Commit, Context, ContextSet, Label, LabelSet, Name, NameSet, Names};
 use std::alloc::{AllocError, Global};
 
 /// No orders.
@@ -404,4 +404,71 @@ pub fn review(
         }
     }
     keep(desk, alloc, number, was_approved, change, Why::Reviews)
+}
+
+/// Tells the open changes whose head this commit is of a status of it: a success puts the name among those that have succeeded
+/// there, and all else takes it away. If there is no memory for it, some of them may be told.
+pub fn tell_heads(
+    desk: &mut Desk,
+    alloc: Global,
+    commit: Commit,
+    name: &Context,
+    is_success: bool,
+) -> Result<(), AllocError>
+    ensures ok { OnOk result (desk.new ≡ with_told commit name.now is_success desk.old) }
+    ensures no_memory { is_open_head commit desk.old ≡ false → IsOk result }
+{
+    if !desk.is_open_head(commit) {
+        return Ok(());
+    }
+    let numbers = desk.open_at(alloc, commit)?;
+    tell_all(desk, alloc, numbers.as_slice(), name, is_success)
+}
+
+fn tell_all(
+    desk: &mut Desk,
+    alloc: Global,
+    numbers: &[ChangeNo],
+    name: &Context,
+    is_success: bool,
+) -> Result<(), AllocError>
+    ensures { OnOk result (desk.new ≡ machine.all_altered (with_status name.now is_success) desk.old numbers.now) }
+{
+    for number in numbers {
+        tell_one(desk, alloc, *number, name, is_success)?;
+    }
+    Ok(())
+}
+
+fn tell_one(
+    desk: &mut Desk,
+    alloc: Global,
+    number: ChangeNo,
+    name: &Context,
+    is_success: bool,
+) -> Result<(), AllocError>
+    ensures { OnOk result (desk.new ≡ altered desk.old number (with_status name.now is_success)) }
+{
+    match desk.alter(number, |change| tell(change, alloc, name, is_success)) {
+        Some(told) => told,
+        None => Ok(()),
+    }
+}
+
+fn tell(
+    change: &mut Change,
+    alloc: Global,
+    name: &Context,
+    is_success: bool,
+) -> Result<(), AllocError>
+    ensures ok { OnOk result (change.new ≡ with_status name.now is_success change.old) }
+    ensures head { change.new.head ≡ change.old.head }
+    ensures phase { change.new.phase ≡ change.old.phase }
+{
+    if is_success {
+        change.passed.insert(name.copy(alloc)?)?;
+    } else {
+        change.passed.remove(name);
+    }
+    Ok(())
 }

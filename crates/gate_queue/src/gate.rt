@@ -130,7 +130,7 @@ impl Gate {
     }
 
     /// The rule that would deny the act: the first of its row that fails, and nothing if all hold; on a full gate too.
-    /// `AllocError` if there is no memory to read settings, or to copy a label that the rule names.
+    /// `AllocError` if there is no memory to read settings, or to copy a label or a status that the rule names.
     pub fn refusal(&self, alloc: Global, act: &Act) -> Result<Option<Rule>, AllocError>
         ensures value { IfOk result (λ rule. rule ≡ denial self.now act.now) }
         ensures cause { IfErr result (λ _. RefusalMayWantMemory act.now (denial self.now act.now)) }

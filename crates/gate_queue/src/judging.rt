@@ -1,7 +1,7 @@
-ghost use Rattle.std.specs.Prelude.{◌≡◌, [], IfOk, IfErr, IsOk};
+ghost use Rattle.std.specs.Prelude.{◌≡◌, ◌||◌, [], IfOk, IfErr, IsOk};
 ghost use Rattle.gate_text.specs.Settings.{settings_of};
 ghost use Rattle.gate_rules.specs.Rules.{first_failing};
-ghost use Rattle.gate_rules.specs.View.{look};
+ghost use Rattle.gate_rules.specs.View.{is_open_head, look};
 ghost use Rattle.gate_state.specs.declared.act.Act.TheVariants as act;
 ghost use Rattle.gate_queue.specs.Machine as machine;
 ghost use Rattle.gate_queue.specs.Machine.{RefusalMayWantMemory, DeskTakesNoMemory, denial, bad_settings, is_ordered, is_staged_with, of_open_change, opening_row, review_row, row};
@@ -12,7 +12,7 @@ use gate_text::{ChangeNo, Commit, Name, SettingsFault, Text, read_settings};
 use std::alloc::{AllocError, Global};
 
 /// The rule that denies an act: the first of its row that fails, and nothing if all hold. `AllocError` if there is
-/// no memory to read settings, or to copy a label that the rule names.
+/// no memory to read settings, or to copy a label or a status that the rule names.
 pub fn rule_of(
     desk: &Desk,
     queue: &Queue,
@@ -48,7 +48,9 @@ pub fn rule_of(
         }
         Act::Staged { commit, .. } => Ok(base_rule(desk, *commit)),
         Act::Conflict { .. } => Ok(None),
-        Act::Status { commit, .. } if !any_staged(queue, *commit) => Ok(Some(Rule::NoSuchBatch)),
+        Act::Status { commit, .. } if !is_awaited(desk, queue, *commit) => {
+            Ok(Some(Rule::NoSuchBatch))
+        }
         // Tries don't land.
         Act::Refused { batch } if !has_landing(&queue.staging, *batch) => {
             Ok(Some(Rule::NoSuchBatch))
@@ -85,8 +87,15 @@ fn is_ordered(stage: &Stage) -> bool
     }
 }
 
-// Whether a batch that is tested, on either branch, was staged with this commit.
-fn any_staged(queue: &Queue, commit: Commit) -> bool
+// Whether a status of this commit is of use: a batch that is tested was staged with it, or it is the head of an open change.
+fn is_awaited(desk: &Desk, queue: &Queue, commit: Commit) -> bool
+    ensures { result ≡ (machine.on_either (machine.has_staged commit) queue.now || is_open_head commit desk.now) }
+{
+    any_staged(queue, commit) || desk.is_open_head(commit)
+}
+
+/// Whether a batch that is tested, on either branch, was staged with this commit.
+pub fn any_staged(queue: &Queue, commit: Commit) -> bool
     ensures { result ≡ machine.on_either (machine.has_staged commit) queue.now }
 {
     has_staged(&queue.staging, commit) || has_staged(&queue.trying, commit)

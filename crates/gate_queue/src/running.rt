@@ -1,13 +1,13 @@
 ghost use Rattle.std.specs.Prelude.{◌≡◌, ◌≤◌, true, false, is_none, IfOk, IfSome, IsOk};
 ghost use Rattle.std.specs.List.{list_all};
-ghost use Rattle.gate_rules.specs.View.{is_required};
+ghost use Rattle.gate_rules.specs.View.{is_open_head, is_required};
 ghost use Rattle.gate_state.specs.Lanes.{has_succeeded};
 ghost use Rattle.gate_state.specs.Queue as queue_specs;
 ghost use Rattle.gate_state.specs.declared.batch.Branch.TheVariants.{Staging};
 ghost use Rattle.gate_queue.specs.Machine as machine;
 
 use crate::changing;
-use crate::changing::{no_orders, one_notice, one_order};
+use crate::changing::{no_orders, one_notice, one_order, tell_heads};
 use crate::judging::has_staged;
 use crate::outcome::{Outcome, quiet, with_first};
 use gate_rules::Desk;
@@ -68,10 +68,37 @@ pub fn end_try(state: State, alloc: Global, why: Why) -> Result<Outcome, AllocEr
     })
 }
 
-/// Takes what a status of a tested commit says. One that isn't required does nothing. One that has failed ends the running
-/// batch. Another is kept, and if all required ones have succeeded then, the batch is to land, or the try has passed. A batch on
-/// `Staging` comes before one on `Trying`. `AllocError` if there is no memory for it.
+/// Takes what a status of a commit says. The open changes whose head that is are told of it first. Then it goes to the running
+/// batches that were staged with this commit, that on `Staging` before that on `Trying`. One that isn't required does nothing
+/// there. One that has failed ends the batch. Another is kept, and if all required ones have succeeded then, the batch is to
+/// land, or the try has passed. `AllocError` if there is no memory for it.
 pub fn take_status(
+    state: State,
+    alloc: Global,
+    commit: Commit,
+    name: &Context,
+    said: StatusState,
+) -> Result<Outcome, AllocError>
+    requires { state.queue.next ≤ 8_999_999_999_999_996 }
+    ensures value { IfOk result (λ outcome. outcome ≡ machine.told commit name.now said (machine.heads_told commit name.now said state)) }
+    ensures no_memory { is_required state.desk.settings name.now ≡ false → is_open_head commit state.desk ≡ false → IsOk result }
+{
+    let State { mut desk, queue } = state;
+    tell_heads(&mut desk, alloc, commit, name, is_good(said))?;
+    tell_batches(State { desk, queue }, alloc, commit, name, said)
+}
+
+fn is_good(said: StatusState) -> bool
+    ensures { result ≡ machine.is_good said }
+{
+    match said {
+        StatusState::Success => true,
+        StatusState::Failure | StatusState::Error | StatusState::Pending => false,
+    }
+}
+
+// Takes a status of the commit of a batch that is tested.
+fn tell_batches(
     state: State,
     alloc: Global,
     commit: Commit,

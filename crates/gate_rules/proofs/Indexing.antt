@@ -18,7 +18,7 @@ use Rattle.std.specs.List.{list_all, list_any}
 use Rattle.gate_text.specs.Values.{Decides-values}
 use Rattle.gate_rules.specs.View.{DeskView, AreOpenAt, is_open_at, is_open_head}
 use Rattle.std.proofs.lemmas.Bool.Decides.{Decides-eqb}
-use Rattle.gate_text.specs.Finite.{mapped_values, get-mapped}
+use Rattle.gate_text.specs.Finite.{mapped_values, get-mapped, true_or, false_unless}
 use Rattle.gate_rules.specs.Heads.{among, has, is_head, is_place, open_head, open_head_at, IsIndexOf}
 use Rattle.gate_rules.specs.Rules.{is_open_phase}
 use Rattle.gate_rules.specs.declared.change.Change.{Change}
@@ -31,23 +31,15 @@ abbrev under : Index → List ℕ → Option (BTreeSet ℕ)
 under index head = tree.get (slice_cmp nat_cmp) index head
 
 -- A SET OF NUMBERS with one more, or one less
-with_true : (b rest : Bool) → cond b true rest ≡ (b || rest)
-with_true true rest = refl
-with_true false rest = refl
-
-with_false : (b rest : Bool) → cond b false rest ≡ (not b && rest)
-with_false true rest = refl
-with_false false rest = refl
-
 module _ (old new : BTreeSet ℕ) (number : ℕ) (n : ℕ) where
   same_way : eq_by_cmp nat_cmp number n ≡ (n == number)
   same_way = (eq_by_cmp_equiv nat_cmp_total).symm number n ∙ sym (unsigned_ties n number)
 
   pub one_more : tree_set.Updates nat_cmp old new number true → tree_set.contains nat_cmp new n ≡ ((n == number) || tree_set.contains nat_cmp old n)
-  one_more updates = updates.0 n ∙ ap (λ (b : Bool). cond b true (tree_set.contains nat_cmp old n)) same_way ∙ with_true (n == number) (tree_set.contains nat_cmp old n)
+  one_more updates = updates.0 n ∙ ap (λ (b : Bool). cond b true (tree_set.contains nat_cmp old n)) same_way ∙ true_or (n == number) (tree_set.contains nat_cmp old n)
 
   pub one_less : tree_set.Updates nat_cmp old new number false → tree_set.contains nat_cmp new n ≡ (not (n == number) && tree_set.contains nat_cmp old n)
-  one_less updates = updates.0 n ∙ ap (λ (b : Bool). cond b false (tree_set.contains nat_cmp old n)) same_way ∙ with_false (n == number) (tree_set.contains nat_cmp old n)
+  one_less updates = updates.0 n ∙ ap (λ (b : Bool). cond b false (tree_set.contains nat_cmp old n)) same_way ∙ false_unless (n == number) (tree_set.contains nat_cmp old n)
 
 pub same_keys : (old new : BTreeSet ℕ) → new.keys ≡ old.keys → (n : ℕ) → tree_set.contains nat_cmp new n ≡ tree_set.contains nat_cmp old n
 same_keys old new same n = ap (λ (keys : List ℕ). tree_set.contains nat_cmp (record { keys = keys }) n) same
@@ -137,9 +129,6 @@ one_head None now h was_so now_so = cc was_so
 one_head (Some was) None h was_so now_so = cc now_so
 one_head (Some was) (Some now) h was_so now_so = ap Some (sym ((bytes_eq-Decides h was).0 was_so) ∙ (bytes_eq-Decides h now).0 now_so)
 
-same_number : (m n : ℕ) → (m == n) ≡ true → m ≡ n
-same_number m n is = (Decides-eqb m n).0 is
-
 module _ (changes : FinMap nat_cmp Change) (number : ℕ) (change : Change) where
   now : (n : ℕ) → open_head_at (map.insert changes number change) n ≡ cond (n == number) (open_head change) (open_head_at changes n)
   now n =
@@ -156,14 +145,14 @@ module _ (changes : FinMap nat_cmp Change) (number : ℕ) (change : Change) wher
       added h n ∙ ap (λ (b : Bool). (is_head (open_head change) h && (n == number)) || b) (is h n) ∙ by (n == number) refl ∙ ap (λ (o : Option (List ℕ)). is_head o h) (sym (now n)) where
         by : (b : Bool) → (n == number) ≡ b
             → ((is_head (open_head change) h && b) || is_head (open_head_at changes n) h) ≡ is_head (cond b (open_head change) (open_head_at changes n)) h
-        by true at = both_or _ _ (ap (λ m. is_head (open_head_at changes m) h) (same_number n number at) ∙ ap (λ (o : Option (List ℕ)). is_head o h) same)
+        by true at = both_or _ _ (ap (λ m. is_head (open_head_at changes m) h) ((Decides-eqb n number).0 at) ∙ ap (λ (o : Option (List ℕ)). is_head o h) same)
         by false at = neither _ _
 
   -- one that was altered where it stands
   pub index_same : (heads : Heads) → IsIndexOf changes heads → open_head_at changes number ≡ open_head change → IsIndexOf (map.insert changes number change) heads
   index_same heads is same h n = is h n ∙ ap (λ (o : Option (List ℕ)). is_head o h) (by (n == number) refl ∙ sym (now n)) where
     by : (b : Bool) → (n == number) ≡ b → open_head_at changes n ≡ cond b (open_head change) (open_head_at changes n)
-    by true at = ap (open_head_at changes) (same_number n number at) ∙ same
+    by true at = ap (open_head_at changes) ((Decides-eqb n number).0 at) ∙ same
     by false at = refl
 
   -- one that isn't open any longer
@@ -173,7 +162,7 @@ module _ (changes : FinMap nat_cmp Change) (number : ℕ) (change : Change) wher
       left h n ∙ ap (λ (b : Bool). not (is_head (open_head_at changes number) h && (n == number)) && b) (is h n) ∙ by (n == number) refl ∙ ap (λ (o : Option (List ℕ)). is_head o h) (sym (now n)) where
         by : (b : Bool) → (n == number) ≡ b
             → (not (is_head (open_head_at changes number) h && b) && is_head (open_head_at changes n) h) ≡ is_head (cond b (open_head change) (open_head_at changes n)) h
-        by true at = gone (is_head (open_head_at changes number) h) _ (ap (λ m. is_head (open_head_at changes m) h) (same_number n number at)) ∙ ap (λ (o : Option (List ℕ)). is_head o h) (sym shut)
+        by true at = gone (is_head (open_head_at changes number) h) _ (ap (λ m. is_head (open_head_at changes m) h) ((Decides-eqb n number).0 at)) ∙ ap (λ (o : Option (List ℕ)). is_head o h) (sym shut)
         by false at = stays (is_head (open_head_at changes number) h) _
 
   -- and one that has moved
@@ -188,7 +177,7 @@ module _ (changes : FinMap nat_cmp Change) (number : ℕ) (change : Change) wher
 
         by : (b : Bool) → (n == number) ≡ b
             → (not (was && b) && ((is_head (open_head change) h && b) || is_head (open_head_at changes n) h)) ≡ is_head (cond b (open_head change) (open_head_at changes n)) h
-        by true at = moved_on was _ _ (ap (λ m. is_head (open_head_at changes m) h) (same_number n number at)) (λ was_so now_so. other (one_head (open_head_at changes number) (open_head change) h was_so now_so))
+        by true at = moved_on was _ _ (ap (λ m. is_head (open_head_at changes m) h) ((Decides-eqb n number).0 at)) (λ was_so now_so. other (one_head (open_head_at changes number) (open_head change) h was_so now_so))
         by false at = left_alone was _ _
 
   -- one that could not be kept, and wasn't there
@@ -200,7 +189,7 @@ module _ (changes : FinMap nat_cmp Change) (number : ℕ) (change : Change) wher
       ∙ by (n == number) refl where
         by : (b : Bool) → (n == number) ≡ b
             → (not (is_head (open_head change) h && b) && ((is_head (open_head change) h && b) || is_head (open_head_at changes n) h)) ≡ is_head (open_head_at changes n) h
-        by true at = undone _ _ (ap (λ m. is_head (open_head_at changes m) h) (same_number n number at) ∙ ap (λ (c : Option Change). is_head (option_and_then open_head c) h) absent)
+        by true at = undone _ _ (ap (λ m. is_head (open_head_at changes m) h) ((Decides-eqb n number).0 at) ∙ ap (λ (c : Option Change). is_head (option_and_then open_head c) h) absent)
         by false at = left_alone (is_head (open_head change) h) _ _
 
 -- an alteration that keeps the head of a change, and one that shuts it

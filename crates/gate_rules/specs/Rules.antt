@@ -21,7 +21,7 @@ use Rattle.gate_rules.specs.declared.role.Role.TheVariants as role
 use Rattle.gate_rules.specs.declared.role.Level.{Level}
 use Rattle.gate_rules.specs.declared.role.Level.TheVariants as level
 use Rattle.gate_rules.specs.declared.rule.Rule.{Rule}
-use Rattle.gate_rules.specs.declared.rule.Rule.TheVariants.{UnknownChange, NotACommand, NotPermitted, NotOpen, NothingToRetry, Landing, NoSettings, NoBase, AlreadyApproved, NotApproved, AlreadyTrying, NotTrying, Blocked, TooFewReviews}
+use Rattle.gate_rules.specs.declared.rule.Rule.TheVariants.{UnknownChange, NotACommand, NotPermitted, NotOpen, NothingToRetry, Landing, NoSettings, NoBase, AlreadyApproved, NotApproved, AlreadyTrying, NotTrying, Blocked, TooFewReviews, HeadStatus}
 
 -- WHAT THE RULES READ: roles, the changes that were opened, the settings and the base, if there are any, and the clock
 pub record Look : Type 0 where
@@ -116,7 +116,7 @@ has_settings s = is_some s.settings
 abbrev pub has_base : Look → Bool
 has_base s = is_some s.base
 
--- sets of texts: of the labels of a change, or of the people who have reviewed it
+-- sets of texts: of the labels of a change, of the people who have reviewed it, or of the statuses that have succeeded on its head
 abbrev pub Texts : Type 0
 Texts = FinSet (slice_cmp nat_cmp)
 
@@ -126,6 +126,10 @@ blocking_label settings labels = find (λ label. set.contains labels label) sett
 
 abbrev pub is_blocked : SettingsView → Texts → Bool
 is_blocked settings labels = is_some (blocking_label settings labels)
+
+-- the first of the statuses that the settings want on the head of a change, in their order, that hasn't succeeded there
+abbrev pub missing_status : SettingsView → Texts → Option (List ℕ)
+missing_status settings passed = find (λ name. not (set.contains passed name)) settings.pr_status
 
 abbrev pub has_too_few_reviews : SettingsView → Texts → Bool
 has_too_few_reviews settings reviews = nat_lt (set.len reviews) settings.required_approvals
@@ -141,9 +145,12 @@ abbrev pub asks : Bool → Rule → Option Rule
 asks true rule = None
 asks false rule = Some rule
 
--- the rule on the labels of a change, and the rule on its reviews
+-- the rule on the labels of a change, on the statuses of its head, and on its reviews
 abbrev pub blocked_rule : SettingsView → Change → Option Rule
 blocked_rule settings change = option_map Blocked (blocking_label settings change.labels)
+
+abbrev pub head_status_rule : SettingsView → Change → Option Rule
+head_status_rule settings change = option_map HeadStatus (missing_status settings change.passed)
 
 abbrev pub too_few_rule : SettingsView → Change → Option Rule
 too_few_rule settings change = asks (not (has_too_few_reviews settings change.reviews)) (TooFewReviews (set.len change.reviews) settings.required_approvals)
@@ -174,6 +181,7 @@ approval_rules s change =
     ∷ asks (has_base s) NoBase
     ∷ asks (not (is_approved s change)) AlreadyApproved
     ∷ of_both blocked_rule s.settings (s.change change)
+    ∷ of_both head_status_rule s.settings (s.change change)
     ∷ of_both too_few_rule s.settings (s.change change)
     ∷ []
 
@@ -228,4 +236,5 @@ line_rule s person change spoken = first_failing (line_row s person change spoke
 -- whether an answer of this rule copies what it names, for which memory may be wanting
 abbrev pub MayWantMemory : Option Rule → Type 0
 MayWantMemory (Some (Blocked label)) = ⊤
+MayWantMemory (Some (HeadStatus name)) = ⊤
 MayWantMemory _ = ⊥

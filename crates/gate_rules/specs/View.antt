@@ -3,6 +3,7 @@ use Rattle.std.specs.Prelude.{◌≡◌, ℕ, ◌==◌, Bool, true, false, ◌&&
 use Rattle.std.specs.Ordering.{nat_cmp}
 use Rattle.std.specs.Cmp.Lexicographic.{slice_cmp}
 use Rattle.std.specs.FinMap as map
+use Rattle.std.specs.FinSet as set
 use Rattle.std.specs.FinMap.{FinMap}
 use Rattle.std.specs.List.{list_any}
 use Rattle.std.specs.Option.{option_map_or, unwrap_or}
@@ -61,6 +62,16 @@ is_open_at head change = is_open_phase change.phase && bytes_eq head change.head
 -- whether an open change has this head
 abbrev pub is_open_head : List ℕ → DeskView → Bool
 is_open_head head desk = list_any (λ (entry : ℕ × Change). is_open_at head entry.1) (map.entries desk.changes)
+
+-- A status of the head of a change: a success puts its name among those that have succeeded there, and all else takes it away.
+abbrev pub with_status : List ℕ → Bool → Change → Change
+with_status name success change = record change { passed = if success then set.insert change.passed name else set.remove change.passed name }
+
+abbrev pub told_at : List ℕ → List ℕ → Bool → Change → Change
+told_at head name success change = if is_open_at head change then with_status name success change else change
+
+abbrev pub with_told : List ℕ → List ℕ → Bool → DeskView → DeskView
+with_told head name success desk = record desk { changes = mapped_values (told_at head name success) desk.changes }
 
 -- whether these are the numbers of the open changes that have it
 abbrev pub AreOpenAt : List ℕ → DeskView → List ℕ → Type 0

@@ -3,7 +3,7 @@ ghost use Rattle.std.specs.Option.{option_copied};
 ghost use Rattle.gate_rules.specs.Rules as rules;
 
 use crate::change::Change;
-use gate_text::{Label, Settings};
+use gate_text::{Context, Label, Settings};
 
 /// The first of the blocking labels, in the order of the settings, that the change has.
 pub fn blocking_label<'a>(settings: &'a Settings, change: &Change) -> Option<&'a Label>
@@ -20,6 +20,16 @@ pub fn is_blocked(settings: &Settings, change: &Change) -> bool
     ensures value { result ≡ rules.is_blocked settings.now change.now.labels }
 {
     blocking_label(settings, change).is_some()
+}
+
+/// The first of the statuses that the settings want on the head of a change, in their order, that hasn't succeeded there.
+pub fn missing_status<'a>(settings: &'a Settings, change: &Change) -> Option<&'a Context>
+    ensures value { option_copied result ≡ rules.missing_status settings.now change.now.passed }
+{
+    settings
+        .pr_status()
+        .iter()
+        .find(|name| !change.passed.contains(name))
 }
 
 /// Whether the change has fewer reviews than the settings ask for.

@@ -50,7 +50,8 @@ pub enum Rule {
     BadSettings(u8),
     /// The reading is less than the clock.
     ClockBack,
-    /// No batch of this number is where the act needs it.
+    /// No batch of this number is where the act needs it; or of a status, no batch is tested as this commit, and no open change
+    /// has it as its head.
     NoSuchBatch,
     /// The commit is the present base.
     SameAsBase,

@@ -1,6 +1,6 @@
 use crate::checks::cut;
 use gate_rules::{Change, Phase, Repeat, Role, Rule};
-use gate_text::{ChangeNo, Commit, ContextSet, Label, LabelSet, Name, NameSet, Names};
+use gate_text::{ChangeNo, Commit, Context, ContextSet, Label, LabelSet, Name, NameSet, Names};
 use std::alloc::Global;
 use std::process::Abort;
 
@@ -10,6 +10,10 @@ pub(crate) fn name(rt: &impl Abort, alloc: Global, text: &str) -> Name {
 
 fn label(rt: &impl Abort, alloc: Global, text: &str) -> Label {
     Label::read(alloc, text).expect(rt, "a label")
+}
+
+fn context(rt: &impl Abort, alloc: Global, text: &str) -> Context {
+    Context::read(alloc, text).expect(rt, "a status name")
 }
 
 pub(crate) fn number(rt: &impl Abort, text: &str) -> ChangeNo {
@@ -48,6 +52,17 @@ fn label_set(rt: &impl Abort, alloc: Global, list: &str) -> LabelSet {
     if list != "-" {
         for word in list.split(',') {
             set.insert(label(rt, alloc, word)).expect(rt, "memory");
+        }
+    }
+    set
+}
+
+// The status names of a list, and none of an empty one.
+fn context_set(rt: &impl Abort, alloc: Global, list: &str) -> ContextSet {
+    let mut set = ContextSet::new(alloc);
+    if !list.is_empty() {
+        for word in list.split(',') {
+            set.insert(context(rt, alloc, word)).expect(rt, "memory");
         }
     }
     set
@@ -92,8 +107,9 @@ fn last(rt: &impl Abort, alloc: Global, word: &str) -> Option<Repeat> {
 }
 
 // The change of a text: author, head, phase, priority, labels, reviews, delegates, approvers and last command, with `-` for
-// none. The phase is `opened`, `closed` or `landed`; an open change that is trying or landing has `trying`, `landing` or
-// `trying-landing`, and a closed one `closed-trying` or `closed-landing`.
+// none, and behind them the statuses that have succeeded on its head, if there are any. The phase is `opened`, `closed` or
+// `landed`; an open change that is trying or landing has `trying`, `landing` or `trying-landing`, and a closed one
+// `closed-trying` or `closed-landing`.
 pub(crate) fn change(rt: &impl Abort, alloc: Global, text: &str) -> Change {
     let (author, rest) = cut(text);
     let (head, rest) = cut(rest);
@@ -102,7 +118,8 @@ pub(crate) fn change(rt: &impl Abort, alloc: Global, text: &str) -> Change {
     let (labels, rest) = cut(rest);
     let (reviews, rest) = cut(rest);
     let (delegates, rest) = cut(rest);
-    let (approver_list, last_word) = cut(rest);
+    let (approver_list, rest) = cut(rest);
+    let (last_word, passed) = cut(rest);
     Change {
         author: name(rt, alloc, author),
         head: commit(rt, alloc, head),
@@ -110,7 +127,7 @@ pub(crate) fn change(rt: &impl Abort, alloc: Global, text: &str) -> Change {
         priority: priority.parse::<i32>().expect(rt, "a priority"),
         labels: label_set(rt, alloc, labels),
         reviews: name_set(rt, alloc, reviews),
-        passed: ContextSet::new(alloc),
+        passed: context_set(rt, alloc, passed),
         delegates: name_set(rt, alloc, delegates),
         approved: approvers(rt, alloc, approver_list),
         trying: phase_word.contains("trying"),

@@ -374,6 +374,34 @@ const RULES: &str = "
         mia 1 bors retry => done
         role mia nobody => set
         mia 1 bors retry => 3 NotPermitted ReviewerOrDelegate
+        new => set
+        // Two statuses are wanted on the head, lint before build. They are asked for after the labels and before the reviews.
+        settings status = ['ci']|block_labels = ['hold']|required_approvals = 1|pr_status = ['lint', 'build', 'lint'] => set
+        base 0 => set
+        1 carol a opened 0 - - - - - => set
+        2 carol a opened 0 - mia - - r+ build,ci => set
+        3 carol a opened 0 - - - - r=mia lint => set
+        4 carol a opened 0 hold - - - r+ => set
+        5 carol a opened 0 - - - - r+ lint,build => set
+        6 carol a opened 0 - mia - - r+ lint,build => set
+        7 carol a opened 0 - mia - alice r+ => set
+        8 carol a opened 0 - - - - try => set
+        alice 1 bors r+ => 21 HeadStatus lint
+        alice 2 bors r=zoe => 21 HeadStatus lint
+        alice 2 bors retry => 21 HeadStatus lint
+        alice 3 bors r+ => 21 HeadStatus build
+        alice 3 bors retry => 21 HeadStatus build
+        alice 4 bors r+ => 10 Blocked hold
+        alice 4 bors retry => 10 Blocked hold
+        alice 5 bors r=zoe => 11 TooFewReviews 0 1
+        alice 5 bors retry => 11 TooFewReviews 0 1
+        alice 6 bors r+ => done
+        alice 6 bors retry => done
+        alice 7 bors r+ => 9 AlreadyApproved
+        // A try asks for none.
+        mia 8 bors try => done
+        mia 8 bors retry => done
+        eve 1 bors r+ => 3 NotPermitted ReviewerOrDelegate
     ";
 
 // The level that a command needs, and whether the person has it.

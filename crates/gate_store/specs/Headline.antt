@@ -54,9 +54,9 @@ history_after history s [] = history
 history_after history s (act ∷ acts) = history_after (entry_for s act ∷ history) (after s act) acts
 
 -- BY RULE. The first rule that fails is read on the history before the act. One alone is read on the state: news of a batch is
--- denied if no batch is where the news needs it.
+-- denied if no batch is where the news needs it; a status may also be of the head of an open change.
 abbrev pub failing : List Entry → State → Act → Option Rule
-failing history s act = option_or (missing s.queue act) (rule_back history act)
+failing history s act = option_or (missing s act) (rule_back history act)
 
 abbrev pub IsAnswered : Option Rule → State → Act → Type 0
 -- none fails: the act is done

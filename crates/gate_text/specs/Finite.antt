@@ -96,11 +96,11 @@ module _ {K X : Type 0} (R : K → K → Ordering) where
       ∙ map.entries-from_sorted R es rise
 
 -- SETS
-true_or : (b c : Bool) → cond b true c ≡ (b || c)
+pub true_or : (b c : Bool) → cond b true c ≡ (b || c)
 true_or true c = refl
 true_or false c = refl
 
-false_unless : (b c : Bool) → cond b false c ≡ (not b && c)
+pub false_unless : (b c : Bool) → cond b false c ≡ (not b && c)
 false_unless true c = refl
 false_unless false c = refl
 

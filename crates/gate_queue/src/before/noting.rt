@@ -4,7 +4,7 @@ ghost use Rattle.std.specs.FinMap.{get};
 ghost use Rattle.std.specs.Option.{option_copied, option_map_or};
 ghost use Rattle.gate_queue.specs.Before.{HasNoted, IsBefore, NotesMore, with_batch, with_change, with_person, with_settings};
 ghost use Rattle.gate_queue.specs.Machine.{after, all_but};
-ghost use Rattle.gate_queue.specs.MayChange.{in_front as front_of, may_do, of_base, of_change, of_settings, of_text};
+ghost use Rattle.gate_queue.specs.MayChange.{in_front as front_of, may_do, of_base, of_change, of_settings, of_status, of_text};
 ghost use Rattle.gate_queue.specs.Touching.{lists};
 ghost use Rattle.gate_state.specs.Lanes.{loses};
 ghost use Rattle.gate_state.specs.State.{priority_on};
@@ -13,13 +13,14 @@ ghost use Rattle.gate_state.specs.declared.state.State.{State as StateOf};
 
 use crate::before::Before;
 use crate::gate::Gate;
+use crate::judging::any_staged;
 use crate::laws::law_of_untouched;
 use crate::settings::{LosesApproval, are_present};
 use crate::touching::{StaysTried, in_front, that_lose, that_may_join, that_may_settle};
 use gate_rules::Role;
 use gate_state::{Act, Batch, State};
 use gate_text::{
-    ChangeNo, Command, Name, Settings, SettingsFault, Spoken, Text, TryCopy, read_settings,
+    ChangeNo, Command, Commit, Name, Settings, SettingsFault, Spoken, Text, TryCopy, read_settings,
 };
 use std::alloc::{AllocError, Global};
 use std::collections::BTreeMap;
@@ -61,11 +62,9 @@ impl Before {
             Act::Role { person, .. } => self.note_person(alloc, state, person),
             Act::Settings { text } => self.note_text(alloc, state, text),
             Act::Base { .. } => self.note_base(alloc, state),
-            Act::Staged { .. }
-            | Act::Conflict { .. }
-            | Act::Status { .. }
-            | Act::Refused { .. }
-            | Act::Tick { .. } => self.note_front(alloc, state),
+            Act::Status { commit, .. } => self.note_status(alloc, state, *commit),
+            Act::Staged { .. } | Act::Conflict { .. } | Act::Refused { .. } | Act::Tick { .. } =>
+                self.note_front(alloc, state),
         }
     }
 
@@ -95,6 +94,25 @@ impl Before {
         self.note_running(alloc, state, &state.queue.staging.running)?;
         self.note_running(alloc, state, &state.queue.trying.running)?;
         self.note_batches(alloc, state, numbers.as_slice())?;
+        Ok(())
+    }
+
+    // Notes what a status of a commit may change.
+    fn note_status(
+        &mut self,
+        alloc: Global,
+        state: &State,
+        commit: Commit,
+    ) -> Result<(), AllocError>
+        ensures more { OnOk result (NotesMore state.now self.old self.new) }
+        ensures has { OnOk result (HasNoted (of_status state.now commit) self.new) }
+    {
+        let told = state.desk.open_at(alloc, commit)?;
+        self.note_changes(alloc, state, told.as_slice())?;
+        if !any_staged(&state.queue, commit) {
+            return Ok(());
+        }
+        self.note_front(alloc, state)?;
         Ok(())
     }
 

@@ -4,7 +4,7 @@ ghost use Rattle.gate_rules.specs.View.{look};
 
 use super::Desk;
 use crate::change::{Change, Phase, Repeat};
-use crate::fitness::blocking_label;
+use crate::fitness::{blocking_label, missing_status};
 use crate::rule::Rule;
 use gate_text::{ChangeNo, Command, Name, Settings, Spoken};
 use std::alloc::{AllocError, Global};
@@ -68,7 +68,7 @@ impl Desk {
     }
 
     /// The rule that denies what a person's line about a change says: the first of its rules that fails, and nothing
-    /// if all hold. `AllocError` comes only if the rule names a label, which is a copy.
+    /// if all hold. `AllocError` comes only if the rule names a label or a status, which is a copy.
     pub fn rule(
         &self,
         alloc: Global,
@@ -274,17 +274,20 @@ impl Desk {
     }
 }
 
-// The first that fails of the rules on a change's labels and reviews.
+// The first that fails of the rules on a change's labels, on the statuses of its head, and on its reviews.
 fn fitness_rule(
     alloc: Global,
     settings: &Settings,
     change: &Change,
 ) -> Result<Option<Rule>, AllocError>
-    ensures value { IfOk result (λ rule. rule ≡ rules.first_failing (rules.blocked_rule settings.now change.now ∷ rules.too_few_rule settings.now change.now ∷ [])) }
-    ensures cause { IfErr result (λ _. rules.MayWantMemory (rules.first_failing (rules.blocked_rule settings.now change.now ∷ rules.too_few_rule settings.now change.now ∷ []))) }
+    ensures value { IfOk result (λ rule. rule ≡ rules.first_failing (rules.blocked_rule settings.now change.now ∷ rules.head_status_rule settings.now change.now ∷ rules.too_few_rule settings.now change.now ∷ [])) }
+    ensures cause { IfErr result (λ _. rules.MayWantMemory (rules.first_failing (rules.blocked_rule settings.now change.now ∷ rules.head_status_rule settings.now change.now ∷ rules.too_few_rule settings.now change.now ∷ []))) }
 {
     if let Some(label) = blocking_label(settings, change) {
         return Ok(Some(Rule::Blocked(label.copy(alloc)?)));
+    }
+    if let Some(name) = missing_status(settings, change) {
+        return Ok(Some(Rule::HeadStatus(name.copy(alloc)?)));
     }
     let have = change.reviews.len();
     let need = settings.required_approvals();

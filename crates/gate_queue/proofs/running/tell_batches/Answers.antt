@@ -2,7 +2,7 @@ use Rattle.std.proofs.Common.{◌≡◌, Bool, true, if◌then◌else◌, IfOk, 
 use Rattle.gate_rules.specs.View.{is_required}
 use Rattle.gate_queue.specs.Machine.{told_staging, told_trying, told, then_next, quiet}
 use Rattle.gate_queue.specs.declared.outcome.Outcome.{Outcome}
-use Rattle.gate_queue.proofs.running.take_status.Goals as goal
+use Rattle.gate_queue.proofs.running.tell_batches.Goals as goal
 
 pub returns-then-is_required-clause-value : goal.returns-then-is_required-clause-value
 returns-then-is_required-clause-value c =
