@@ -128,6 +128,13 @@ fn print_put<W: Write>(row: &Row, writer: &mut W) -> io::Result<()> {
             &[row.report],
             writer,
         ),
+        Row::Wanted(row) => print_columns(
+            "put wanted",
+            &[row.kind, row.place],
+            &[row.word.as_str()],
+            &[],
+            writer,
+        ),
     }
 }
 
@@ -202,6 +209,13 @@ fn print_deletion<W: Write>(key: &RowKey, writer: &mut W) -> io::Result<()> {
             "delete statuses",
             &[*batch],
             &[name.as_str()],
+            &[],
+            writer,
+        ),
+        RowKey::Wanted { kind, place } => print_columns(
+            "delete wanted",
+            &[*kind, *place],
+            &[],
             &[],
             writer,
         ),

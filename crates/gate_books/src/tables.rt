@@ -6,7 +6,7 @@ use std::alloc::Global;
 use std::io::{self, Read, Write};
 
 // The tables, and a statement that shows the rows of each by their key.
-const TABLES: [(&str, &str); 8] = [
+const TABLES: [(&str, &str); 9] = [
     ("desk", "SELECT * FROM desk ORDER BY one"),
     ("people", "SELECT * FROM people ORDER BY name"),
     ("changes", "SELECT * FROM changes ORDER BY number"),
@@ -18,6 +18,7 @@ const TABLES: [(&str, &str); 8] = [
     ("members", "SELECT * FROM members ORDER BY batch, place"),
     ("statuses", "SELECT * FROM statuses ORDER BY batch, name"),
     ("answers", "SELECT * FROM answers ORDER BY id"),
+    ("wanted", "SELECT * FROM wanted ORDER BY kind, place"),
 ];
 
 /// Serves all lines over a book in a database, drops the answers, and prints the rows of the tables: one on each line, the name

@@ -30,6 +30,7 @@ same_back a b is = record {
   batches = IsPermutation-sym a.batches b.batches is.batches;
   members = IsPermutation-sym a.members b.members is.members;
   statuses = IsPermutation-sym a.statuses b.statuses is.statuses;
+  wanted = IsPermutation-sym a.wanted b.wanted is.wanted;
 }
 
 pub same_then : (a b c : Rows) → AreSame a b → AreSame b c → AreSame a c
@@ -41,6 +42,7 @@ same_then a b c one other = record {
   batches = IsPermutation-trans a.batches b.batches c.batches one.batches other.batches;
   members = IsPermutation-trans a.members b.members c.members one.members other.members;
   statuses = IsPermutation-trans a.statuses b.statuses c.statuses one.statuses other.statuses;
+  wanted = IsPermutation-trans a.wanted b.wanted c.wanted one.wanted other.wanted;
 }
 
 pub same_rows : (a b : Rows) → a ≡ b → AreSame a b
@@ -52,4 +54,5 @@ same_rows a b is = subst (AreSame a) is (record {
   batches = IsPermutation-refl a.batches;
   members = IsPermutation-refl a.members;
   statuses = IsPermutation-refl a.statuses;
+  wanted = IsPermutation-refl a.wanted;
 })

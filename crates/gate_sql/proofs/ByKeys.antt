@@ -14,6 +14,7 @@ use Rattle.gate_tables.specs.Marks as marks_texts
 use Rattle.gate_tables.specs.Members as members_texts
 use Rattle.gate_tables.specs.People as people_texts
 use Rattle.gate_tables.specs.Statuses as statuses_texts
+use Rattle.gate_tables.specs.Wanted as wanted_texts
 use Rattle.gate_tables.specs.declared.row.Rows.{Rows}
 
 pub same_by_keys : (rows : Rows) → AreSame rows (by_keys rows)
@@ -25,6 +26,7 @@ same_by_keys rows = record {
   batches = by_key_moved forms.batches rows.batches;
   members = by_key_moved forms.members rows.members;
   statuses = by_key_moved forms.statuses rows.statuses;
+  wanted = by_key_moved forms.wanted rows.wanted;
 }
 
 pub keys_by_keys : (rows : Rows) → HaveKeys rows → HaveKeys (by_keys rows)
@@ -36,6 +38,7 @@ keys_by_keys rows keys = record {
   batches = by_key_apart forms.batches batches_texts.keyed rows.batches keys.batches;
   members = by_key_apart forms.members members_texts.keyed rows.members keys.members;
   statuses = by_key_apart forms.statuses statuses_texts.keyed rows.statuses keys.statuses;
+  wanted = by_key_apart forms.wanted wanted_texts.keyed rows.wanted keys.wanted;
 }
 
 pub led_by_keys : LawOfDifferences → (was now rows : Rows) → HaveKeys was → HaveKeys now → AreSame rows was → AreSame (applied (differences (by_keys was) (by_keys now)) rows) now
@@ -44,4 +47,4 @@ led_by_keys law was now rows was_apart now_apart same =
     same_then _ (by_keys now) now led (same_back now (by_keys now) (same_by_keys now))
 
 pub none_have_keys : HaveKeys no_rows
-none_have_keys = record { desk = tt; people = tt; changes = tt; marks = tt; batches = tt; members = tt; statuses = tt }
+none_have_keys = record { desk = tt; people = tt; changes = tt; marks = tt; batches = tt; members = tt; statuses = tt; wanted = tt }

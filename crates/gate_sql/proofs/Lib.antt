@@ -7,7 +7,6 @@ pub mod Each
 pub mod Elements
 pub mod Entries
 pub mod Holding
-pub mod Joins
 pub mod KeyOrders
 pub mod Keys
 pub mod Lanes
@@ -23,3 +22,4 @@ pub mod Scanning
 pub mod Shown
 pub mod Since
 pub mod Unmatched
+pub mod Wanted

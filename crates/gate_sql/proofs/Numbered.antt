@@ -18,7 +18,7 @@ use Rattle.gate_state.specs.Lanes as lane
 use Rattle.gate_state.specs.Queue.{batch_numbered, batches_of}
 use Rattle.gate_state.specs.declared.batch.Batch.{Batch}
 use Rattle.gate_state.specs.declared.queue.Queue.{Queue}
-use Rattle.gate_sql.proofs.Keys.{Apart}
+use Rattle.gate_tables.specs.Apart.{AreApartBy}
 
 -- an entry at its place, where its key isn't there yet
 module _ {K X : Type 0} (R : K → K → Ordering) where
@@ -58,7 +58,7 @@ none_long : {X : Type 0} (xs : List X) → length xs ≡ 0 → xs ≡ []
 none_long [] none = refl
 none_long (x ∷ xs) none = absurd cc
 
-pub listed_by_number : (batches : List Batch) → Apart (λ (b : Batch). b.number) batches → IsPermutation (map entry_of batches) (finite.entries (by_number batches))
+pub listed_by_number : (batches : List Batch) → AreApartBy (λ (b : Batch). b.number) batches → IsPermutation (map entry_of batches) (finite.entries (by_number batches))
 listed_by_number [] apart = subst (IsPermutation []) (sym (none_long (finite.entries (by_number [])) (sym (finite.len-entries (by_number [])) ∙ finite.len-empty nat_cmp Batch))) (IsPermutation-refl [])
 listed_by_number (b ∷ batches) apart =
     let rest = by_number batches in

@@ -5,7 +5,7 @@ use Rattle.std.proofs.lemmas.List.Elements.{filter-append}
 use Rattle.std.specs.Cmp.{first_so, second_so, nat_cmp_total, unsigned_Decides}
 use Rattle.std.specs.Cmp.Lexicographic.{slice_cmp, nat_list_cmp_total}
 use Rattle.std.specs.FinMap as finite
-use Rattle.std.specs.FinMap.{FinMap, nat_cmp-IsAntisymmetric, slice_cmp-IsAntisymmetric}
+use Rattle.std.specs.FinMap.{nat_cmp-IsAntisymmetric, slice_cmp-IsAntisymmetric}
 use Rattle.std.specs.Int.{is_in_range}
 use Rattle.std.specs.List.{filter, flat_map, list_all}
 use Rattle.std.specs.Option.{option_map_or, unwrap_or}
@@ -32,8 +32,8 @@ use Rattle.gate_state.specs.declared.batch.Stage.TheVariants as stage
 use Rattle.gate_state.specs.declared.lane.Lane.{Lane}
 use Rattle.gate_state.specs.declared.state.State.{State}
 use Rattle.gate_tables.specs.Contents.{AreSame}
-use Rattle.gate_sql.specs.Decoding.{batch_in, change_in, desk_in, first, is_member, is_on, lane_in, last_in, list_in, phase_in, role_in, settings_in, state_by, state_in}
-use Rattle.gate_sql.specs.Encoding.{flag, approvals_of, size_of, timeout_of, batch_row, branch_number, change_row, desk_row, last_number, marks_of, members_of, names_of, person_row, phase_number, role_number, rows_of, settings_marks, stage_number, statuses_of}
+use Rattle.gate_sql.specs.Decoding.{batch_in, change_in, desk_in, first, is_member, is_on, lane_in, last_in, list_in, phase_in, role_in, settings_in, state_by, state_in, wanted_in}
+use Rattle.gate_sql.specs.Encoding.{flag, approvals_of, size_of, timeout_of, batch_row, branch_number, change_row, desk_row, last_number, marks_of, members_of, names_of, person_row, phase_number, role_number, rows_of, stage_number, statuses_of, wanted_of}
 use Rattle.gate_sql.specs.Standing.{KeepsLimits}
 use Rattle.gate_tables.specs.declared.row.ChangeRow.{ChangeRow}
 use Rattle.gate_tables.specs.declared.row.PersonRow.{PersonRow}
@@ -42,7 +42,8 @@ use Rattle.gate_sql.proofs.Batches.{alone_in_both, among_all, batch_again}
 use Rattle.gate_sql.proofs.Canonical.{got, map_again}
 use Rattle.gate_sql.proofs.Elements.{Among, HaveSame, among-append, among-append_left, among-append_right, same-filter, same-map, same-permutation, same-sym}
 use Rattle.gate_sql.proofs.Lanes.{first_again, running_branch, waiting_branch, lane_again, listed, map_same, mapped_back, rows_of_lane}
-use Rattle.gate_sql.proofs.Marks.{approvers_again, same_number, block_labels_again, delegates_again, labels_again, map_back, names_again, passed_again, pr_status_again, reviews_again, status_again}
+use Rattle.gate_sql.proofs.Marks.{approvers_again, same_number, delegates_again, labels_again, map_back, names_again, passed_again, reviews_again}
+use Rattle.gate_sql.proofs.Wanted.{block_labels_again, pr_status_again, status_again}
 use Rattle.gate_sql.proofs.Scanning.{any-among}
 use Rattle.gate_sql.proofs.Members.{belongs_there, or_false, in_batch, in_landing_batch, landing_there, member_is}
 
@@ -257,10 +258,10 @@ module _ (s : State) (fit : Fits s) where
           (found.0, among-append_left found.0 (batches_of s.queue.staging) (batches_of s.queue.trying) found.1, landing_stage found.0.stage ∙ found.2, found.3)
 
 -- THE SETTINGS
-settings_again : (settings : Option SettingsView) (changes : FinMap nat_cmp Change) (rows : Rows) → HaveSame rows.marks (settings_marks settings ++ flat_map marks_of (finite.entries changes))
+settings_again : (settings : Option SettingsView) (rows : Rows) → HaveSame rows.wanted (wanted_of settings)
     → IfSome settings (λ found. are_settings found ≡ true) → settings_in rows (timeout_of settings) (approvals_of settings) (size_of settings) ≡ settings
-settings_again None changes rows same within = refl
-settings_again (Some settings) changes rows same within =
+settings_again None rows same within = refl
+settings_again (Some settings) rows same within =
     let after_status = second_so (are_items 1 64 settings.status) _ within in
     let after_timeout = second_so (is_in_range 1 2147483647 settings.timeout_sec) _ after_status in
     let after_labels = second_so (are_items 0 64 settings.block_labels) _ after_timeout in
@@ -268,20 +269,20 @@ settings_again (Some settings) changes rows same within =
     let some : int_eq (pos settings.timeout_sec) (pos 0) ≡ false = positive settings.timeout_sec (leb-true 1 settings.timeout_sec
     (first_so (nat_le 1 settings.timeout_sec) (nat_le settings.timeout_sec 2147483647) (first_so (is_in_range 1 2147483647 settings.timeout_sec) _ after_status))) in
     ap (λ (b : Bool). cond b None (Some (record {
-      status = list_in (pos 0) (pos 6) rows.marks;
+      status = wanted_in (pos 1) rows.wanted;
       timeout_sec = settings.timeout_sec;
-      block_labels = list_in (pos 0) (pos 7) rows.marks;
+      block_labels = wanted_in (pos 2) rows.wanted;
       required_approvals = settings.required_approvals;
       max_batch_size = cond (int_eq (pos (unwrap_or settings.max_batch_size 0)) (pos 0)) None (Some (unwrap_or settings.max_batch_size 0));
-      pr_status = list_in (pos 0) (pos 9) rows.marks;
+      pr_status = wanted_in (pos 3) rows.wanted;
     }))) some
     ∙ (λ i. Some (record {
-      status = status_again settings changes rows.marks same i;
+      status = status_again settings rows.wanted same i;
       timeout_sec = settings.timeout_sec;
-      block_labels = block_labels_again settings changes rows.marks same i;
+      block_labels = block_labels_again settings rows.wanted same i;
       required_approvals = settings.required_approvals;
       max_batch_size = size_again settings.max_batch_size size i;
-      pr_status = pr_status_again settings changes rows.marks same i;
+      pr_status = pr_status_again settings rows.wanted same i;
     }))
 
 -- THE STATE
@@ -292,9 +293,11 @@ module _ (s : State) (rows : Rows) (fit : Fits s) (limits : KeepsLimits s.desk) 
   changes : HaveSame rows.changes (map change_row (finite.entries s.desk.changes))
   changes = same-sym (map change_row (finite.entries s.desk.changes)) rows.changes (same-permutation (map change_row (finite.entries s.desk.changes)) rows.changes same.changes)
 
-  marks : HaveSame rows.marks (settings_marks s.desk.settings ++ flat_map marks_of (finite.entries s.desk.changes))
-  marks = same-sym (settings_marks s.desk.settings ++ flat_map marks_of (finite.entries s.desk.changes)) rows.marks
-      (same-permutation (settings_marks s.desk.settings ++ flat_map marks_of (finite.entries s.desk.changes)) rows.marks same.marks)
+  marks : HaveSame rows.marks (flat_map marks_of (finite.entries s.desk.changes))
+  marks = same-sym (flat_map marks_of (finite.entries s.desk.changes)) rows.marks (same-permutation (flat_map marks_of (finite.entries s.desk.changes)) rows.marks same.marks)
+
+  wanted : HaveSame rows.wanted (wanted_of s.desk.settings)
+  wanted = same-sym (wanted_of s.desk.settings) rows.wanted (same-permutation (wanted_of s.desk.settings) rows.wanted same.wanted)
 
   batches : HaveSame rows.batches (map batch_row (batches_of s.queue.staging ++ batches_of s.queue.trying))
   batches = same-sym (map batch_row (batches_of s.queue.staging ++ batches_of s.queue.trying)) rows.batches
@@ -314,14 +317,14 @@ module _ (s : State) (rows : Rows) (fit : Fits s) (limits : KeepsLimits s.desk) 
     head = c.head;
     phase = phase_again c.phase i;
     priority = c.priority;
-    labels = labels_again s.desk.settings s.desk.changes rows.marks marks n c there i;
-    reviews = reviews_again s.desk.settings s.desk.changes rows.marks marks n c there i;
-    passed = passed_again s.desk.settings s.desk.changes rows.marks marks n c there i;
-    delegates = delegates_again s.desk.settings s.desk.changes rows.marks marks n c there i;
-    approved = approved_again c.approved (list_in (pos n) (pos 4) rows.marks) (approvers_again s.desk.settings s.desk.changes rows.marks marks n c there) i;
+    labels = labels_again s.desk.changes rows.marks marks n c there i;
+    reviews = reviews_again s.desk.changes rows.marks marks n c there i;
+    passed = passed_again s.desk.changes rows.marks marks n c there i;
+    delegates = delegates_again s.desk.changes rows.marks marks n c there i;
+    approved = approved_again c.approved (list_in (pos n) (pos 4) rows.marks) (approvers_again s.desk.changes rows.marks marks n c there) i;
     trying = trying_again s fit rows members batches n c there i;
     landing = landing_again s fit rows members batches n c there i;
-    last = last_again c.last (list_in (pos n) (pos 5) rows.marks) (names_again s.desk.settings s.desk.changes rows.marks marks n c there) i;
+    last = last_again c.last (list_in (pos n) (pos 5) rows.marks) (names_again s.desk.changes rows.marks marks n c there) i;
   }
 
   abbrev pub person_in : PersonRow → List ℕ × Role
@@ -345,7 +348,7 @@ module _ (s : State) (rows : Rows) (fit : Fits s) (limits : KeepsLimits s.desk) 
   desk_again = λ i. record {
     roles = roles_again i;
     changes = changes_again i;
-    settings = settings_again s.desk.settings s.desk.changes rows marks limits.settings i;
+    settings = settings_again s.desk.settings rows wanted limits.settings i;
     base = base_again s.desk.base limits.base i;
     clock = s.desk.clock;
   }

@@ -1,8 +1,8 @@
 -- Two lists that are two first parts and the same others behind them, in any order.
-use Rattle.std.proofs.Common.{List, [], ◌++◌, map, flat_map, IsPermutation, sym, subst, append_assoc}
+use Rattle.std.proofs.Common.{List, [], ◌++◌, map, flat_map, IsPermutation, sym, subst}
 use Rattle.std.proofs.lemmas.List.{append-nil, map-append}
 use Rattle.std.proofs.lemmas.Grind.{flat_map-append}
-use Rattle.std.proofs.lemmas.List.Sorted.{IsPermutation-append, IsPermutation-append_comm, IsPermutation-append_left, IsPermutation-append_right, IsPermutation-map, IsPermutation-refl, IsPermutation-trans}
+use Rattle.std.proofs.lemmas.List.Sorted.{IsPermutation-map, IsPermutation-refl, IsPermutation-trans}
 use Rattle.gate_tables.proofs.Moved.{IsPermutation-flat_map}
 
 pub record Parted {X : Type 0} (then now old new : List X) : Type 0 where
@@ -30,29 +30,6 @@ module _ {X : Type 0} where
     was = IsPermutation-trans (then ++ parts.others) old olds parts.was was;
     is = IsPermutation-trans (now ++ parts.others) new news parts.is is;
   }
-
-  paired : (xs ys os ps : List X) → IsPermutation ((xs ++ ys) ++ (os ++ ps)) ((xs ++ os) ++ (ys ++ ps))
-  paired xs ys os ps =
-      subst (λ all. IsPermutation all ((xs ++ os) ++ (ys ++ ps))) (sym (append_assoc xs ys (os ++ ps)))
-      (subst (IsPermutation (xs ++ (ys ++ (os ++ ps)))) (sym (append_assoc xs os (ys ++ ps)))
-      (IsPermutation-append_right xs (ys ++ (os ++ ps)) (os ++ (ys ++ ps)) middle))
-    where
-      middle : IsPermutation (ys ++ (os ++ ps)) (os ++ (ys ++ ps))
-      middle =
-          subst (λ all. IsPermutation all (os ++ (ys ++ ps))) (append_assoc ys os ps)
-          (subst (IsPermutation ((ys ++ os) ++ ps)) (append_assoc os ys ps) (IsPermutation-append_left ps (ys ++ os) (os ++ ys) (IsPermutation-append_comm ys os)))
-
-  -- one after the other
-  pub both_parted : {thens nows olds news then now old new : List X} → Parted thens nows olds news → Parted then now old new → Parted (thens ++ then) (nows ++ now) (olds ++ old) (news ++ new)
-  both_parted {thens} {nows} {olds} {news} {then} {now} {old} {new} one other = record {
-    others = one.others ++ other.others;
-    was = joined thens then olds old one.was other.was;
-    is = joined nows now news new one.is other.is;
-  } where
-    joined : (xs ys us vs : List X) → IsPermutation (xs ++ one.others) us → IsPermutation (ys ++ other.others) vs → IsPermutation ((xs ++ ys) ++ (one.others ++ other.others)) (us ++ vs)
-    joined xs ys us vs p q =
-        IsPermutation-trans ((xs ++ ys) ++ (one.others ++ other.others)) ((xs ++ one.others) ++ (ys ++ other.others)) (us ++ vs) (paired xs ys one.others other.others)
-        (IsPermutation-append (xs ++ one.others) us (ys ++ other.others) vs p q)
 
 module _ {X Y : Type 0} {then now old new : List X} where
   pub map_parted : (f : X → Y) → Parted then now old new → Parted (map f then) (map f now) (map f old) (map f new)

@@ -23,10 +23,9 @@ use Rattle.gate_sql.proofs.NewBatches.{known, known_sorted, known_tells, none_fr
 use Rattle.gate_sql.proofs.Noted.{noted_parted}
 use Rattle.gate_sql.proofs.Numbered.{by_number, entry_of, get_of_queue, listed_by_number}
 use Rattle.gate_sql.proofs.OneState.{Fits, facts}
-use Rattle.gate_sql.proofs.Parted.{Parted, all_parted, both_parted, flat_parted, map_parted, none_parted, parted_moved}
+use Rattle.gate_sql.proofs.Parted.{Parted, all_parted, flat_parted, map_parted, none_parted, parted_moved}
 use Rattle.gate_sql.specs.Changed.{by_keys}
-use Rattle.gate_sql.specs.Encoding.{batch_row, change_row, desk_row, desk_row_of, marks_of, members_of, person_row, rows_of, settings_marks, statuses_of}
-use Rattle.gate_sql.specs.Standing.{KeepsLimits}
+use Rattle.gate_sql.specs.Encoding.{batch_row, change_row, desk_row, desk_row_of, marks_of, members_of, person_row, rows_of, statuses_of, wanted_of}
 use Rattle.gate_sql.specs.Parts.{AreStates, LawOfChangesSince, LawOfKeysSince, are_there, batches_now, batches_then, changes_since, new_numbers, rows_now, rows_then, settings_then, were_there}
 use Rattle.gate_tables.proofs.Moved.{keys_moved}
 use Rattle.gate_tables.specs.Applied.{applied}
@@ -98,10 +97,10 @@ module _ (before : Noted) (old new : State) (is : IsBefore before old new) (old_
       (λ number. subst (λ (found : Option (Option _)). Tells found (finite.get old.desk.changes number) (finite.get new.desk.changes number)) (finite.get-entries before.changes number) (is.changes number))
 
   -- THE DESK
-  settings_parted : (noted : Option (Option SettingsView)) (was now : Option SettingsView) → Tells noted was now
-      → Parted (option_map_or settings_marks noted []) (option_map_or (λ then. settings_marks now) noted []) (settings_marks was) (settings_marks now)
-  settings_parted None was now told = subst (λ (then : Option SettingsView). Parted [] [] (settings_marks then) (settings_marks now)) told (none_parted (settings_marks now))
-  settings_parted (Some then) was now told = subst (λ (those : Option SettingsView). Parted (settings_marks then) (settings_marks now) (settings_marks those) (settings_marks now)) told (all_parted (settings_marks then) (settings_marks now))
+  wanted_parted : (noted : Option (Option SettingsView)) (was now : Option SettingsView) → Tells noted was now
+      → Parted (option_map_or wanted_of noted []) (option_map_or (λ then. wanted_of now) noted []) (wanted_of was) (wanted_of now)
+  wanted_parted None was now told = subst (λ (then : Option SettingsView). Parted [] [] (wanted_of then) (wanted_of now)) told (none_parted (wanted_of now))
+  wanted_parted (Some then) was now told = subst (λ (those : Option SettingsView). Parted (wanted_of then) (wanted_of now) (wanted_of those) (wanted_of now)) told (all_parted (wanted_of then) (wanted_of now))
 
   settings_were : (noted : Option (Option SettingsView)) (was now : Option SettingsView) → Tells noted was now → unwrap_or noted now ≡ was
   settings_were None was now told = told
@@ -115,7 +114,10 @@ module _ (before : Noted) (old new : State) (is : IsBefore before old new) (old_
       (all_parted (desk_row_of before.next before.clock before.base (settings_then before new) ∷ []) (desk_row new ∷ []))
 
   marks_parted : Parted (rows_then before new).marks (rows_now before new).marks (rows_of old).marks (rows_of new).marks
-  marks_parted = both_parted (settings_parted before.settings old.desk.settings new.desk.settings is.settings) (flat_parted marks_of changes_parted)
+  marks_parted = flat_parted marks_of changes_parted
+
+  lists_parted : Parted (rows_then before new).wanted (rows_now before new).wanted (rows_of old).wanted (rows_of new).wanted
+  lists_parted = wanted_parted before.settings old.desk.settings new.desk.settings is.settings
 
   -- ALL ROWS
   all_beside : Beside before old new
@@ -128,6 +130,7 @@ module _ (before : Noted) (old new : State) (is : IsBefore before old new) (old_
       batches = (map_parted batch_row batches_parted).others;
       members = (flat_parted members_of batches_parted).others;
       statuses = (flat_parted statuses_of batches_parted).others;
+      wanted = lists_parted.others;
     };
     were = record {
       desk = desk_parted.was;
@@ -137,6 +140,7 @@ module _ (before : Noted) (old new : State) (is : IsBefore before old new) (old_
       batches = (map_parted batch_row batches_parted).was;
       members = (flat_parted members_of batches_parted).was;
       statuses = (flat_parted statuses_of batches_parted).was;
+      wanted = lists_parted.was;
     };
     are = record {
       desk = desk_parted.is;
@@ -146,6 +150,7 @@ module _ (before : Noted) (old new : State) (is : IsBefore before old new) (old_
       batches = (map_parted batch_row batches_parted).is;
       members = (flat_parted members_of batches_parted).is;
       statuses = (flat_parted statuses_of batches_parted).is;
+      wanted = lists_parted.is;
     };
   }
 
@@ -173,15 +178,15 @@ module _ (rows beside all : Rows) (same : AreSame (with_others rows beside) all)
   by_keys_beside : AreSame (with_others (by_keys rows) beside) all
   by_keys_beside = same_then (with_others (by_keys rows) beside) (with_others rows beside) all (same_beside (by_keys rows) rows beside (same_back rows (by_keys rows) (same_by_keys rows))) same
 
-module _ (checks : (s : State) → IsState s → fits s ≡ true) (keys : (s : State) → IsState s → KeepsLimits s.desk → HaveKeys (rows_of s)) where
+module _ (checks : (s : State) → IsState s → fits s ≡ true) (keys : (s : State) → IsState s → HaveKeys (rows_of s)) where
   beside : (before : Noted) (old new : State) → AreStates before old new → Beside before old new
   beside before old new states = all_beside before old new states.before (facts old (checks old states.old)) (facts new (checks new states.new))
 
   pub keys_since : LawOfKeysSince
   keys_since before old new states =
       let rest = beside before old new states in (
-        front_keys (rows_then before new) rest.others (keys_beside (rows_then before new) rest.others (rows_of old) rest.were (keys old states.old states.old_limits)),
-        front_keys (rows_now before new) rest.others (keys_beside (rows_now before new) rest.others (rows_of new) rest.are (keys new states.new states.new_limits)),
+        front_keys (rows_then before new) rest.others (keys_beside (rows_then before new) rest.others (rows_of old) rest.were (keys old states.old)),
+        front_keys (rows_now before new) rest.others (keys_beside (rows_now before new) rest.others (rows_of new) rest.are (keys new states.new)),
       )
 
   pub changes_since_lead : LawOfParts → LawOfChangesSince
@@ -191,6 +196,6 @@ module _ (checks : (s : State) → IsState s → fits s ≡ true) (keys : (s : S
       let now = by_keys (rows_now before new) in
       let were = by_keys_beside (rows_then before new) rest.others (rows_of old) rest.were in
       let are = by_keys_beside (rows_now before new) rest.others (rows_of new) rest.are in
-      let led = law then now rest.others rows (keys_beside then rest.others (rows_of old) were (keys old states.old states.old_limits)) (keys_beside now rest.others (rows_of new) are (keys new states.new states.new_limits))
+      let led = law then now rest.others rows (keys_beside then rest.others (rows_of old) were (keys old states.old)) (keys_beside now rest.others (rows_of new) are (keys new states.new))
       (same_then rows (rows_of old) (with_others then rest.others) same (same_back (with_others then rest.others) (rows_of old) were)) in
       same_then (applied (changes_since before new) rows) (with_others now rest.others) (rows_of new) led are

@@ -6,7 +6,6 @@ use Rattle.std.specs.declared.cmp.Ordering.{Ordering}
 use Rattle.gate_state.specs.State.{IsState}
 use Rattle.gate_state.specs.declared.state.State.{State}
 use Rattle.gate_sql.specs.Encoding.{rows_of}
-use Rattle.gate_sql.specs.Standing.{KeepsLimits}
 use Rattle.gate_tables.specs.Applied.{applied}
 use Rattle.gate_tables.specs.Contents.{AreSame}
 use Rattle.gate_tables.specs.Differences.{differences}
@@ -40,6 +39,7 @@ by_keys rows = record {
   batches = by_key forms.batches rows.batches;
   members = by_key forms.members rows.members;
   statuses = by_key forms.statuses rows.statuses;
+  wanted = by_key forms.wanted rows.wanted;
 }
 
 abbrev pub changed_rows : State → State → List RowChange
@@ -47,8 +47,7 @@ changed_rows old new = differences (by_keys (rows_of old)) (by_keys (rows_of new
 
 -- They lead from the rows of the one, in any order, to those of the other.
 abbrev pub LawOfChangedRows : Type 0
-LawOfChangedRows = (old new : State) (rows : Rows) → IsState old → KeepsLimits old.desk → IsState new → KeepsLimits new.desk
-    → AreSame rows (rows_of old) → AreSame (applied (changed_rows old new) rows) (rows_of new)
+LawOfChangedRows = (old new : State) (rows : Rows) → IsState old → IsState new → AreSame rows (rows_of old) → AreSame (applied (changed_rows old new) rows) (rows_of new)
 
 -- For private clauses: the rows from the first one on that has no smaller key, and whether a test holds of the first.
 abbrev pub from_key : {R : Type 0} → Form R → R → List R → List R

@@ -36,6 +36,7 @@ use Rattle.gate_tables.specs.declared.row.MarkRow.{MarkRow}
 use Rattle.gate_tables.specs.declared.row.MemberRow.{MemberRow}
 use Rattle.gate_tables.specs.declared.row.Rows.{Rows}
 use Rattle.gate_tables.specs.declared.row.StatusRow.{StatusRow}
+use Rattle.gate_tables.specs.declared.row.WantedRow.{WantedRow}
 
 abbrev pub first : {X : Type 0} → List X → Option X
 first [] = None
@@ -79,6 +80,13 @@ set_in change kind rows = set.from_list (list_map (λ row. row.word) (filter (is
 
 abbrev pub list_in : ℤ → ℤ → List MarkRow → List (List ℕ)
 list_in change kind rows = in_order int_cmp (list_map (λ row. (row.place, row.word)) (filter (is_mark change kind) rows))
+
+-- WHAT THE SETTINGS LIST
+abbrev pub is_wanted : ℤ → WantedRow → Bool
+is_wanted kind row = int_eq row.kind kind
+
+abbrev pub wanted_in : ℤ → List WantedRow → List (List ℕ)
+wanted_in kind rows = in_order int_cmp (list_map (λ row. (row.place, row.word)) (filter (is_wanted kind) rows))
 
 -- BATCHES
 abbrev pub changes_in : ℤ → List MemberRow → List ℕ
@@ -133,12 +141,12 @@ change_in rows row = record {
 -- THE DESK AND THE QUEUE
 abbrev pub settings_in : Rows → ℤ → ℤ → ℤ → Option SettingsView
 settings_in rows timeout approvals size = if int_eq timeout (pos 0) then None else Some (record {
-  status = list_in (pos 0) (pos 6) rows.marks;
+  status = wanted_in (pos 1) rows.wanted;
   timeout_sec = nat_abs timeout;
-  block_labels = list_in (pos 0) (pos 7) rows.marks;
+  block_labels = wanted_in (pos 2) rows.wanted;
   required_approvals = nat_abs approvals;
   max_batch_size = if int_eq size (pos 0) then None else Some (nat_abs size);
-  pr_status = list_in (pos 0) (pos 9) rows.marks;
+  pr_status = wanted_in (pos 3) rows.wanted;
 })
 
 abbrev pub desk_in : Rows → DeskRow → DeskView

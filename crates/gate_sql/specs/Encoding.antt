@@ -32,6 +32,7 @@ use Rattle.gate_tables.specs.declared.row.MemberRow.{MemberRow}
 use Rattle.gate_tables.specs.declared.row.PersonRow.{PersonRow}
 use Rattle.gate_tables.specs.declared.row.Rows.{Rows}
 use Rattle.gate_tables.specs.declared.row.StatusRow.{StatusRow}
+use Rattle.gate_tables.specs.declared.row.WantedRow.{WantedRow}
 
 -- WORDS AS NUMBERS
 abbrev pub flag : Bool → ℤ
@@ -94,7 +95,7 @@ size_of (Some settings) = pos (unwrap_or settings.max_batch_size 0)
 abbrev pub desk_row_of : ℕ → ℕ → Option (List ℕ) → Option SettingsView → DeskRow
 desk_row_of next clock base settings = record {
   one = pos 1;
-  version = pos 1;
+  version = pos 2;
   next_batch = pos next;
   clock = pos clock;
   base = unwrap_or base [];
@@ -122,7 +123,7 @@ change_row entry = record {
   last_command = last_number entry.1.last;
 }
 
--- MARKS of a change, or of the settings as the change 0: sets of words, all at place 0, and lists, whose words have places
+-- MARKS of a change: sets of words, all at place 0, and lists, whose words have places
 abbrev pub mark : ℕ → ℤ → ℤ × List ℕ → MarkRow
 mark change kind entry = record { change_no = pos change; kind = kind; word = entry.1; place = entry.0 }
 
@@ -151,9 +152,16 @@ marks_of entry =
     ++ list_marks entry.0 (pos 4) (unwrap_or entry.1.approved []) ++ list_marks entry.0 (pos 5) (names_of entry.1.last)
     ++ set_marks entry.0 (pos 8) entry.1.passed
 
-abbrev pub settings_marks : Option SettingsView → List MarkRow
-settings_marks None = []
-settings_marks (Some settings) = list_marks 0 (pos 6) settings.status ++ list_marks 0 (pos 7) settings.block_labels ++ list_marks 0 (pos 9) settings.pr_status
+-- WHAT THE SETTINGS LIST
+abbrev pub wanted_row : ℤ → ℤ × List ℕ → WantedRow
+wanted_row kind entry = record { kind = kind; place = entry.0; word = entry.1 }
+
+abbrev pub list_wanted : ℤ → List (List ℕ) → List WantedRow
+list_wanted kind words = list_map (wanted_row kind) (placed words)
+
+abbrev pub wanted_of : Option SettingsView → List WantedRow
+wanted_of None = []
+wanted_of (Some settings) = list_wanted (pos 1) settings.status ++ list_wanted (pos 2) settings.block_labels ++ list_wanted (pos 3) settings.pr_status
 
 -- BATCHES, their changes and their reports
 abbrev pub since_of : Stage → ℤ
@@ -203,8 +211,9 @@ rows_of s = record {
   desk = desk_row s ∷ [];
   people = list_map person_row (finite.entries s.desk.roles);
   changes = list_map change_row (finite.entries s.desk.changes);
-  marks = settings_marks s.desk.settings ++ flat_map marks_of (finite.entries s.desk.changes);
+  marks = flat_map marks_of (finite.entries s.desk.changes);
   batches = list_map batch_row (batches_of s.queue);
   members = flat_map members_of (batches_of s.queue);
   statuses = flat_map statuses_of (batches_of s.queue);
+  wanted = wanted_of s.desk.settings;
 }

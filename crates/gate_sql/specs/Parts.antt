@@ -14,14 +14,13 @@ use Rattle.gate_state.specs.declared.batch.Batch.{Batch}
 use Rattle.gate_state.specs.declared.queue.Queue.{Queue}
 use Rattle.gate_state.specs.declared.state.State.{State}
 use Rattle.gate_sql.specs.Changed.{by_keys}
-use Rattle.gate_sql.specs.Encoding.{batch_row, change_row, desk_row, desk_row_of, marks_of, members_of, person_row, rows_of, settings_marks, statuses_of}
-use Rattle.gate_sql.specs.Standing.{KeepsLimits}
+use Rattle.gate_sql.specs.Encoding.{batch_row, change_row, desk_row, desk_row_of, marks_of, members_of, person_row, rows_of, statuses_of, wanted_of}
 use Rattle.gate_tables.specs.Applied.{applied}
 use Rattle.gate_tables.specs.Contents.{AreSame}
 use Rattle.gate_tables.specs.Differences.{HaveKeys, differences}
 use Rattle.gate_tables.specs.declared.change.RowChange.{RowChange}
-use Rattle.gate_tables.specs.declared.row.MarkRow.{MarkRow}
 use Rattle.gate_tables.specs.declared.row.Rows.{Rows}
+use Rattle.gate_tables.specs.declared.row.WantedRow.{WantedRow}
 
 -- PEOPLE AND CHANGES that were noted: those that were there, and those that a map has now, each behind its name or number
 abbrev pub named : {K X : Type 0} → K → Option X → Option (K × X)
@@ -47,15 +46,15 @@ batches_under numbers queue = filter_map (λ number. batch_numbered number queue
 abbrev pub batches_now : Noted → Queue → List Batch
 batches_now before queue = batches_under (finite.keys before.batches ++ new_numbers before queue) queue
 
--- SETTINGS: if they weren't noted, they were as now, and their marks are left out.
+-- SETTINGS: if they weren't noted, they were as now, and what they list is left out.
 abbrev pub settings_then : Noted → State → Option SettingsView
 settings_then before now = unwrap_or before.settings now.desk.settings
 
-abbrev pub settings_marks_then : Noted → List MarkRow
-settings_marks_then before = option_map_or settings_marks before.settings []
+abbrev pub wanted_then : Noted → List WantedRow
+wanted_then before = option_map_or wanted_of before.settings []
 
-abbrev pub settings_marks_now : Noted → State → List MarkRow
-settings_marks_now before now = option_map_or (λ then. settings_marks now.desk.settings) before.settings []
+abbrev pub wanted_now : Noted → State → List WantedRow
+wanted_now before now = option_map_or (λ then. wanted_of now.desk.settings) before.settings []
 
 -- ALL TABLES
 abbrev pub rows_then : Noted → State → Rows
@@ -63,10 +62,11 @@ rows_then before now = record {
   desk = desk_row_of before.next before.clock before.base (settings_then before now) ∷ [];
   people = list_map person_row (were_there (finite.entries before.people));
   changes = list_map change_row (were_there (finite.entries before.changes));
-  marks = settings_marks_then before ++ flat_map marks_of (were_there (finite.entries before.changes));
+  marks = flat_map marks_of (were_there (finite.entries before.changes));
   batches = list_map batch_row (batches_then before);
   members = flat_map members_of (batches_then before);
   statuses = flat_map statuses_of (batches_then before);
+  wanted = wanted_then before;
 }
 
 abbrev pub rows_now : Noted → State → Rows
@@ -74,23 +74,22 @@ rows_now before now = record {
   desk = desk_row now ∷ [];
   people = list_map person_row (are_there now.desk.roles (finite.entries before.people));
   changes = list_map change_row (are_there now.desk.changes (finite.entries before.changes));
-  marks = settings_marks_now before now ++ flat_map marks_of (are_there now.desk.changes (finite.entries before.changes));
+  marks = flat_map marks_of (are_there now.desk.changes (finite.entries before.changes));
   batches = list_map batch_row (batches_now before now.queue);
   members = flat_map members_of (batches_now before now.queue);
   statuses = flat_map statuses_of (batches_now before now.queue);
+  wanted = wanted_now before now;
 }
 
 -- THE ROWS THAT DIFFER between the state that was before and the one now, as row changes: those that differ among these rows.
 abbrev pub changes_since : Noted → State → List RowChange
 changes_since before now = differences (by_keys (rows_then before now)) (by_keys (rows_now before now))
 
--- two states of the machine that keep the limits of a gate, and what was noted of the first
+-- two states of the machine, and what was noted of the first
 pub record AreStates (noted : Noted) (was now : State) : Type 0 where
   pub before : IsBefore noted was now
   pub old : IsState was
-  pub old_limits : KeepsLimits was.desk
   pub new : IsState now
-  pub new_limits : KeepsLimits now.desk
 
 -- They lead from the rows of the one, in any order, to those of the other.
 abbrev pub LawOfChangesSince : Type 0

@@ -12,6 +12,7 @@ use Rattle.gate_tables.specs.declared.row.MarkRow.{MarkRow}
 use Rattle.gate_tables.specs.declared.row.MemberRow.{MemberRow}
 use Rattle.gate_tables.specs.declared.row.PersonRow.{PersonRow}
 use Rattle.gate_tables.specs.declared.row.StatusRow.{StatusRow}
+use Rattle.gate_tables.specs.declared.row.WantedRow.{WantedRow}
 
 both : {P Q : Type 0} (s t : Bool) → (s ≡ true → P) → (t ≡ true → Q) → (s && t) ≡ true → P × Q
 both s t p q is = (p (first_so s t is), q (second_so s t is))
@@ -56,3 +57,8 @@ pub same_statuses : (one other : StatusRow) → (int_eq one.batch other.batch &&
 same_statuses one other same =
     let fields = both _ _ (number one.batch other.batch) (both _ _ (text one.name other.name) (number one.report other.report)) same in
     λ i. record { batch = fields.0 i; name = fields.1.0 i; report = fields.1.1 i }
+
+pub same_wanted : (one other : WantedRow) → (int_eq one.kind other.kind && (int_eq one.place other.place && (pointwise nat_eq one.word other.word))) ≡ true → one ≡ other
+same_wanted one other same =
+    let fields = both _ _ (number one.kind other.kind) (both _ _ (number one.place other.place) (text one.word other.word)) same in
+    λ i. record { kind = fields.0 i; place = fields.1.0 i; word = fields.1.1 i }

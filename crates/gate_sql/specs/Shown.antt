@@ -35,7 +35,7 @@ abbrev pub AreTextsOf : FinMap (slice_cmp nat_cmp) (List Reply) → FinMap (slic
 AreTextsOf answers texts = (id : List ℕ) → finite.get texts id ≡ option_map answer_text_of (finite.get answers id)
 
 pub record Holds {S : Type 0} (g : Ghosts S) (h : Held S) : Type 0 where
-  -- the eight tables alone, each row whole, one for a key
+  -- the nine tables alone, each row whole, one for a key
   pub tables : IsBook (state g h)
   -- exactly the rows of the state
   pub rows_are : AreSame (rows_in g h) (rows_of (shown g h).state)

@@ -21,4 +21,4 @@ LawOfRows = (s : State) (rows : Rows) → IsState s → KeepsLimits s.desk → A
 
 -- In the rows of a state no two rows of a table have one key.
 abbrev pub LawOfKeys : Type 0
-LawOfKeys = (s : State) → IsState s → KeepsLimits s.desk → HaveKeys (rows_of s)
+LawOfKeys = (s : State) → IsState s → HaveKeys (rows_of s)

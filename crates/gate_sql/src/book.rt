@@ -243,6 +243,7 @@ fn no_rows(alloc: Global) -> Rows
         batches: List::from(Vec::new(alloc)),
         members: List::from(Vec::new(alloc)),
         statuses: List::from(Vec::new(alloc)),
+        wanted: List::from(Vec::new(alloc)),
     }
 }
 

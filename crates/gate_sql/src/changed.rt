@@ -65,6 +65,7 @@ pub(crate) fn row_changes(alloc: Global, old: Rows, new: Rows) -> Result<Vec<Row
     push_table(alloc, &mut deletions, &mut puts, old.batches, new.batches)?;
     push_table(alloc, &mut deletions, &mut puts, old.members, new.members)?;
     push_table(alloc, &mut deletions, &mut puts, old.statuses, new.statuses)?;
+    push_table(alloc, &mut deletions, &mut puts, old.wanted, new.wanted)?;
     deletions.append(&mut puts)?;
     Ok(deletions)
 }

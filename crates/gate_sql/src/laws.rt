@@ -28,8 +28,8 @@ pub fn law_of_keys()
     law_of_checks();
 }
 
-/// The law of changed rows: those between two states of the machine whose settings and base keep their limits, applied to the rows
-/// of the first in any order, lead to the rows of the second.
+/// The law of changed rows: those between two states of the machine, applied to the rows of the first in any order, lead to the rows
+/// of the second.
 pub fn law_of_changed_rows()
     ensures { LawOfChangedRows }
 {
@@ -37,9 +37,8 @@ pub fn law_of_changed_rows()
     law_of_differences();
 }
 
-/// The law of changes since: between two states of the machine whose settings and base keep their limits, and of the first of which
-/// parts were noted, what differs among the rows of these parts, applied to the rows of the first in any order, leads to the rows of
-/// the second.
+/// The law of changes since: between two states of the machine, of the first of which parts were noted, what differs among the rows of
+/// these parts, applied to the rows of the first in any order, leads to the rows of the second.
 pub fn law_of_changes_since()
     ensures { LawOfChangesSince }
 {

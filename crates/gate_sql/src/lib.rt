@@ -1,4 +1,4 @@
-//! The records of the merge bot in a SQLite database: a book over eight tables. One transaction writes the rows that differ and an
+//! The records of the merge bot in a SQLite database: a book over nine tables. One transaction writes the rows that differ and an
 //! answer, or nothing. By a law the rows of a state stand for that state alone.
 #![tactic(auto)]
 

@@ -10,6 +10,7 @@ mod numbers;
 mod parts;
 mod people;
 mod statuses;
+mod wanted;
 
 use batches::batch_rows;
 use changes::change_rows;
@@ -23,6 +24,7 @@ pub(crate) use parts::{rows_now, rows_then};
 use people::person_rows;
 use statuses::status_rows;
 use std::alloc::{AllocError, Global};
+use wanted::wanted_rows;
 
 /// The rows of the state of a gate. `AllocError` if there is no memory for them.
 pub fn rows_of(alloc: Global, gate: &Gate) -> Result<Rows, AllocError>
@@ -38,6 +40,7 @@ pub fn rows_of(alloc: Global, gate: &Gate) -> Result<Rows, AllocError>
         batches: batch_rows(alloc, &batches)?,
         members: member_rows(alloc, &batches)?,
         statuses: status_rows(alloc, &batches)?,
+        wanted: wanted_rows(alloc, state.desk.settings())?,
     })
 }
 

@@ -1,7 +1,9 @@
 ghost use Rattle.std.specs.Prelude.{◌≡◌, IsTrue, IsPermutation};
 ghost use Rattle.gate_tables.specs.Contents.{AreSame};
 
-use gate_tables::{BatchRow, ChangeRow, DeskRow, MarkRow, MemberRow, PersonRow, Rows, StatusRow};
+use gate_tables::{
+    BatchRow, ChangeRow, DeskRow, MarkRow, MemberRow, PersonRow, Rows, StatusRow, WantedRow,
+};
 use gate_text::List;
 use std::cmp::Reverse;
 
@@ -54,6 +56,12 @@ impl Same for StatusRow {
     ghost same = { same_statuses };
 }
 
+impl Same for WantedRow {
+    ghost use Rattle.gate_sql.specs.Same.{same_wanted};
+
+    ghost same = { same_wanted };
+}
+
 /// Whether these are the same rows in each table, in any order. If it says so, they are.
 pub(crate) fn are_same(ones: Rows, others: Rows) -> bool
     ensures { IsTrue result → AreSame ones others }
@@ -65,6 +73,7 @@ pub(crate) fn are_same(ones: Rows, others: Rows) -> bool
         & have_same(ones.batches, others.batches)
         & have_same(ones.members, others.members)
         & have_same(ones.statuses, others.statuses)
+        & have_same(ones.wanted, others.wanted)
 }
 
 fn have_same<R: Same>(ones: List<R>, others: List<R>) -> bool
@@ -77,8 +86,8 @@ fn have_same<R: Same>(ones: List<R>, others: List<R>) -> bool
     ones == others
 }
 
-/// The same rows, and those of which a list is read in the order of the list: marks and members by their place, batches in
-/// order of service.
+/// The same rows, and those of which a list is read in the order of the list: marks, members and what the settings list
+/// by their place, batches in order of service.
 pub(crate) fn in_order(rows: Rows) -> Rows
     ensures { AreSame rows result }
 {
@@ -90,6 +99,7 @@ pub(crate) fn in_order(rows: Rows) -> Rows
         batches,
         members,
         statuses,
+        wanted,
     } = rows;
     Rows {
         desk,
@@ -102,6 +112,7 @@ pub(crate) fn in_order(rows: Rows) -> Rows
         ),
         members: sorted(members, |row| row.place),
         statuses,
+        wanted: sorted(wanted, |row| row.place),
     }
 }
 

@@ -27,7 +27,7 @@ still_none old new (x ∷ xs) t had same none = (same.0 ∙ had.0, still_none ol
 -- a table without rows keeps what rows keep
 none_kept : (db : Trees) (tables : List Table) → AllByRecursion (λ t. db t.tree ≡ []) tables → AllByRecursion (λ t. IsKept t (db t.tree)) tables
 none_kept db [] none = tt
-none_kept db (t ∷ ts) none = (subst (IsKept t) (sym none.0) (record { rowids = refl; rising = tt; whole = refl }), none_kept db ts none.1)
+none_kept db (t ∷ ts) none = (subst (IsKept t) (sym none.0) (record { rowids = refl; own = tt; whole = refl }), none_kept db ts none.1)
 
 module _ (front : Schema) (layout : Layout) (after : Schema) (sql : List ℕ) (known : Creates front layout after sql) where
   -- there is one table more, and none has rows

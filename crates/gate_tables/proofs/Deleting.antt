@@ -4,6 +4,7 @@ use Rattle.std.specs.List.{list_all}
 use Rattle.std.proofs.lemmas.List.Sorted.{IsPermutation-map}
 use Rattle.gate_tables.proofs.Inserting.{went, same_value}
 use Rattle.gate_tables.proofs.Picking.{finds}
+use Rattle.gate_tables.proofs.Moved.{apart_filtered}
 use Rattle.gate_tables.proofs.Placing.{still_kept, kept_one}
 use Rattle.gate_tables.proofs.Selecting.{picks}
 use Rattle.gate_tables.proofs.Taking.{filter_same, without_picked, filter_all_true}
@@ -31,7 +32,7 @@ use Rattle.sqlite_rules.proofs.ListLemmas.{test_has}
 use Rattle.sqlite_rules.specs.Calls.{ids_of}
 use Rattle.sqlite_schema.specs.declared.schema.Constraint.TheVariants.{Unique}
 use Rattle.sqlite_schema.specs.declared.schema.Keys.TheVariants.{Enforced}
-use Rattle.sqlite_trees.proofs.ListLemmas.{filter-map, ascending-filter, map-map}
+use Rattle.sqlite_trees.proofs.ListLemmas.{filter-map, map-map}
 
 module _ {R : Type 0} (form : Form R) (known : IsKeyed form) (key : Row) (given : IsGivenAt 0 key key) (front : is_front form.layout.columns key ≡ true) (wide : length key ≡ key_width form.layout) where
   abbrev passes : Row → Bool
@@ -75,13 +76,13 @@ module _ {R : Type 0} (form : Form R) (known : IsKeyed form) (key : Row) (given 
       let table = table_of form.layout in
       let rows = old.now.trees form.layout.tree in
       let had = kept_one old.now.trees all_schema.tables form.at table known.known.listed inside.kept.tables in
-      let left : new.now.trees form.layout.tree ≡ filter (λ r. not (passes r)) rows = it.rows ∙ without_picked passes rows had.rowids had.rising all.1 all.2 in
+      let left : new.now.trees form.layout.tree ≡ filter (λ r. not (passes r)) rows = it.rows ∙ without_picked passes rows had.rowids had.own all.1 all.2 in
       let by_key : filter (λ r. not (passes r)) rows ≡ filter (λ r. not (begin_with key (columns_of form.layout r))) rows =
       filter_same (λ r. not (passes r)) (λ r. not (begin_with key (columns_of form.layout r))) rows (λ r has. ap not (finds form known key key given front wide r (test_has (λ row. is_whole form.layout.columns (columns_of form.layout row)) rows r had.whole has))) in
       let own : IsKept table rows → IsKept table (new.now.trees form.layout.tree) =
       λ was. subst (IsKept table) (sym left) (record {
         rowids = filter_all_true _ (λ r. not (passes r)) rows was.rowids;
-        rising = ascending-filter _ (λ r. not (passes r)) rows was.rising;
+        own = apart_filtered rowid (λ r. not (passes r)) rows was.own;
         whole = filter_all_true _ (λ r. not (passes r)) rows was.whole;
       }) in (
         record {

@@ -3,6 +3,7 @@ use Rattle.std.proofs.Common.{◌≡◌, ◌⊎◌, inl, inr, List, [], ◌∷�
 use Rattle.std.proofs.lemmas.Bool.{and_from}
 use Rattle.std.proofs.lemmas.List.Sorted.{IsPermutation-map}
 use Rattle.gate_tables.proofs.Placing.{put_adds, put_keyed, fresh_one, still_kept, all_moved}
+use Rattle.gate_tables.proofs.Taking.{put_own}
 use Rattle.gate_tables.specs.Database.{all_schema, table_of, columns_of, cells}
 use Rattle.gate_tables.specs.Effects.{RanInside, IsInside, Adds}
 use Rattle.gate_tables.specs.Forms.{Form}
@@ -25,7 +26,6 @@ use Rattle.sqlite.specs.Term.{eval_all}
 use Rattle.sqlite.specs.Tree.{put_row}
 use Rattle.sqlite_schema.specs.declared.schema.Constraint.TheVariants.{Unique}
 use Rattle.sqlite_schema.specs.declared.schema.Keys.TheVariants.{Enforced}
-use Rattle.sqlite_trees.proofs.TreeLemmas.{IsTable-put_row}
 
 -- a part that gave a value did not stop on the way
 pub went : {B E R : Type 0} {b : B} {Stops : E → Type 0} → ((stop : E) × Stops stop × (Ok b ≡ Err stop)) ⊎ R → R
@@ -79,7 +79,7 @@ module _ {R : Type 0} (form : Form R) (known : IsKnown form) (r : R) where
       let own : IsKept (table_of form.layout) rows → IsKept (table_of form.layout) (new.now.trees form.layout.tree) =
       λ had. subst (IsKept (table_of form.layout)) (sym placed) (record {
         rowids = put_keyed one rows it.keyed had.rowids;
-        rising = IsTable-put_row one rows had.rising;
+        own = put_own one rows (fresh_one rows one it.fresh) had.own;
         whole = all_moved (λ row. is_whole form.layout.columns (columns_of form.layout row)) (one ∷ rows) (put_row one rows) added (and_from _ _ (ap (is_whole form.layout.columns) same ∙ known.wholes r) had.whole);
       }) in (
         record {

@@ -16,6 +16,7 @@ use Rattle.gate_tables.specs.Marks as marks_texts
 use Rattle.gate_tables.specs.Batches as batches_texts
 use Rattle.gate_tables.specs.Members as members_texts
 use Rattle.gate_tables.specs.Statuses as statuses_texts
+use Rattle.gate_tables.specs.Wanted as wanted_texts
 use Rattle.gate_tables.specs.declared.change.Row.TheVariants as row
 use Rattle.gate_tables.specs.declared.change.RowChange.{RowChange}
 use Rattle.gate_tables.specs.declared.change.RowChange.TheVariants.{Put, Delete}
@@ -27,6 +28,7 @@ use Rattle.gate_tables.specs.declared.row.MarkRow.{MarkRow}
 use Rattle.gate_tables.specs.declared.row.BatchRow.{BatchRow}
 use Rattle.gate_tables.specs.declared.row.MemberRow.{MemberRow}
 use Rattle.gate_tables.specs.declared.row.StatusRow.{StatusRow}
+use Rattle.gate_tables.specs.declared.row.WantedRow.{WantedRow}
 use Rattle.gate_tables.specs.declared.row.Rows.{Rows}
 
 -- the rows of one table among all, and the changes of one of them
@@ -172,10 +174,24 @@ statuses_part = record {
   deletes = λ r rows. refl;
 }
 
+abbrev wanted_part : Part WantedRow
+wanted_part = record {
+  form = forms.wanted;
+  keyed = wanted_texts.keyed;
+  rows_in = λ rows. rows.wanted;
+  over = λ f rows. record rows { wanted = f rows.wanted };
+  putting = λ r. Put (row.Wanted r);
+  deleting = λ r. Delete (key.Wanted r.kind r.place);
+  nothing = λ rows. refl;
+  twice = λ f g rows. refl;
+  puts = λ r rows. refl;
+  deletes = λ r rows. refl;
+}
+
 pub differences_lead : LawOfDifferences
 differences_lead old new rows was now same =
-    let deleted = then_deletes statuses_part old new (then_deletes members_part old new (then_deletes batches_part old new (then_deletes marks_part old new (then_deletes changes_part old new (then_deletes people_part old new (then_deletes desk_part old new (none_lead old))))))) in
-    let put = then_puts statuses_part old new (then_puts members_part old new (then_puts batches_part old new (then_puts marks_part old new (then_puts changes_part old new (then_puts people_part old new (then_puts desk_part old new (none_lead _))))))) in
+    let deleted = then_deletes wanted_part old new (then_deletes statuses_part old new (then_deletes members_part old new (then_deletes batches_part old new (then_deletes marks_part old new (then_deletes changes_part old new (then_deletes people_part old new (then_deletes desk_part old new (none_lead old)))))))) in
+    let put = then_puts wanted_part old new (then_puts statuses_part old new (then_puts members_part old new (then_puts batches_part old new (then_puts marks_part old new (then_puts changes_part old new (then_puts people_part old new (then_puts desk_part old new (none_lead _)))))))) in
     let all = lead_on deleted put in
     then_same (applied (differences old new) rows) (applied (differences old new) old) new (applied_same (differences old new) rows old same) (subst (λ to. AreSame to new) (sym all.is) (record {
       desk = table_leads forms.desk desk_texts.keyed old.desk new.desk was.desk now.desk;
@@ -185,4 +201,5 @@ differences_lead old new rows was now same =
       batches = table_leads forms.batches batches_texts.keyed old.batches new.batches was.batches now.batches;
       members = table_leads forms.members members_texts.keyed old.members new.members was.members now.members;
       statuses = table_leads forms.statuses statuses_texts.keyed old.statuses new.statuses was.statuses now.statuses;
+      wanted = table_leads forms.wanted wanted_texts.keyed old.wanted new.wanted was.wanted now.wanted;
     }))

@@ -22,6 +22,7 @@ use Rattle.gate_tables.specs.Marks as marks_texts
 use Rattle.gate_tables.specs.Members as members_texts
 use Rattle.gate_tables.specs.People as people_texts
 use Rattle.gate_tables.specs.Statuses as statuses_texts
+use Rattle.gate_tables.specs.Wanted as wanted_texts
 use Rattle.gate_tables.specs.declared.change.Row.TheVariants as row
 use Rattle.gate_tables.specs.declared.change.RowChange.TheVariants.{Put, Delete}
 use Rattle.gate_tables.specs.declared.change.RowKey.TheVariants as key
@@ -83,6 +84,7 @@ module _ (old new others : Rows) (was : HaveKeys (with_others old others)) (now 
       ++ map (λ r. Delete (key.Batches r.number)) (gone_alone forms.batches batches_texts.keyed old.batches new.batches others.batches was.batches i)
       ++ map (λ r. Delete (key.Members r.batch r.place)) (gone_alone forms.members members_texts.keyed old.members new.members others.members was.members i)
       ++ map (λ r. Delete (key.Statuses r.batch r.name)) (gone_alone forms.statuses statuses_texts.keyed old.statuses new.statuses others.statuses was.statuses i)
+      ++ map (λ r. Delete (key.Wanted r.kind r.place)) (gone_alone forms.wanted wanted_texts.keyed old.wanted new.wanted others.wanted was.wanted i)
 
   puts_alone : puts (with_others old others) (with_others new others) ≡ puts old new
   puts_alone = λ i.
@@ -93,6 +95,7 @@ module _ (old new others : Rows) (was : HaveKeys (with_others old others)) (now 
       ++ map (λ r. Put (row.Batches r)) (differing_alone forms.batches batches_texts.keyed old.batches new.batches others.batches now.batches i)
       ++ map (λ r. Put (row.Members r)) (differing_alone forms.members members_texts.keyed old.members new.members others.members now.members i)
       ++ map (λ r. Put (row.Statuses r)) (differing_alone forms.statuses statuses_texts.keyed old.statuses new.statuses others.statuses now.statuses i)
+      ++ map (λ r. Put (row.Wanted r)) (differing_alone forms.wanted wanted_texts.keyed old.wanted new.wanted others.wanted now.wanted i)
 
 pub parts_lead : LawOfParts
 parts_lead old new others rows was now same =

@@ -1,25 +1,25 @@
 -- Rows that are taken out by their rowids, and rows that are put back.
-use Rattle.std.proofs.Common.{◌≡◌, inl, inr, ℤ, List, [], ◌∷◌, ◌++◌, map, filter, Bool, true, false, not, ◌||◌, cond, if◌then◌else◌, IsPermutation, refl, sym, ap, subst, ◌∙◌}
+use Rattle.std.proofs.Common.{◌≡◌, ◌≢◌, inl, inr, ℤ, List, [], ◌∷◌, ◌++◌, map, filter, Bool, true, false, not, ◌||◌, cond, if◌then◌else◌, IsPermutation, refl, sym, ap, subst, ◌∙◌}
 use Rattle.std.specs.Cmp.{eq_by_cmp_equiv, Equal-is}
-use Rattle.std.specs.List.{list_any, list_all}
+use Rattle.std.specs.List.{AllByRecursion, list_any, list_all}
 use Rattle.std.specs.Ordering.{is_eq}
-use Rattle.std.specs.declared.cmp.Ordering.TheVariants.{Equal}
 use Rattle.std.proofs.lemmas.List.Folds.{list_all-append}
-use Rattle.std.proofs.lemmas.Bool.{and_from, and_parts}
+use Rattle.std.proofs.lemmas.Bool.{and_from, and_parts, not-true, or_parts}
 use Rattle.std.proofs.lemmas.List.Sorted.{IsPermutation-refl, IsPermutation-sym, IsPermutation-trans, IsPermutation-cons, IsPermutation-middle, IsPermutation-append_right, list_any-IsPermutation}
+use Rattle.std.specs.FinMap.{int_cmp-IsAntisymmetric}
+use Rattle.gate_tables.proofs.Moved.{apart_moved}
 use Rattle.gate_tables.proofs.Selecting.{filter_all}
+use Rattle.gate_tables.specs.Apart.{AreApartBy}
 use Rattle.gate_tables.proofs.Placing.{put_adds, put_keyed, fresh_one}
-use Rattle.sqlite.specs.Edit.{without_all, put_all, have_rowids, are_fresh, id_in}
+use Rattle.sqlite.specs.Edit.{without_all, put_all, have_rowids, are_fresh, id_in, is_taken}
 use Rattle.sqlite.specs.Order.{Row}
-use Rattle.sqlite.specs.Tree.{IsTable, rowid, has_rowid, without_rowid, put_row}
-use Rattle.sqlite_rules.proofs.ListLemmas.{some_has, some_from, has_filtered, has_kept, test_has}
-use Rattle.sqlite_rules.proofs.PlaceLemmas.{tied_same}
+use Rattle.sqlite.specs.Tree.{rowid, has_rowid, without_rowid, put_row}
+use Rattle.sqlite_rules.proofs.ListLemmas.{all_has, some_has, some_from, has_filtered, has_kept, test_has}
 use Rattle.sqlite_rules.proofs.TableLemmas.{int_is}
 use Rattle.sqlite_rules.specs.Lists.{Has}
-use Rattle.sqlite_trees.proofs.TreeLemmas.{IsTable-put_row}
 use Rattle.sqlite.specs.declared.types.Value.TheVariants.{Int}
 use Rattle.sqlite_trees.specs.View.{is_int}
-use Rattle.sqlite_value.proofs.OrderLemmas.{value_cmp_total}
+use Rattle.sqlite_value.proofs.OrderLemmas.{value_cmp-Int, value_cmp_total}
 use Rattle.sqlite_value.specs.Order.{value_cmp}
 
 pub filter_same : {A : Type 0} (p q : A → Bool) (xs : List A) → ((x : A) → Has xs x → p x ≡ q x) → filter p xs ≡ filter q xs
@@ -57,6 +57,17 @@ all_mapped p f (x ∷ xs) each = and_from (p (f x)) _ (each x (inl refl)) (all_m
 pub joined_all : {A : Type 0} (p : A → Bool) (xs ys : List A) → list_all p xs ≡ true → list_all p ys ≡ true → list_all p (xs ++ ys) ≡ true
 joined_all p xs ys first second = list_all-append p xs ys ∙ and_from (list_all p xs) (list_all p ys) first second
 
+-- rows with rowids of their own, told apart by them
+tied_ints : (a b : ℤ) → is_eq (value_cmp (Int a) (Int b)) ≡ true → a ≡ b
+tied_ints a b tied = int_cmp-IsAntisymmetric a b ((Equal-is _).0 (subst (λ o. is_eq o ≡ true) (value_cmp-Int a b) tied))
+
+own_same : (rows : List Row) (r q : Row) → AreApartBy rowid rows → Has rows r → Has rows q → rowid r ≡ rowid q → r ≡ q
+own_same [] r q own has there same = absurd has
+own_same (x ∷ rows) r q own (inl here) (inl there) same = here ∙ sym there
+own_same (x ∷ rows) r q own (inl here) (inr there) same = absurd (all_has (λ y. rowid y ≢ rowid x) rows q own.0 there (sym same ∙ ap rowid here))
+own_same (x ∷ rows) r q own (inr here) (inl there) same = absurd (all_has (λ y. rowid y ≢ rowid x) rows r own.0 here (same ∙ ap rowid there))
+own_same (x ∷ rows) r q own (inr here) (inr there) same = own_same rows r q own.1 here there same
+
 is_gone : List ℤ → Row → Bool
 is_gone ids r = list_any (λ id. has_rowid id r) ids
 
@@ -65,7 +76,7 @@ unfolding is_gone
 without_gone [] rows = sym (filter_all rows)
 without_gone (id ∷ ids) rows = without_gone ids (without_rowid id rows) ∙ filter_twice (has_rowid id) (is_gone ids) rows
 
-module _ (p : Row → Bool) (rows : List Row) (keyed : have_rowids rows ≡ true) (rising : IsTable rows) where
+module _ (p : Row → Bool) (rows : List Row) (keyed : have_rowids rows ≡ true) (own : AreApartBy rowid rows) where
   taken_or_not : (r : Row) → Has rows r → (b : Bool) → p r ≡ b → (c : Bool) → list_any (λ q. has_rowid (id_in (rowid q)) r) (filter p rows) ≡ c → c ≡ b
   taken_or_not r has true is true any = refl
   taken_or_not r has false is false any = refl
@@ -76,8 +87,8 @@ module _ (p : Row → Bool) (rows : List Row) (keyed : have_rowids rows ≡ true
       let q = found.0 in
       let was = has_filtered p rows q found.1 in
       let int : rowid q ≡ Int (id_in (rowid q)) = int_is (rowid q) (test_has (λ x. is_int (rowid x)) rows q keyed was.0) in
-      let tied : value_cmp (rowid r) (rowid q) ≡ Equal = ap (λ v. value_cmp (rowid r) v) int ∙ (Equal-is _).0 found.2 in
-      let same : r ≡ q = tied_same rows r q rising has was.0 tied in
+      let mine : rowid r ≡ Int (id_in (rowid r)) = int_is (rowid r) (test_has (λ x. is_int (rowid x)) rows r keyed has) in
+      let same : r ≡ q = own_same rows r q own has was.0 (mine ∙ ap Int (tied_ints _ _ (subst (λ v. is_eq (value_cmp v (Int (id_in (rowid q)))) ≡ true) mine found.2)) ∙ sym int) in
       absurd (let e = sym is ∙ ap p same ∙ was.1 in cc)
 
   -- the rows that pass a test are taken by their rowids, and no other
@@ -100,9 +111,19 @@ put_all_adds (n ∷ news) rows fresh =
     one_more : (n : Row) (rows news : List Row) → are_fresh rows (n ∷ news) ≡ true → are_fresh rows (n ∷ []) ≡ true
     one_more n rows news h = and_from _ true (and_parts _ _ h).0 refl
 
-pub put_all_table : (news rows : List Row) → IsTable rows → IsTable (put_all rows news)
-put_all_table [] rows up = up
-put_all_table (n ∷ news) rows up = put_all_table news (put_row n rows) (IsTable-put_row n rows up)
+-- a rowid that isn't taken is another than that of each row
+untaken : (rows : List Row) (new : Row) → is_taken rows new ≡ false → AllByRecursion (λ r. rowid r ≢ rowid new) rows
+untaken [] new free = tt
+untaken (r ∷ rows) new free =
+    let parts = or_parts (is_eq (value_cmp (rowid r) (rowid new))) (is_taken rows new) free in
+    ((λ same. let tied = subst (λ v. is_eq (value_cmp v (rowid new)) ≡ true) (sym same) ((eq_by_cmp_equiv value_cmp_total).refl (rowid new)) in let e : true ≡ false = sym tied ∙ parts.0 in cc e), untaken rows new parts.1)
+
+pub put_own : (new : Row) (rows : List Row) → is_taken rows new ≡ false → AreApartBy rowid rows → AreApartBy rowid (put_row new rows)
+put_own new rows free own = apart_moved rowid (new ∷ rows) (put_row new rows) (put_adds new rows free) (untaken rows new free, own)
+
+pub put_all_own : (news rows : List Row) → are_fresh rows news ≡ true → AreApartBy rowid rows → AreApartBy rowid (put_all rows news)
+put_all_own [] rows fresh own = own
+put_all_own (n ∷ news) rows fresh own = let parts = and_parts (not (is_taken rows n)) (are_fresh (put_row n rows) news) fresh in put_all_own news (put_row n rows) parts.1 (put_own n rows (not-true (is_taken rows n) parts.0) own)
 
 pub put_all_keyed : (news rows : List Row) → have_rowids news ≡ true → have_rowids rows ≡ true → have_rowids (put_all rows news) ≡ true
 put_all_keyed [] rows own all = all

@@ -5,9 +5,11 @@ use Rattle.std.proofs.lemmas.List.{length-map, map-append, take-append-drop}
 use Rattle.std.proofs.lemmas.List.Sorted.{IsPermutation-map, IsPermutation-trans, IsPermutation-append_left, length_permutation}
 use Rattle.gate_tables.proofs.Inserting.{went, same_value}
 use Rattle.gate_tables.proofs.Picking.{finds, found}
+use Rattle.gate_tables.proofs.Moved.{apart_filtered}
 use Rattle.gate_tables.proofs.Placing.{still_kept, kept_one, all_moved}
 use Rattle.gate_tables.proofs.Selecting.{picks}
-use Rattle.gate_tables.proofs.Taking.{filter_same, map_has, without_picked, filter_all_true, put_all_adds, put_all_table, put_all_keyed, split_mapped, all_mapped, joined_all}
+use Rattle.gate_tables.proofs.Taking.{filter_same, map_has, without_picked, filter_all_true, put_all_adds, put_all_keyed, put_all_own, split_mapped, all_mapped, joined_all}
+use Rattle.gate_tables.specs.Apart.{AreApartBy}
 use Rattle.gate_tables.specs.Database.{all_schema, table_of, columns_of, cells}
 use Rattle.gate_tables.specs.Effects.{RanOn, IsInside, Spares}
 use Rattle.gate_tables.specs.Forms.{Form}
@@ -28,14 +30,14 @@ use Rattle.sqlite.specs.Rows.{Written}
 use Rattle.sqlite.specs.State.{State, mode_of}
 use Rattle.sqlite.specs.Table.{Table}
 use Rattle.sqlite.specs.Term.{col, eval_all, holds}
-use Rattle.sqlite.specs.Tree.{IsTable, rowid}
+use Rattle.sqlite.specs.Tree.{rowid}
 use Rattle.sqlite_rules.proofs.ListLemmas.{test_has, has_filtered}
 use Rattle.sqlite_rules.proofs.PlaceLemmas.{given as given_rows}
 use Rattle.sqlite_rules.specs.Calls.{ids_of}
 use Rattle.sqlite_rules.specs.Lists.{Has}
 use Rattle.sqlite_schema.specs.declared.schema.Constraint.TheVariants.{Unique}
 use Rattle.sqlite_schema.specs.declared.schema.Keys.TheVariants.{Enforced}
-use Rattle.sqlite_trees.proofs.ListLemmas.{filter-map, ascending-filter, map-map}
+use Rattle.sqlite_trees.proofs.ListLemmas.{filter-map, map-map}
 
 module _ {R : Type 0} (form : Form R) (known : IsKeyed form) (r : R) where
   abbrev params : Row
@@ -143,7 +145,7 @@ module _ {R : Type 0} (form : Form R) (known : IsKeyed form) (r : R) where
       let had = kept_one old.now.trees all_schema.tables form.at table known.known.listed inside.kept.tables in
       let sourced = all.2 in
       let ids = subst (λ ids. IsPermutation ids (ids_of all.1)) (map-map (λ (s : Row). id_in (rowid s)) sources (chosen rows had.whole)) (IsPermutation-map (λ (s : Row). id_in (rowid s)) (map sources (chosen rows had.whole)) all.1 sourced) in
-      let left : without_all rows (ids_of all.1) ≡ rest rows had.whole = without_picked passes rows had.rowids had.rising (ids_of all.1) ids in
+      let left : without_all rows (ids_of all.1) ≡ rest rows had.whole = without_picked passes rows had.rowids had.own (ids_of all.1) ids in
       let make = λ (s : Row). cast_row table (drop 1 s) in
       let news : List Row = numbered Given (without_all rows (ids_of all.1)) (map make all.1) in
       let news_are : news ≡ map make all.1 = given_rows (without_all rows (ids_of all.1)) (map make all.1) in
@@ -155,7 +157,7 @@ module _ {R : Type 0} (form : Form R) (known : IsKeyed form) (r : R) where
       (subst (λ l. IsPermutation (map becomes (chosen rows had.whole) ++ l) (news ++ without_all rows (ids_of all.1))) left (IsPermutation-append_left (without_all rows (ids_of all.1)) (map becomes (chosen rows had.whole)) news became)) put) in
       let own : IsKept table rows → IsKept table (new.now.trees form.layout.tree) = λ was. record {
         rowids = ap have_rowids it.rows ∙ put_all_keyed news (without_all rows (ids_of all.1)) it.keyed (ap have_rowids left ∙ filter_all_true _ (λ row. not (passes row)) rows was.rowids);
-        rising = subst IsTable (sym it.rows) (put_all_table news (without_all rows (ids_of all.1)) (subst IsTable (sym left) (ascending-filter _ (λ row. not (passes row)) rows was.rising)));
+        own = subst (AreApartBy rowid) (sym it.rows) (put_all_own news (without_all rows (ids_of all.1)) it.fresh (subst (AreApartBy rowid) (sym left) (apart_filtered rowid (λ row. not (passes row)) rows was.own)));
         whole = all_moved whole_of _ (new.now.trees form.layout.tree) placed (joined_all whole_of (map becomes (chosen rows had.whole)) (rest rows had.whole) (becomes_whole rows had.whole) (filter_all_true whole_of (λ row. not (passes row)) rows was.whole));
       } in
       let cells_moved = IsPermutation-map columns (map becomes (chosen rows had.whole) ++ rest rows had.whole) (new.now.trees form.layout.tree) placed in

@@ -14,7 +14,7 @@ use Rattle.sqlite.specs.declared.types.Value.TheVariants.{Int, Text}
 
 -- what tables have that were just made
 abbrev pub no_rows : Rows
-no_rows = record { desk = []; people = []; changes = []; marks = []; batches = []; members = []; statuses = [] }
+no_rows = record { desk = []; people = []; changes = []; marks = []; batches = []; members = []; statuses = []; wanted = [] }
 
 -- a row in place of the one that has its key, or else one row more
 abbrev pub put : {R : Type 0} → Form R → R → List R → List R
@@ -32,6 +32,7 @@ changed (Put (row.Marks r)) rows = record rows { marks = put forms.marks r rows.
 changed (Put (row.Batches r)) rows = record rows { batches = put forms.batches r rows.batches }
 changed (Put (row.Members r)) rows = record rows { members = put forms.members r rows.members }
 changed (Put (row.Statuses r)) rows = record rows { statuses = put forms.statuses r rows.statuses }
+changed (Put (row.Wanted r)) rows = record rows { wanted = put forms.wanted r rows.wanted }
 changed (Delete (key.Desk one)) rows = record rows { desk = without forms.desk (Int one ∷ []) rows.desk }
 changed (Delete (key.People name)) rows = record rows { people = without forms.people (Text name ∷ []) rows.people }
 changed (Delete (key.Changes number)) rows = record rows { changes = without forms.changes (Int number ∷ []) rows.changes }
@@ -39,6 +40,7 @@ changed (Delete (key.Marks change kind word)) rows = record rows { marks = witho
 changed (Delete (key.Batches number)) rows = record rows { batches = without forms.batches (Int number ∷ []) rows.batches }
 changed (Delete (key.Members batch place)) rows = record rows { members = without forms.members (Int batch ∷ Int place ∷ []) rows.members }
 changed (Delete (key.Statuses batch name)) rows = record rows { statuses = without forms.statuses (Int batch ∷ Text name ∷ []) rows.statuses }
+changed (Delete (key.Wanted kind place)) rows = record rows { wanted = without forms.wanted (Int kind ∷ Int place ∷ []) rows.wanted }
 
 abbrev pub applied : List RowChange → Rows → Rows
 applied [] rows = rows

@@ -17,6 +17,7 @@ rows_at db = record {
   batches = rows_of forms.batches db;
   members = rows_of forms.members db;
   statuses = rows_of forms.statuses db;
+  wanted = rows_of forms.wanted db;
 }
 
 -- the answer under each identifier
@@ -32,3 +33,4 @@ pub record AreSame (a b : Rows) : Type 0 where
   pub batches : IsPermutation a.batches b.batches
   pub members : IsPermutation a.members b.members
   pub statuses : IsPermutation a.statuses b.statuses
+  pub wanted : IsPermutation a.wanted b.wanted

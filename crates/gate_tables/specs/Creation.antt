@@ -66,3 +66,10 @@ answers_text = codes "CREATE TABLE answers (id TEXT NOT NULL, body TEXT NOT NULL
 pub answers : Creates (after_first 7) database.answers (after_first 8) answers_text
 unfolding understood everything
 answers = record { is = refl; plain = (refl, refl); whole = refl; defined = refl; made = refl; uncounted = refl; next = refl; tables = refl }
+
+abbrev pub wanted_text : List ℕ
+wanted_text = codes "CREATE TABLE wanted (kind INTEGER NOT NULL, place INTEGER NOT NULL, word TEXT NOT NULL, PRIMARY KEY (kind, place)) STRICT"
+
+pub wanted : Creates (after_first 8) database.wanted (after_first 9) wanted_text
+unfolding understood everything
+wanted = record { is = refl; plain = (refl, refl); whole = refl; defined = refl; made = refl; uncounted = refl; next = refl; tables = refl }

@@ -1,4 +1,4 @@
--- THE DATABASE: its eight tables, and how a row of one is read. A tree holds the rows of a table, each behind its rowid.
+-- THE DATABASE: its nine tables, and how a row of one is read. A tree holds the rows of a table, each behind its rowid.
 use Rattle.std.specs.Prelude.{ℕ, suc, true, false, List, [], ◌∷◌, map, flat_map, codes, Option, None, Some}
 use Rattle.sqlite.specs.Change.{automatics}
 use Rattle.sqlite.specs.Collation.TheVariants.{Binary}
@@ -84,8 +84,11 @@ statuses = keyed (0 ∷ 1 ∷ []) 9 (codes "statuses") (integer (codes "batch") 
 abbrev pub answers : Layout
 answers = keyed (0 ∷ []) 11 (codes "answers") (text (codes "id") ∷ text (codes "body") ∷ [])
 
+abbrev pub wanted : Layout
+wanted = keyed (0 ∷ 1 ∷ []) 13 (codes "wanted") (integer (codes "kind") ∷ integer (codes "place") ∷ text (codes "word") ∷ [])
+
 abbrev pub all_layouts : List Layout
-all_layouts = desk ∷ people ∷ changes ∷ marks ∷ batches ∷ members ∷ statuses ∷ answers ∷ []
+all_layouts = desk ∷ people ∷ changes ∷ marks ∷ batches ∷ members ∷ statuses ∷ answers ∷ wanted ∷ []
 
 -- a database of these tables, with the index of each key
 abbrev pub schema_of : List Layout → Schema

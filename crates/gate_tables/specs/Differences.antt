@@ -1,6 +1,7 @@
 -- THE ROW CHANGES THAT LEAD FROM ROWS TO OTHERS: deletions of those that are gone, then puts of those that are new or differ.
-use Rattle.std.specs.Prelude.{◌≢◌, Bool, not, List, [], ◌∷◌, ◌++◌, map, filter}
-use Rattle.std.specs.List.{AllByRecursion, list_any}
+use Rattle.std.specs.Prelude.{Bool, not, List, ◌++◌, map, filter}
+use Rattle.std.specs.List.{list_any}
+use Rattle.gate_tables.specs.Apart.{AreApartBy}
 use Rattle.gate_tables.specs.Applied.{applied}
 use Rattle.gate_tables.specs.Contents.{AreSame}
 use Rattle.gate_tables.specs.Forms as forms
@@ -34,6 +35,7 @@ deletions old new =
     ++ map (λ r. Delete (key.Batches r.number)) (gone forms.batches old.batches new.batches)
     ++ map (λ r. Delete (key.Members r.batch r.place)) (gone forms.members old.members new.members)
     ++ map (λ r. Delete (key.Statuses r.batch r.name)) (gone forms.statuses old.statuses new.statuses)
+    ++ map (λ r. Delete (key.Wanted r.kind r.place)) (gone forms.wanted old.wanted new.wanted)
 
 abbrev pub puts : Rows → Rows → List RowChange
 puts old new =
@@ -44,14 +46,14 @@ puts old new =
     ++ map (λ r. Put (row.Batches r)) (differing forms.batches old.batches new.batches)
     ++ map (λ r. Put (row.Members r)) (differing forms.members old.members new.members)
     ++ map (λ r. Put (row.Statuses r)) (differing forms.statuses old.statuses new.statuses)
+    ++ map (λ r. Put (row.Wanted r)) (differing forms.wanted old.wanted new.wanted)
 
 abbrev pub differences : Rows → Rows → List RowChange
 differences old new = deletions old new ++ puts old new
 
 -- no two rows of a table have one key
 abbrev pub AreApart : {R : Type 0} → Form R → List R → Type 0
-AreApart form [] = Unit {0}
-AreApart form (r ∷ rows) = AllByRecursion (λ x. key_of form x ≢ key_of form r) rows × AreApart form rows
+AreApart form rows = AreApartBy (key_of form) rows
 
 pub record HaveKeys (rows : Rows) : Type 0 where
   pub desk : AreApart forms.desk rows.desk
@@ -61,6 +63,7 @@ pub record HaveKeys (rows : Rows) : Type 0 where
   pub batches : AreApart forms.batches rows.batches
   pub members : AreApart forms.members rows.members
   pub statuses : AreApart forms.statuses rows.statuses
+  pub wanted : AreApart forms.wanted rows.wanted
 
 -- The differences, applied to the first in any order, lead to the second.
 abbrev pub LawOfDifferences : Type 0
@@ -76,6 +79,7 @@ with_others rows others = record {
   batches = rows.batches ++ others.batches;
   members = rows.members ++ others.members;
   statuses = rows.statuses ++ others.statuses;
+  wanted = rows.wanted ++ others.wanted;
 }
 
 -- The differences of parts suffice: if both have the same others beside them, they lead from the one with these to the other with these.

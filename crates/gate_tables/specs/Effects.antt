@@ -83,7 +83,7 @@ pub record Made (changes : List RowChange) (new : State) : Type 0 where
   pub rows_are : AreSame (rows_at new.now.trees) (applied changes no_rows)
   pub none : cells forms.answers.layout new.now.trees ≡ []
 
--- what was read of the first four tables, and of the last three
+-- what was read of the first four tables, and of the last four
 pub record ReadsFirst (db : Trees) (read : First) : Type 0 where
   pub desk : IsPermutation (rows_of forms.desk db) read.desk
   pub people : IsPermutation (rows_of forms.people db) read.people
@@ -94,3 +94,4 @@ pub record ReadsLast (db : Trees) (read : Last) : Type 0 where
   pub batches : IsPermutation (rows_of forms.batches db) read.batches
   pub members : IsPermutation (rows_of forms.members db) read.members
   pub statuses : IsPermutation (rows_of forms.statuses db) read.statuses
+  pub wanted : IsPermutation (rows_of forms.wanted db) read.wanted

@@ -9,6 +9,7 @@ use Rattle.gate_tables.specs.declared.row.MarkRow.{MarkRow}
 use Rattle.gate_tables.specs.declared.row.MemberRow.{MemberRow}
 use Rattle.gate_tables.specs.declared.row.PersonRow.{PersonRow}
 use Rattle.gate_tables.specs.declared.row.StatusRow.{StatusRow}
+use Rattle.gate_tables.specs.declared.row.WantedRow.{WantedRow}
 use Rattle.sqlite.specs.Edit.{id_in}
 use Rattle.sqlite.specs.Order.{Row, column, bytes}
 use Rattle.sqlite.specs.Tree.{Trees}
@@ -96,6 +97,16 @@ statuses = record {
   select = codes "SELECT batch, name, report FROM statuses";
   values = λ r. Int r.batch ∷ Text r.name ∷ Int r.report ∷ [];
   read = λ c. record { batch = id_in (column c 0); name = bytes (column c 1); report = id_in (column c 2) };
+}
+
+abbrev pub wanted : Form WantedRow
+wanted = record {
+  layout = database.wanted;
+  at = 8;
+  insert = codes "INSERT INTO wanted (kind, place, word) VALUES (?1, ?2, ?3)";
+  select = codes "SELECT kind, place, word FROM wanted";
+  values = λ r. Int r.kind ∷ Int r.place ∷ Text r.word ∷ [];
+  read = λ c. record { kind = id_in (column c 0); place = id_in (column c 1); word = bytes (column c 2) };
 }
 
 -- an answer under its identifier

@@ -1,6 +1,7 @@
 -- WHAT THE STORED ROWS OF A TABLE KEEP, whatever statements did to them. For private clauses.
 use Rattle.std.specs.Prelude.{◌≡◌, Bool, true, false, ◌&&◌, List, [], ◌∷◌}
 use Rattle.std.specs.List.{AllByRecursion, list_all}
+use Rattle.gate_tables.specs.Apart.{AreApartBy}
 use Rattle.gate_tables.specs.Database.{columns_in}
 use Rattle.sqlite.specs.Edit.{have_rowids}
 use Rattle.sqlite.specs.Kind.{Kind}
@@ -8,7 +9,7 @@ use Rattle.sqlite.specs.Kind.TheVariants as kind
 use Rattle.sqlite.specs.Order.{Row}
 use Rattle.sqlite.specs.Schema.{Schema}
 use Rattle.sqlite.specs.Table.{Table}
-use Rattle.sqlite.specs.Tree.{Trees, IsTable}
+use Rattle.sqlite.specs.Tree.{Trees, rowid}
 use Rattle.sqlite.specs.declared.types.Value.{Value}
 use Rattle.sqlite.specs.declared.types.Value.TheVariants.{Null, Int, Real, Text, Blob}
 use Rattle.sqlite_schema.specs.Rules.{Keeps}
@@ -41,7 +42,7 @@ is_whole (c ∷ cs) (v ∷ vs) = is_of_kind c.kind v && is_whole cs vs
 pub record IsKept (table : Table) (rows : List Row) : Type 0 where
   -- Each row has an integer as its rowid, so that it can be deleted, and no two have the same.
   pub rowids : have_rowids rows ≡ true
-  pub rising : IsTable rows
+  pub own : AreApartBy rowid rows
   -- so what is read of a row is all that it has
   pub whole : list_all (λ row. is_whole table.columns (columns_in table row)) rows ≡ true
 

@@ -1,14 +1,16 @@
 -- What the contracts of this crate cite. For a reader, in this order:
---     Database    the eight tables, and how a row of one is read
+--     Database    the nine tables, and how a row of one is read
 --     Forms       the rows of a table as records
 --     Contents    what rows and what answers a database has
 --     Tables      the same of a connection, and when it may be relied on
 --     Keys        the key of a row
+--     Apart       items with keys of their own
 --     Applied     what row changes make of rows
 --     Differences the row changes that lead from rows to others
--- For the code: Faults; Answers, Batches, Changes, Desk, Marks, Members, People, Statuses, the statements on each table; Casts,
+-- For the code: Faults; Answers, Batches, Changes, Desk, Marks, Members, People, Statuses, Wanted, the statements on each table; Casts,
 -- Creation, Effects, Kept, Known, Texts, what statements do.
 pub mod Answers
+pub mod Apart
 pub mod Applied
 pub mod Batches
 pub mod Casts
@@ -30,3 +32,4 @@ pub mod People
 pub mod Statuses
 pub mod Tables
 pub mod Texts
+pub mod Wanted

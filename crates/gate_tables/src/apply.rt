@@ -12,7 +12,9 @@ use crate::answers::put_answer;
 use crate::change::{Row, RowChange, RowKey};
 use crate::fault::TablesFault;
 use crate::kind::TableRow;
-use crate::row::{BatchRow, ChangeRow, DeskRow, MarkRow, MemberRow, PersonRow, StatusRow};
+use crate::row::{
+    BatchRow, ChangeRow, DeskRow, MarkRow, MemberRow, PersonRow, StatusRow, WantedRow,
+};
 use crate::statement::run;
 use sqlite::types::ValueRef;
 use sqlite::{Alter, Connection, Transaction, params};
@@ -68,6 +70,7 @@ fn delete_by<S: Alter>(tx: &mut Transaction<'_, S>, key: &RowKey) -> Result<(), 
         RowKey::Statuses { batch, name } => {
             delete::<S, StatusRow>(tx, params![batch, name.as_str()])
         }
+        RowKey::Wanted { kind, place } => delete::<S, WantedRow>(tx, params![kind, place]),
     }
 }
 
@@ -87,6 +90,7 @@ fn put_row<S: Alter>(tx: &mut Transaction<'_, S>, row: &Row) -> Result<(), Table
         Row::Batches(row) => put(tx, row),
         Row::Members(row) => put(tx, row),
         Row::Statuses(row) => put(tx, row),
+        Row::Wanted(row) => put(tx, row),
     }
 }
 

@@ -1,4 +1,6 @@
-use crate::row::{BatchRow, ChangeRow, DeskRow, MarkRow, MemberRow, PersonRow, StatusRow};
+use crate::row::{
+    BatchRow, ChangeRow, DeskRow, MarkRow, MemberRow, PersonRow, StatusRow, WantedRow,
+};
 use gate_text::Text;
 
 /// A row of one of the tables but `answers`.
@@ -18,6 +20,8 @@ pub enum Row {
     Members(MemberRow),
     /// A row of `statuses`.
     Statuses(StatusRow),
+    /// A row of `wanted`.
+    Wanted(WantedRow),
 }
 
 /// The key of a row of one of the tables but `answers`: its first columns, by their names.
@@ -54,6 +58,11 @@ pub enum RowKey {
     Statuses {
         batch: i64,
         name: Text,
+    },
+    /// Of a row of `wanted`.
+    Wanted {
+        kind: i64,
+        place: i64,
     },
 }
 

@@ -66,14 +66,29 @@ fn create_last<S: Alter>(tx: &mut Transaction<'_, S>) -> Result<(), TablesFault>
     )
 }
 
-// Makes the eight tables, which have no rows, in a database that has none.
+fn create_wanted<S: Alter>(tx: &mut Transaction<'_, S>) -> Result<(), TablesFault>
+    ensures same_reference { tx.new.conn.ghost_name ≡ tx.old.conn.ghost_name }
+    ensures made { HasCleanDisk (state S.Store tx.new.conn.now) → OnOk result (IsBare (after_first 8) (state S.Store tx.old.conn.now)
+        → IsBare (after_first 9) (state S.Store tx.new.conn.now)) }
+    ensures kept { HasCleanDisk (state S.Store tx.new.conn.now) → KeepsCommit (state S.Store tx.old.conn.now) (state S.Store tx.new.conn.now) }
+    ensures clean { HasCleanDisk (state S.Store tx.new.conn.now) → HasCleanDisk (state S.Store tx.old.conn.now) }
+{
+    run(
+        tx,
+        "CREATE TABLE wanted (kind INTEGER NOT NULL, place INTEGER NOT NULL, word TEXT NOT NULL, PRIMARY KEY (kind, place)) STRICT",
+        &[],
+    )
+}
+
+// Makes the nine tables, which have no rows, in a database that has none.
 pub(crate) fn create<S: Alter>(tx: &mut Transaction<'_, S>) -> Result<(), TablesFault>
     ensures same_reference { tx.new.conn.ghost_name ≡ tx.old.conn.ghost_name }
     ensures made { HasCleanDisk (state S.Store tx.new.conn.now) → OnOk result (IsBare (after_first 0) (state S.Store tx.old.conn.now)
-        → IsBare (after_first 8) (state S.Store tx.new.conn.now)) }
+        → IsBare (after_first 9) (state S.Store tx.new.conn.now)) }
     ensures kept { HasCleanDisk (state S.Store tx.new.conn.now) → KeepsCommit (state S.Store tx.old.conn.now) (state S.Store tx.new.conn.now) }
     ensures clean { HasCleanDisk (state S.Store tx.new.conn.now) → HasCleanDisk (state S.Store tx.old.conn.now) }
 {
     create_first(tx)?;
-    create_last(tx)
+    create_last(tx)?;
+    create_wanted(tx)
 }

@@ -1,4 +1,4 @@
-//! The eight tables of the records in a SQLite database, as rows: they are made, read whole, and changed row by row with one
+//! The nine tables of the records in a SQLite database, as rows: they are made, read whole, and changed row by row with one
 //! answer, in one transaction or not at all. What rows stand for isn't known here.
 #![tactic(auto)]
 
@@ -21,10 +21,13 @@ mod row;
 mod statement;
 mod statuses;
 mod tables;
+mod wanted;
 
 pub use change::{Row, RowChange, RowKey};
 pub use fault::TablesFault;
 pub use laws::{law_of_differences, law_of_parts};
 pub use make::is_blank;
-pub use row::{BatchRow, ChangeRow, DeskRow, MarkRow, MemberRow, PersonRow, Rows, StatusRow};
+pub use row::{
+    BatchRow, ChangeRow, DeskRow, MarkRow, MemberRow, PersonRow, Rows, StatusRow, WantedRow,
+};
 pub use tables::{NotMade, Tables};

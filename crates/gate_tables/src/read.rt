@@ -6,12 +6,14 @@ ghost use Rattle.sqlite.specs.State.{HasCleanDisk};
 
 use crate::fault::TablesFault;
 use crate::kind::all;
-use crate::row::{BatchRow, ChangeRow, DeskRow, MarkRow, MemberRow, PersonRow, Rows, StatusRow};
+use crate::row::{
+    BatchRow, ChangeRow, DeskRow, MarkRow, MemberRow, PersonRow, Rows, StatusRow, WantedRow,
+};
 use gate_text::List;
 use sqlite::{Alter, Connection};
 use std::alloc::Global;
 
-// The rows of the first four tables, and of the last three. A function has four statements at the most, since the proof of more
+// The rows of the first four tables, and of the last four. A function has four statements at the most, since the proof of more
 // takes minutes.
 #[derive(Drop)]
 struct First {
@@ -26,6 +28,7 @@ struct Last {
     batches: List<BatchRow>,
     members: List<MemberRow>,
     statuses: List<StatusRow>,
+    wanted: List<WantedRow>,
 }
 
 fn read_first<S: Alter>(alloc: Global, conn: &mut Connection<S>) -> Result<First, TablesFault>
@@ -59,10 +62,12 @@ fn read_last<S: Alter>(alloc: Global, conn: &mut Connection<S>) -> Result<Last, 
     let batches = all(alloc, conn)?;
     let members = all(alloc, conn)?;
     let statuses = all(alloc, conn)?;
+    let wanted = all(alloc, conn)?;
     Ok(Last {
         batches,
         members,
         statuses,
+        wanted,
     })
 }
 
@@ -88,6 +93,7 @@ pub(crate) fn read_rows<S: Alter>(
         batches,
         members,
         statuses,
+        wanted,
     } = read_last(alloc, conn)?;
     Ok(Rows {
         desk,
@@ -97,5 +103,6 @@ pub(crate) fn read_rows<S: Alter>(
         batches,
         members,
         statuses,
+        wanted,
     })
 }

@@ -5,7 +5,7 @@ use gate_text::{List, Text};
 pub struct DeskRow {
     /// 1: the key of the one row.
     pub one: i64,
-    /// The version of the schema, 1.
+    /// The version of the schema, 2.
     pub version: i64,
     /// The number of the next batch.
     pub next_batch: i64,
@@ -52,10 +52,9 @@ pub struct ChangeRow {
 /// A row of the table `marks`.
 #[derive(Debug, Drop, PartialEq, Eq, PartialOrd, Ord)]
 pub struct MarkRow {
-    /// The number of the change, or 0 for the settings.
+    /// The number of the change.
     pub change_no: i64,
-    /// Of a change: 1 a label, 2 a review, 3 a delegate, 4 an approver, 5 a name of the last `r=`. Of the settings: 6 a required status, 7 a
-    /// blocking label.
+    /// 1 a label, 2 a review, 3 a delegate, 4 an approver, 5 a name of the last `r=`, 8 a status that has succeeded on the head.
     pub kind: i64,
     /// The label, the name of the person or that of the status.
     pub word: Text,
@@ -104,6 +103,17 @@ pub struct StatusRow {
     pub report: i64,
 }
 
+/// A row of the table `wanted`.
+#[derive(Debug, Drop, PartialEq, Eq, PartialOrd, Ord)]
+pub struct WantedRow {
+    /// What the settings list: 1 the required statuses, 2 the blocking labels, 3 the statuses wanted on the head of a change.
+    pub kind: i64,
+    /// The place in that list, from 0.
+    pub place: i64,
+    /// The name of the status, or the label.
+    pub word: Text,
+}
+
 /// The rows of every table but `answers`. The order of a list says nothing.
 #[derive(Debug, Drop)]
 pub struct Rows {
@@ -121,4 +131,6 @@ pub struct Rows {
     pub members: List<MemberRow>,
     /// The table `statuses`.
     pub statuses: List<StatusRow>,
+    /// The table `wanted`.
+    pub wanted: List<WantedRow>,
 }

@@ -82,7 +82,7 @@ impl<S: Alter> Tables<S> {
         connection
     }
 
-    /// The connection as it is. No transaction is open. If it is sound, its database has the eight tables and nothing besides, in
+    /// The connection as it is. No transaction is open. If it is sound, its database has the nine tables and nothing besides, in
     /// each column of a row a value of its kind, and no two rows of a table with one key.
     pub fn connection(&self) -> &Connection<S>
         ensures value { result.now ≡ self.now }

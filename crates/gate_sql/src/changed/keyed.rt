@@ -3,6 +3,7 @@ ghost use Rattle.std.specs.Prelude.{◌≡◌};
 use crate::sorting::Same;
 use gate_tables::{
     BatchRow, ChangeRow, DeskRow, MarkRow, MemberRow, PersonRow, Row, RowChange, RowKey, StatusRow,
+    WantedRow,
 };
 use gate_text::Text;
 use std::alloc::{AllocError, Global};
@@ -247,6 +248,39 @@ impl Keyed for StatusRow {
 
     fn into_put(self) -> RowChange {
         RowChange::Put(Row::Statuses(self))
+    }
+
+    ghost keyed = { statements.keyed };
+}
+
+impl Keyed for WantedRow {
+    ghost use Rattle.gate_tables.specs.Forms as forms;
+    ghost use Rattle.gate_tables.specs.Wanted as statements;
+    ghost use Rattle.gate_tables.specs.declared.change.Row.TheVariants as row;
+    ghost use Rattle.gate_tables.specs.declared.change.RowChange.TheVariants as change;
+    ghost use Rattle.gate_tables.specs.declared.change.RowKey.TheVariants as key;
+
+    ghost form = { forms.wanted };
+
+    ghost put = { λ r. change.Put (row.Wanted r) };
+
+    ghost deletion = { λ r. change.Delete (key.Wanted r.kind r.place) };
+
+    fn compare_keys(&self, other: &WantedRow) -> Ordering {
+        let kinds = self.kind.cmp(&other.kind);
+        kinds.then(self.place.cmp(&other.place))
+    }
+
+    fn deletion(&self, _alloc: Global) -> Result<RowChange, AllocError> {
+        let WantedRow { kind, place, .. } = self;
+        Ok(RowChange::Delete(RowKey::Wanted {
+            kind: *kind,
+            place: *place,
+        }))
+    }
+
+    fn into_put(self) -> RowChange {
+        RowChange::Put(Row::Wanted(self))
     }
 
     ghost keyed = { statements.keyed };

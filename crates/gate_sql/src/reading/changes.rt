@@ -62,11 +62,8 @@ fn last_in(alloc: Global, number: i64) -> Option<Repeat> {
     }
 }
 
-// Gives a change its mark. The change 0 stands for the settings.
+// Gives a change its mark.
 fn put_mark(alloc: Global, desk: &mut Desk, mark: &MarkRow) -> Result<(), TablesFault> {
-    if mark.change_no == 0 {
-        return Ok(());
-    }
     let number = change_no(mark.change_no)?;
     desk.alter(
         number,

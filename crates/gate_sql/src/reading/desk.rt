@@ -1,7 +1,7 @@
 use crate::reading::changes::put_changes;
 use crate::reading::words::{commit, context, label, name, natural, small_natural};
 use gate_rules::{Desk, Role};
-use gate_tables::{DeskRow, MarkRow, PersonRow, Rows, TablesFault};
+use gate_tables::{DeskRow, PersonRow, Rows, TablesFault, WantedRow};
 use gate_text::{Contexts, Labels, Settings};
 use std::alloc::Global;
 
@@ -25,14 +25,18 @@ fn fill(alloc: Global, desk: &mut Desk, rows: &Rows, row: &DeskRow) -> Result<()
         desk.set_base(commit(&row.base)?);
     }
     if row.timeout_sec != 0 {
-        desk.set_settings(settings_in(alloc, row, rows.marks.as_slice())?);
+        desk.set_settings(settings_in(alloc, row, rows.wanted.as_slice())?);
     }
     put_people(alloc, desk, rows.people.as_slice())?;
     put_changes(alloc, desk, rows)
 }
 
-// The settings, whose marks are those of the change 0.
-fn settings_in(alloc: Global, row: &DeskRow, marks: &[MarkRow]) -> Result<Settings, TablesFault> {
+// The settings, and what they list.
+fn settings_in(
+    alloc: Global,
+    row: &DeskRow,
+    wanted: &[WantedRow],
+) -> Result<Settings, TablesFault> {
     let timeout = small_natural(row.timeout_sec)?;
     let approvals = small_natural(row.required_approvals)?;
     let size = match small_natural(row.max_batch_size)? {
@@ -42,7 +46,7 @@ fn settings_in(alloc: Global, row: &DeskRow, marks: &[MarkRow]) -> Result<Settin
     let mut status = Contexts::from(Vec::new(alloc));
     let mut labels = Labels::from(Vec::new(alloc));
     let mut own = Contexts::from(Vec::new(alloc));
-    match add_marks(alloc, &mut status, &mut labels, &mut own, marks) {
+    match add_wanted(alloc, &mut status, &mut labels, &mut own, wanted) {
         Ok(()) => {
             Settings::new(status, timeout, labels, approvals, size, own).ok_or(TablesFault::Store)
         }
@@ -53,19 +57,19 @@ fn settings_in(alloc: Global, row: &DeskRow, marks: &[MarkRow]) -> Result<Settin
     }
 }
 
-fn add_marks(
+fn add_wanted(
     alloc: Global,
     status: &mut Contexts,
     labels: &mut Labels,
     own: &mut Contexts,
-    marks: &[MarkRow],
+    rows: &[WantedRow],
 ) -> Result<(), TablesFault> {
-    for mark in marks {
-        match (mark.change_no, mark.kind) {
-            (0, 6) => status.push(context(alloc, &mark.word)?)?,
-            (0, 7) => labels.push(label(alloc, &mark.word)?)?,
-            (0, 9) => own.push(context(alloc, &mark.word)?)?,
-            _ => (),
+    for row in rows {
+        match row.kind {
+            1 => status.push(context(alloc, &row.word)?)?,
+            2 => labels.push(label(alloc, &row.word)?)?,
+            3 => own.push(context(alloc, &row.word)?)?,
+            _ => return Err(TablesFault::Store),
         }
     }
     Ok(())

@@ -34,7 +34,7 @@ pub(crate) fn desk_row_of(
 {
     Ok(DeskRow {
         one: 1,
-        version: 1,
+        version: 2,
         next_batch: integer(next)?,
         clock: integer(clock)?,
         base: base_text(alloc, base)?,

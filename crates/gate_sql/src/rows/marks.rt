@@ -3,7 +3,7 @@ ghost use Rattle.std.specs.FinMap as finite;
 ghost use Rattle.std.specs.List.{flat_map};
 ghost use Rattle.std.specs.List.Sorted.{IsStrictlySortedBy};
 ghost use Rattle.std.specs.Map.{keys_of};
-ghost use Rattle.std.specs.Option.{option_copied, unwrap_or};
+ghost use Rattle.std.specs.Option.{unwrap_or};
 ghost use Rattle.std.specs.Ordering.{nat_cmp};
 ghost use Rattle.gate_sql.specs.Encoding as encoding;
 
@@ -11,35 +11,18 @@ mod words;
 
 use gate_rules::{Change, Desk, Repeat};
 use gate_tables::MarkRow;
-use gate_text::{ChangeNo, List, Names, Settings};
+use gate_text::{ChangeNo, List, Names};
 use std::alloc::{AllocError, Global};
 use std::collections::BTreeMap;
 use words::{push_list, push_set};
 
-/// A row for each mark of the settings and of a change.
+/// A row for each mark of each change.
 pub(crate) fn mark_rows(alloc: Global, desk: &Desk) -> Result<List<MarkRow>, AllocError>
-    ensures { IfOk result (λ rows. rows ≡ encoding.settings_marks desk.now.settings ++ flat_map encoding.marks_of (finite.entries desk.now.changes)) }
+    ensures { IfOk result (λ rows. rows ≡ flat_map encoding.marks_of (finite.entries desk.now.changes)) }
 {
     let mut rows = Vec::new(alloc);
-    push_settings(alloc, &mut rows, desk.settings())?;
     push_changes(alloc, &mut rows, desk.changes())?;
     Ok(List::from(rows))
-}
-
-/// Adds a row for each mark of the settings.
-pub(crate) fn push_settings(
-    alloc: Global,
-    rows: &mut Vec<MarkRow>,
-    settings: Option<&Settings>,
-) -> Result<(), AllocError>
-    ensures { OnOk result (rows.new.items ≡ rows.old.items ++ encoding.settings_marks (option_copied settings.entry)) }
-{
-    if let Some(settings) = settings {
-        push_list(alloc, rows, 0, 6, settings.status())?;
-        push_list(alloc, rows, 0, 7, settings.block_labels())?;
-        push_list(alloc, rows, 0, 9, settings.pr_status())?;
-    }
-    Ok(())
 }
 
 fn push_changes(

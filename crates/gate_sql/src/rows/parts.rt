@@ -1,18 +1,17 @@
-ghost use Rattle.std.specs.Prelude.{◌≡◌, ◌++◌, IfOk, OnOk};
+ghost use Rattle.std.specs.Prelude.{◌≡◌, IfOk};
 ghost use Rattle.std.specs.Option.{option_copied};
 ghost use Rattle.gate_sql.specs.Parts as parts;
-ghost use Rattle.gate_sql.specs.Parts.{settings_marks_now, settings_marks_then};
 
 use crate::rows::batches::{batch_rows, batches_now, batches_then};
 use crate::rows::changes::{push_now, push_then};
 use crate::rows::desk::{desk_row, desk_row_of};
-use crate::rows::marks::push_settings;
 use crate::rows::members::member_rows;
 use crate::rows::one;
 use crate::rows::people::{people_now, people_then};
 use crate::rows::statuses::status_rows;
+use crate::rows::wanted::wanted_rows;
 use gate_queue::{Before, Gate};
-use gate_tables::{MarkRow, Rows};
+use gate_tables::{Rows, WantedRow};
 use gate_text::{List, Settings};
 use std::alloc::{AllocError, Global};
 
@@ -23,7 +22,6 @@ pub(crate) fn rows_then(alloc: Global, before: &Before, gate: &Gate) -> Result<R
     let batches = batches_then(alloc, before)?;
     let mut changes = Vec::new(alloc);
     let mut marks = Vec::new(alloc);
-    push_settings_then(alloc, &mut marks, before)?;
     push_then(alloc, &mut changes, &mut marks, before)?;
     let desk = desk_row_of(
         alloc,
@@ -40,6 +38,7 @@ pub(crate) fn rows_then(alloc: Global, before: &Before, gate: &Gate) -> Result<R
         batches: batch_rows(alloc, &batches)?,
         members: member_rows(alloc, &batches)?,
         statuses: status_rows(alloc, &batches)?,
+        wanted: wanted_then(alloc, before)?,
     })
 }
 
@@ -50,7 +49,6 @@ pub(crate) fn rows_now(alloc: Global, before: &Before, gate: &Gate) -> Result<Ro
     let batches = batches_now(alloc, before, gate)?;
     let mut changes = Vec::new(alloc);
     let mut marks = Vec::new(alloc);
-    push_settings_now(alloc, &mut marks, before, gate)?;
     push_now(alloc, &mut changes, &mut marks, before, gate.desk())?;
     Ok(Rows {
         desk: one(alloc, desk_row(alloc, gate)?)?,
@@ -60,6 +58,7 @@ pub(crate) fn rows_now(alloc: Global, before: &Before, gate: &Gate) -> Result<Ro
         batches: batch_rows(alloc, &batches)?,
         members: member_rows(alloc, &batches)?,
         statuses: status_rows(alloc, &batches)?,
+        wanted: wanted_now(alloc, before, gate)?,
     })
 }
 
@@ -73,31 +72,22 @@ fn settings_then<'a>(before: &'a Before, gate: &'a Gate) -> Option<&'a Settings>
     }
 }
 
-// Adds the marks of the settings that were noted.
-fn push_settings_then(
-    alloc: Global,
-    marks: &mut Vec<MarkRow>,
-    before: &Before,
-) -> Result<(), AllocError>
-    ensures { OnOk result (marks.new.items ≡ marks.old.items ++ settings_marks_then before.now) }
+// What the settings that were noted listed.
+fn wanted_then(alloc: Global, before: &Before) -> Result<List<WantedRow>, AllocError>
+    ensures { IfOk result (λ rows. rows ≡ parts.wanted_then before.now) }
 {
     match before.settings() {
-        Some(noted) => push_settings(alloc, marks, noted.as_ref()),
-        None => Ok(()),
+        Some(noted) => wanted_rows(alloc, noted.as_ref()),
+        None => Ok(List::from(Vec::new(alloc))),
     }
 }
 
-// Adds the marks of the settings, if settings were noted.
-fn push_settings_now(
-    alloc: Global,
-    marks: &mut Vec<MarkRow>,
-    before: &Before,
-    gate: &Gate,
-) -> Result<(), AllocError>
-    ensures { OnOk result (marks.new.items ≡ marks.old.items ++ settings_marks_now before.now gate.now) }
+// What the settings list, if settings were noted.
+fn wanted_now(alloc: Global, before: &Before, gate: &Gate) -> Result<List<WantedRow>, AllocError>
+    ensures { IfOk result (λ rows. rows ≡ parts.wanted_now before.now gate.now) }
 {
     match before.settings() {
-        Some(_) => push_settings(alloc, marks, gate.desk().settings()),
-        None => Ok(()),
+        Some(_) => wanted_rows(alloc, gate.desk().settings()),
+        None => Ok(List::from(Vec::new(alloc))),
     }
 }

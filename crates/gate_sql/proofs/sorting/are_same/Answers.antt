@@ -3,7 +3,8 @@ use Rattle.gate_sql.proofs.sorting.are_same.Goals as goal
 
 pub returns : goal.returns
 returns c all =
-    let six = first_so _ c.have_same-7.result all in
+    let seven = first_so _ c.have_same-8.result all in
+    let six = first_so _ c.have_same-7.result seven in
     let five = first_so _ c.have_same-6.result six in
     let four = first_so _ c.have_same-5.result five in
     let three = first_so _ c.have_same-4.result four in
@@ -14,5 +15,6 @@ returns c all =
       marks = c.have_same-4.ensures (second_so _ _ four);
       batches = c.have_same-5.ensures (second_so _ _ five);
       members = c.have_same-6.ensures (second_so _ _ six);
-      statuses = c.have_same-7.ensures (second_so _ _ all);
+      statuses = c.have_same-7.ensures (second_so _ _ seven);
+      wanted = c.have_same-8.ensures (second_so _ _ all);
     }

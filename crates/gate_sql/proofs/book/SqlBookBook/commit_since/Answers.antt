@@ -25,7 +25,7 @@ written g c sound =
     let held = c.self.invariant was in
     let before = subst (λ book. is_sound g.S.Store book → IsBefore c.args.before.now (state_in (rows_in g.S.Store book)) gate) (sym c.self.view_is) c.requires.stands was in
     let led = c.in_ok-leading.ensures.leads (state_in (rows_in g.S.Store old)) (rows_in g.S.Store old)
-    (record { before = before; old = held.state; old_limits = held.limits; new = c.is_of_machine.ensures.state; new_limits = c.is_of_machine.ensures.limits }) held.rows_are in
+    (record { before = before; old = held.state; new = c.is_of_machine.ensures.state }) held.rows_are in
     leaves gate (rows_in g.S.Store new) (answers_in g.S.Store new) (answers_in g.S.Store old) c.text.result.now c.args.text.now c.args.answer.now
     c.law_of_rows_of.ensures c.is_of_machine.ensures.state c.is_of_machine.ensures.limits
     (led_to c.as_slice.result.now c.in_ok-leading.leading.items (rows_in g.S.Store new) (rows_in g.S.Store old) (rows_in g.S.Store old) (rows_of gate) (c.in_default.ensures.rows sound) c.as_slice.ensures.value (λ i. rows_in g.S.Store old) led)
