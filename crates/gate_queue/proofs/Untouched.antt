@@ -23,7 +23,7 @@ use Rattle.gate_rules.specs.declared.change.Repeat.TheVariants as repeat
 use Rattle.gate_rules.specs.declared.role.Role.{Role as RoleOf}
 use Rattle.gate_rules.specs.declared.rule.Rule.{Rule}
 use Rattle.gate_state.specs.Lanes as lanes
-use Rattle.gate_state.specs.Lanes.{has_changes, is_fresh_beside, is_fresh_of, last_so, loses, only}
+use Rattle.gate_state.specs.Lanes.{is_fresh_beside, is_fresh_of, last_so, loses}
 use Rattle.gate_state.specs.Queue.{batches_of, taken_out, restarted}
 use Rattle.gate_state.specs.State.{approved_on, priority_on, trying_on, IsState}
 use Rattle.gate_state.specs.declared.act.Act.{Act}

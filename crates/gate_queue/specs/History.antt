@@ -221,11 +221,12 @@ abbrev pub status_said : List ℕ → Act → Option Mark
 status_said head (Status commit name state) = then_some (bytes_eq commit head) (if is_good state then put name else taken name)
 status_said head _ = None
 
--- what has succeeded on the head of a change since its last move; none on a change that isn't open
+-- what has succeeded on the head of a change since its last move
 abbrev pub told_back : List Event → ℕ → Texts
 told_back [] change = set.empty
 told_back (event ∷ events) change = if moves change event events then set.empty else marked (said_by (status_said (head_back events change)) event events) (told_back events change)
 
+-- the same of an open change, and nothing of any other
 abbrev pub passed_back : List Event → ℕ → Texts
 passed_back events change = if is_open_phase (phase_back events change) then told_back events change else set.empty
 
@@ -596,8 +597,8 @@ pub record EntryTells (history : List Entry) (old : State) (entry : Entry) (new 
   pub staged_once : (number : ℕ) → stages number (events_of (entry ∷ history)) ≤ 1
   pub landed_once : (number : ℕ) → landings number (events_of (entry ∷ history)) ≤ 1
   pub ordered_rightly : All (IsRightOrder (events_of (entry ∷ history)) entry.act) (orders_in entry.reply)
-  -- acts exactly by rule: done if no rule fails on the history before, and else denied by the first that does; news of a batch
-  -- is denied before, if no batch is where the news needs it, and of a status no open change has the commit as its head
+  -- acts exactly by rule: done if no rule fails on the history before, and else denied by the first that does. News of a batch
+  -- is denied before if no batch is where it needs one; a status may also be of the head of an open change.
   pub by_rule : denied_by entry.reply ≡ option_or (missing old entry.act) (rule_back history entry.act)
   -- a denied act changes nothing
   pub denied : (rule : Rule) → entry.reply ≡ Denied rule → new ≡ old

@@ -67,15 +67,6 @@ in_front s = record {
   settings = false;
 }
 
--- A STATUS may change the open changes whose head its commit is; and if a batch is tested as this commit, what news may change.
-abbrev pub with_heads : State → List ℕ → Parts → Parts
-with_heads s commit parts = record parts {
-  change = λ number. parts.change number || option_map_or (is_open_at commit) (finite.get s.desk.changes number) false;
-}
-
-abbrev pub of_status : State → List ℕ → Parts
-of_status s commit = with_heads s commit (if on_either (has_staged commit) s.queue then in_front s else no_parts)
-
 -- A BASE may change besides the tries of changes that land.
 abbrev pub stays_tried : State → ℕ → Bool
 stays_tried s change = trying_on s.desk change && not (is_run change s.queue.staging)
@@ -84,6 +75,15 @@ abbrev pub of_base : State → Parts
 of_base s = record (in_front s) {
   batch = λ number. is_in_front s.queue.staging number || is_in_front s.queue.trying number || one_numbered (loses (stays_tried s)) (lanes.batches_of s.queue.trying) number;
 }
+
+-- A STATUS may change the open changes whose head its commit is; and, if a batch is tested as this commit, what other news may change.
+abbrev pub with_heads : State → List ℕ → Parts → Parts
+with_heads s commit parts = record parts {
+  change = λ number. parts.change number || option_map_or (is_open_at commit) (finite.get s.desk.changes number) false;
+}
+
+abbrev pub of_status : State → List ℕ → Parts
+of_status s commit = with_heads s commit (if on_either (has_staged commit) s.queue then in_front s else no_parts)
 
 -- NEW SETTINGS may change the changes that lose their approval, the batches that have one, and those that run.
 abbrev pub of_settings : State → SettingsView → Parts

@@ -120,10 +120,6 @@ stays : (was b : Bool) → (not (was && false) && b) ≡ b
 stays true b = refl
 stays false b = refl
 
-undone : (a b : Bool) → b ≡ false → (not (a && true) && ((a && true) || b)) ≡ b
-undone true b none = sym none
-undone false b none = refl
-
 one_head : (was now : Option (List ℕ)) (h : List ℕ) → is_head was h ≡ true → is_head now h ≡ true → was ≡ now
 one_head None now h was_so now_so = cc was_so
 one_head (Some was) None h was_so now_so = cc now_so
@@ -179,18 +175,6 @@ module _ (changes : FinMap nat_cmp Change) (number : ℕ) (change : Change) wher
             → (not (was && b) && ((is_head (open_head change) h && b) || is_head (open_head_at changes n) h)) ≡ is_head (cond b (open_head change) (open_head_at changes n)) h
         by true at = moved_on was _ _ (ap (λ m. is_head (open_head_at changes m) h) ((Decides-eqb n number).0 at)) (λ was_so now_so. other (one_head (open_head_at changes number) (open_head change) h was_so now_so))
         by false at = left_alone was _ _
-
-  -- one that could not be kept, and wasn't there
-  pub index_undone : (old between new : Heads) → IsIndexOf changes old → ((h : List ℕ) (n : ℕ) → has between h n ≡ ((is_head (open_head change) h && (n == number)) || has old h n))
-      → ((h : List ℕ) (n : ℕ) → has new h n ≡ (not (is_head (open_head change) h && (n == number)) && has between h n))
-      → map.get changes number ≡ None → IsIndexOf changes new
-  index_undone old between new is added left absent h n =
-      left h n ∙ ap (λ (b : Bool). not (is_head (open_head change) h && (n == number)) && b) (added h n ∙ ap (λ (b : Bool). (is_head (open_head change) h && (n == number)) || b) (is h n))
-      ∙ by (n == number) refl where
-        by : (b : Bool) → (n == number) ≡ b
-            → (not (is_head (open_head change) h && b) && ((is_head (open_head change) h && b) || is_head (open_head_at changes n) h)) ≡ is_head (open_head_at changes n) h
-        by true at = undone _ _ (ap (λ m. is_head (open_head_at changes m) h) ((Decides-eqb n number).0 at) ∙ ap (λ (c : Option Change). is_head (option_and_then open_head c) h) absent)
-        by false at = left_alone (is_head (open_head change) h) _ _
 
 -- an alteration that keeps the head of a change, and one that shuts it
 pub same_head : (altered change : Change) → altered.head ≡ change.head → is_open_phase altered.phase ≡ is_open_phase change.phase → open_head altered ≡ open_head change

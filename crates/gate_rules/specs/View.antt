@@ -63,6 +63,10 @@ is_open_at head change = is_open_phase change.phase && bytes_eq head change.head
 abbrev pub is_open_head : List ℕ → DeskView → Bool
 is_open_head head desk = list_any (λ (entry : ℕ × Change). is_open_at head entry.1) (map.entries desk.changes)
 
+-- whether these are the numbers of the open changes that have it
+abbrev pub AreOpenAt : List ℕ → DeskView → List ℕ → Type 0
+AreOpenAt head desk numbers = (number : ℕ) → list_any (λ other. number == other) numbers ≡ option_map_or (is_open_at head) (map.get desk.changes number) false
+
 -- A status of the head of a change: a success puts its name among those that have succeeded there, and all else takes it away.
 abbrev pub with_status : List ℕ → Bool → Change → Change
 with_status name success change = record change { passed = if success then set.insert change.passed name else set.remove change.passed name }
@@ -72,10 +76,6 @@ told_at head name success change = if is_open_at head change then with_status na
 
 abbrev pub with_told : List ℕ → List ℕ → Bool → DeskView → DeskView
 with_told head name success desk = record desk { changes = mapped_values (told_at head name success) desk.changes }
-
--- whether these are the numbers of the open changes that have it
-abbrev pub AreOpenAt : List ℕ → DeskView → List ℕ → Type 0
-AreOpenAt head desk numbers = (number : ℕ) → list_any (λ other. number == other) numbers ≡ option_map_or (is_open_at head) (map.get desk.changes number) false
 
 -- THE CHANGES THAT MEET A CONDITION
 abbrev pub without_approval : Change → Change

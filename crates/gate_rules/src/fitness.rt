@@ -23,7 +23,7 @@ pub fn is_blocked(settings: &Settings, change: &Change) -> bool
 }
 
 /// The first of the statuses that the settings want on the head of a change, in their order, that hasn't succeeded there.
-pub fn missing_status<'a>(settings: &'a Settings, change: &Change) -> Option<&'a Context>
+pub(crate) fn missing_status<'a>(settings: &'a Settings, change: &Change) -> Option<&'a Context>
     ensures value { option_copied result ≡ rules.missing_status settings.now change.now.passed }
 {
     settings

@@ -50,8 +50,8 @@ pub enum Rule {
     BadSettings(u8),
     /// The reading is less than the clock.
     ClockBack,
-    /// No batch of this number is where the act needs it; or of a status, no batch is tested as this commit, and no open change
-    /// has it as its head.
+    /// No batch of this number is where the act needs it. For a status: no batch is tested as its commit, and no open change has
+    /// that as its head.
     NoSuchBatch,
     /// The commit is the present base.
     SameAsBase,

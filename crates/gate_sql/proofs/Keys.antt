@@ -35,7 +35,6 @@ use Rattle.gate_state.specs.declared.state.State.{State}
 use Rattle.gate_tables.specs.Apart.{AreApartBy}
 use Rattle.gate_tables.specs.Differences.{AreApart, HaveKeys}
 use Rattle.gate_tables.specs.Forms as forms
-use Rattle.gate_tables.specs.Forms.{Form}
 use Rattle.gate_tables.specs.Keys.{key_of}
 use Rattle.gate_tables.specs.declared.row.MarkRow.{MarkRow}
 use Rattle.gate_tables.specs.declared.row.MemberRow.{MemberRow}
@@ -60,9 +59,6 @@ module _ {X Y : Type 0} (P : X → Y → Type 0) where
 across_flat : {X Y Z : Type 0} (P : X → Y → Type 0) (f : Z → List Y) (xs : List X) (zs : List Z) → AllByRecursion (λ z. AllAcross P xs (f z)) zs → AllAcross P xs (flat_map f zs)
 across_flat P f xs [] p = across_none P xs
 across_flat P f xs (z ∷ zs) p = across_joined P xs (f z) (flat_map f zs) p.0 (across_flat P f xs zs p.1)
-
-across_mapped : {X Y U V : Type 0} (P : X → Y → Type 0) (f : U → X) (g : V → Y) → ((u : U) (v : V) → P (f u) (g v)) → (us : List U) (vs : List V) → AllAcross P (map f us) (map g vs)
-across_mapped P f g each us vs = all_mapped (λ x. AllByRecursion (P x) (map g vs)) f us (all_of (λ u. AllByRecursion (P (f u)) (map g vs)) (λ u. all_mapped (P (f u)) g vs (all_of (λ v. P (f u) (g v)) (each u) vs)) us)
 
 -- items whose own keys are apart give rows whose keys are
 mapped_apart : {X Y K L : Type 0} (own : X → K) (key : Y → L) (f : X → Y) → ((x y : X) → key (f y) ≡ key (f x) → own y ≡ own x) → (xs : List X) → AreApartBy own xs → AreApartBy key (map f xs)
@@ -313,7 +309,7 @@ marks_apart s is =
     (of_change (λ (r : MarkRow). r.change_no ≡ pos e.0) e (λ kind m. refl)) (of_change (λ (r : MarkRow). r.change_no ≡ pos o.0) o (λ kind m. refl)))
     entries (each_change (is_ready s.desk) entries fit) (entries_apart nat_cmp_total s.desk.changes)
 
--- WHAT THE SETTINGS LIST: apart by its places, then by its kinds
+-- THE LISTS OF THE SETTINGS: apart by their places, then by their kinds
 abbrev wanted_key : WantedRow → Row
 wanted_key = key_of forms.wanted
 

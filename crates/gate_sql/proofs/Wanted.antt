@@ -1,4 +1,4 @@
--- What the settings list is read again from its rows.
+-- The lists of the settings are read again from their rows.
 use Rattle.std.proofs.Common.{◌≡◌, ℕ, ℤ, pos, List, [], ◌++◌, cond, map, Some, refl, ◌∙◌, subst}
 use Rattle.std.proofs.lemmas.List.Elements.{filter-append}
 use Rattle.std.specs.List.{filter}

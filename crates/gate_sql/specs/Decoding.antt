@@ -81,7 +81,7 @@ set_in change kind rows = set.from_list (list_map (λ row. row.word) (filter (is
 abbrev pub list_in : ℤ → ℤ → List MarkRow → List (List ℕ)
 list_in change kind rows = in_order int_cmp (list_map (λ row. (row.place, row.word)) (filter (is_mark change kind) rows))
 
--- WHAT THE SETTINGS LIST
+-- THE LISTS OF THE SETTINGS
 abbrev pub is_wanted : ℤ → WantedRow → Bool
 is_wanted kind row = int_eq row.kind kind
 

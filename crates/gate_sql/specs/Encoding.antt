@@ -152,7 +152,7 @@ marks_of entry =
     ++ list_marks entry.0 (pos 4) (unwrap_or entry.1.approved []) ++ list_marks entry.0 (pos 5) (names_of entry.1.last)
     ++ set_marks entry.0 (pos 8) entry.1.passed
 
--- WHAT THE SETTINGS LIST
+-- THE LISTS OF THE SETTINGS, whose words have places
 abbrev pub wanted_row : ℤ → ℤ × List ℕ → WantedRow
 wanted_row kind entry = record { kind = kind; place = entry.0; word = entry.1 }
 

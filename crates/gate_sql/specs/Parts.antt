@@ -46,7 +46,7 @@ batches_under numbers queue = filter_map (λ number. batch_numbered number queue
 abbrev pub batches_now : Noted → Queue → List Batch
 batches_now before queue = batches_under (finite.keys before.batches ++ new_numbers before queue) queue
 
--- SETTINGS: if they weren't noted, they were as now, and what they list is left out.
+-- SETTINGS: if they weren't noted, they were as now, and their lists are left out.
 abbrev pub settings_then : Noted → State → Option SettingsView
 settings_then before now = unwrap_or before.settings now.desk.settings
 

@@ -86,7 +86,7 @@ fn have_same<R: Same>(ones: List<R>, others: List<R>) -> bool
     ones == others
 }
 
-/// The same rows, and those of which a list is read in the order of the list: marks, members and what the settings list
+/// The same rows, and those of which a list is read in the order of the list: marks, members and the lists of the settings
 /// by their place, batches in order of service.
 pub(crate) fn in_order(rows: Rows) -> Rows
     ensures { AreSame rows result }

@@ -106,7 +106,7 @@ pub struct StatusRow {
 /// A row of the table `wanted`.
 #[derive(Debug, Drop, PartialEq, Eq, PartialOrd, Ord)]
 pub struct WantedRow {
-    /// What the settings list: 1 the required statuses, 2 the blocking labels, 3 the statuses wanted on the head of a change.
+    /// Which list of the settings: 1 the required statuses, 2 the blocking labels, 3 the statuses wanted on the head of a change.
     pub kind: i64,
     /// The place in that list, from 0.
     pub place: i64,

@@ -31,7 +31,7 @@ fn fill(alloc: Global, desk: &mut Desk, rows: &Rows, row: &DeskRow) -> Result<()
     put_changes(alloc, desk, rows)
 }
 
-// The settings, and what they list.
+// The settings with their lists.
 fn settings_in(
     alloc: Global,
     row: &DeskRow,

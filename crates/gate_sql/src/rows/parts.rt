@@ -72,7 +72,7 @@ fn settings_then<'a>(before: &'a Before, gate: &'a Gate) -> Option<&'a Settings>
     }
 }
 
-// What the settings that were noted listed.
+// The lists of the settings that were noted.
 fn wanted_then(alloc: Global, before: &Before) -> Result<List<WantedRow>, AllocError>
     ensures { IfOk result (λ rows. rows ≡ parts.wanted_then before.now) }
 {
@@ -82,7 +82,7 @@ fn wanted_then(alloc: Global, before: &Before) -> Result<List<WantedRow>, AllocE
     }
 }
 
-// What the settings list, if settings were noted.
+// The lists of the settings, if settings were noted.
 fn wanted_now(alloc: Global, before: &Before, gate: &Gate) -> Result<List<WantedRow>, AllocError>
     ensures { IfOk result (λ rows. rows ≡ parts.wanted_now before.now gate.now) }
 {

@@ -7,7 +7,7 @@ use gate_tables::WantedRow;
 use gate_text::{List, Settings, Text, Word};
 use std::alloc::{AllocError, Global};
 
-/// A row for each status and label that the settings list.
+/// A row for each status and label in the lists of the settings.
 pub(crate) fn wanted_rows(
     alloc: Global,
     settings: Option<&Settings>,

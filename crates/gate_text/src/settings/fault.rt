@@ -19,7 +19,7 @@ pub enum Key {
     RequiredApprovals,
     /// `max_batch_size`: how many changes a batch has at most.
     MaxBatchSize,
-    /// `pr_status`: the statuses of its own that a change needs before it can be approved.
+    /// `pr_status`: the statuses that have to succeed on the head of a change before it can be approved.
     PrStatus,
 }
 
