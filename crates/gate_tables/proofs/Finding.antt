@@ -47,7 +47,7 @@ find_unlisted : reads_listing all_schema find_text ≡ false
 unfolding understood everything
 find_unlisted = refl
 
-abbrev same : List ℕ → List ℕ → Bool
+abbrev pub same : List ℕ → List ℕ → Bool
 same = eq_by_cmp (slice_cmp nat_cmp)
 
 truth_of : (b : Bool) → is_true (from_truth (Some b)) && true ≡ b
@@ -63,13 +63,13 @@ passes_text id x r is =
     ap (λ v. is_true (binary (Compare Eq Binary) v (Text id)) && true) is ∙ truth_of (is_eq (value_cmp (Text x) (Text id))) ∙ ap is_eq (value_cmp-Text x id)
     ∙ (eq_by_cmp_equiv nat_list_cmp_total).symm x id
 
-abbrev entries : List Row → List (List ℕ × List ℕ)
+abbrev pub entries : List Row → List (List ℕ × List ℕ)
 entries stored = map answers.read (map (columns_of answers.layout) stored)
 
-abbrev AreWhole : List Row → Type 0
+abbrev pub AreWhole : List Row → Type 0
 AreWhole stored = AllByRecursion (λ c. answers.values (answers.read c) ≡ c) (map (columns_of answers.layout) stored)
 
-first_text : (r : Row) → answers.values (answers.read (columns_of answers.layout r)) ≡ columns_of answers.layout r → column r 1 ≡ Text (bytes (column r 1))
+pub first_text : (r : Row) → answers.values (answers.read (columns_of answers.layout r)) ≡ columns_of answers.layout r → column r 1 ≡ Text (bytes (column r 1))
 first_text r whole = sym (ap (λ c. column c 0) whole)
 
 kept_or_not : (b c : Bool) (r : Row) (more : List Row) → b ≡ c → cond b (r ∷ more) more ≡ cond c (r ∷ more) more

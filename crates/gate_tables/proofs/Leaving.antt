@@ -1,5 +1,5 @@
 -- A query leaves the database as it was.
-use Rattle.std.proofs.Common.{◌≡◌, inl, inr, ℕ, List, Option, Some, None, IsTrue, sym, ap, subst, ◌∙◌}
+use Rattle.std.proofs.Common.{◌≡◌, ◌⊎◌, inl, inr, ℕ, List, Option, Some, None, IsTrue, sym, ap, subst, ◌∙◌}
 use Rattle.gate_tables.specs.Database.{all_schema}
 use Rattle.gate_tables.specs.Effects.{IsReady, Leaves}
 use Rattle.gate_tables.specs.Kept.{AreKept}
@@ -8,7 +8,7 @@ use Rattle.sqlite.specs.Clock.{timed}
 use Rattle.sqlite.specs.Effect.{Database}
 use Rattle.sqlite.specs.Listing.{understood}
 use Rattle.sqlite.specs.Order.{Row}
-use Rattle.sqlite.specs.State.{State, IsUnchanged, IsRolledBack, Shown, ShowsRows, FailsToQuery, FailsToShow, IsNotRun}
+use Rattle.sqlite.specs.State.{State, IsUnchanged, IsRolledBack, Shown, ShowsRows, FailsToQuery, FailsToShow, IsNotRun, IsTooLate, KeepsCommit}
 use Rattle.sqlite.specs.declared.error.Error.{Error}
 use Rattle.sqlite_resolve.specs.declared.compiled.Compiled.{Compiled}
 use Rattle.sqlite_schema.specs.declared.command.Returning.{Returning}
@@ -19,26 +19,53 @@ unchanged_leaves old new h = record { was_open = λ _. h.0.was_open; same = λ _
 pub undone_leaves : (old new : State) → IsRolledBack old new → Leaves old new
 undone_leaves old new h = record { was_open = h.was_open; same = λ is_open settled. let both = h.undone is_open in (both.0 ∙ sym settled, both.1) }
 
-pub shown_leaves : (sql : List ℕ) (params : Row) (old new : State) (rows : List Row) → IsPlain (understood old.now.schema sql) → Shown sql params old new rows → Leaves old new
+pub unchanged_keeps : (old new : State) → IsUnchanged old new → KeepsCommit old new
+unchanged_keeps old new h = record { was_open = λ _. h.0.was_open; committed = λ _. h.0.committed_is }
+
+-- a plain query that shows rows changes nothing
+pub shown_unchanged : (sql : List ℕ) (params : Row) (old new : State) (rows : List Row) → IsPlain (understood old.now.schema sql) → Shown sql params old new rows → IsUnchanged old new
 unfolding Shown
-shown_leaves sql params old new rows plain h =
+shown_unchanged sql params old new rows plain h =
     let none = (subst IsPlain h.1.is plain).0 in
-    let it = subst (ShowsRows old new sql h.0 (timed params h.0.formats h.1.now) rows) none h.2 in unchanged_leaves old new it.3
+    (subst (ShowsRows old new sql h.0 (timed params h.0.formats h.1.now) rows) none h.2).3
 
-not_run_leaves : (old new : State) (sql : List ℕ) (params : Row) (e : Error) → IsNotRun old new sql params e → Leaves old new
+pub shown_leaves : (sql : List ℕ) (params : Row) (old new : State) (rows : List Row) → IsPlain (understood old.now.schema sql) → Shown sql params old new rows → Leaves old new
+shown_leaves sql params old new rows plain h = unchanged_leaves old new (shown_unchanged sql params old new rows plain h)
+
+-- a query that fails changes nothing, or all that was not committed is undone
+abbrev pub Ends : State → State → Type 0
+Ends old new = IsUnchanged old new ⊎ IsRolledBack old new
+
+not_run_ends : (old new : State) (sql : List ℕ) (params : Row) (e : Error) → IsNotRun old new sql params e → Ends old new
 unfolding IsNotRun
-not_run_leaves old new sql params e (inl h) = unchanged_leaves old new h.1
-not_run_leaves old new sql params e (inr h) = undone_leaves old new h.3
+not_run_ends old new sql params e (inl h) = inl h.1
+not_run_ends old new sql params e (inr h) = inr h.3
 
-show_leaves : (old new : State) (sql : List ℕ) (c : Compiled) (params : Row) (e : Error) (r : Option Returning) → FailsToShow old new sql c params e r → Leaves old new
-show_leaves old new sql c params e None h = unchanged_leaves old new h.3
-show_leaves old new sql c params e (Some what) (inl h) = unchanged_leaves old new h.1
-show_leaves old new sql c params e (Some what) (inr h) = undone_leaves old new h.3
+show_ends : (old new : State) (sql : List ℕ) (c : Compiled) (params : Row) (e : Error) (r : Option Returning) → FailsToShow old new sql c params e r → Ends old new
+show_ends old new sql c params e None h = inl h.3
+show_ends old new sql c params e (Some what) (inl h) = inl h.1
+show_ends old new sql c params e (Some what) (inr h) = inr h.3
+
+failed_ends : (sql : List ℕ) (params : Row) (old new : State) (e : Error) → FailsToQuery sql params old new e → Ends old new
+unfolding FailsToQuery
+failed_ends sql params old new e (inl h) = not_run_ends old new sql params e h
+failed_ends sql params old new e (inr h) = show_ends old new sql h.0 (timed params h.0.formats h.1.now) e h.0.returning h.2
+
+ends_leave : (old new : State) → Ends old new → Leaves old new
+ends_leave old new (inl h) = unchanged_leaves old new h
+ends_leave old new (inr h) = undone_leaves old new h
 
 pub failed_leaves : (sql : List ℕ) (params : Row) (old new : State) (e : Error) → FailsToQuery sql params old new e → Leaves old new
-unfolding FailsToQuery
-failed_leaves sql params old new e (inl h) = not_run_leaves old new sql params e h
-failed_leaves sql params old new e (inr h) = show_leaves old new sql h.0 (timed params h.0.formats h.1.now) e h.0.returning h.2
+failed_leaves sql params old new e h = ends_leave old new (failed_ends sql params old new e h)
+
+-- either way nothing is committed
+ends_keep : (old new : State) → Ends old new → KeepsCommit old new
+ends_keep old new (inl h) = unchanged_keeps old new h
+ends_keep old new (inr h) = record { was_open = h.was_open; committed = λ is_open. (h.undone is_open).1 }
+
+pub failed_keeps : (sql : List ℕ) (params : Row) (old new : State) (e : Error) → FailsToQuery sql params old new e ⊎ IsTooLate sql params old new e → KeepsCommit old new
+failed_keeps sql params old new e (inl h) = ends_keep old new (failed_ends sql params old new e h)
+failed_keeps sql params old new e (inr h) = unchanged_keeps old new h.5
 
 shows_was_open : (old new : State) (sql : List ℕ) (c : Compiled) (params : Row) (rows : List Row) (r : Option Returning) → ShowsRows old new sql c params rows r → IsTrue old.is_open
 shows_was_open old new sql c params rows None h = h.3.0.was_open

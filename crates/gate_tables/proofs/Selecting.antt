@@ -1,10 +1,13 @@
 -- What a query over one table shows.
-use Rattle.std.proofs.Common.{◌≡◌, ℕ, ◌-◌, ◌^◌, nat_le, List, [], ◌∷◌, ◌++◌, map, filter, flat_map, slice_get, Bool, true, false, None, unwrap_or, if◌then◌else◌, IsPermutation, refl, sym, ap, subst, subst₂, ◌∙◌}
+use Rattle.std.proofs.Common.{◌≡◌, ℕ, ◌-◌, ◌^◌, nat_le, List, [], ◌∷◌, ◌++◌, map, filter, flat_map, length, slice_get, Bool, true, false, None, unwrap_or, if◌then◌else◌, IsPermutation, refl, sym, ap, subst, subst₂, ◌∙◌}
 use Rattle.std.specs.List.{list_all}
 use Rattle.std.proofs.lemmas.List.Sorted.{IsPermutation-map}
-use Rattle.gate_tables.specs.Database.{all_schema, columns_of, cells}
-use Rattle.gate_tables.specs.Forms.{Form, rows_of}
+use Rattle.gate_tables.specs.Database.{all_schema, beside_rowid, columns_of}
+use Rattle.gate_tables.specs.Effects.{Reads}
+use Rattle.gate_tables.specs.Forms.{Form}
+use Rattle.gate_tables.specs.Kept.{HaveOwn}
 use Rattle.gate_tables.specs.Known.{IsKnown, picked, program}
+use Rattle.gate_tables.proofs.Rising.{own_behind}
 use Rattle.sqlite.proofs.Callers.{reads_as}
 use Rattle.sqlite.specs.Command.TheVariants.{Select}
 use Rattle.sqlite.specs.Effect.{Database, Answers}
@@ -63,15 +66,24 @@ picks_all tree terms db params rows answers =
     subst (λ rs. IsPermutation (map (λ r. eval_all terms (params ∷ r ∷ [])) rs) rows) (filter_all (db.trees tree)) (picks tree [] terms db params rows answers)
 
 module _ {R : Type 0} (form : Form R) (known : IsKnown form) where
-  -- a query for all rows shows those of the table
-  selects_all : (old new : State) (rows : List Row) → old.now.schema ≡ all_schema → Shown form.select [] old new rows → IsPermutation (cells form.layout old.now.trees) rows
+  -- a query for all rows shows those of the table, each with its rowid behind it
+  selects_all : (old new : State) (rows : List Row) → old.now.schema ≡ all_schema → Shown form.select [] old new rows → IsPermutation (map (beside_rowid form.layout) (old.now.trees form.layout.tree)) rows
   selects_all old new rows has shown =
       let all = known.selects in
       let command = Select (program (picked form.layout.tree [] all.terms)) all.names in
       let answers = reads_as form.select [] old new all_schema has command all.is all.plain all.unlisted rows shown in
       let stored = old.now.trees form.layout.tree in
-      subst (λ cs. IsPermutation cs rows) (map_same (λ r. eval_all all.terms ([] ∷ r ∷ [])) (columns_of form.layout) all.shown stored)
+      subst (λ cs. IsPermutation cs rows) (map_same (λ r. eval_all all.terms ([] ∷ r ∷ [])) (beside_rowid form.layout) all.shown stored)
       (picks_all form.layout.tree all.terms old.now [] rows answers)
 
-  pub reads_all : (old new : State) (rows : List Row) → old.now.schema ≡ all_schema → Shown form.select [] old new rows → IsPermutation (rows_of form old.now.trees) (map form.read rows)
-  reads_all old new rows has shown = IsPermutation-map form.read (cells form.layout old.now.trees) rows (selects_all old new rows has shown)
+  -- so they are read, and if those of the answer have integers of their own in their last column, the stored ones have such rowids
+  pub reads_all : (old new : State) (rows : List Row) → old.now.schema ≡ all_schema → Shown form.select [] old new rows → HaveOwn (length form.layout.columns) rows → Reads form old.now.trees (map form.read rows)
+  reads_all old new rows has shown own =
+      let stored = old.now.trees form.layout.tree in
+      let beside = beside_rowid form.layout in
+      let same = selects_all old new rows has shown in
+      let read = map-map form.read beside stored ∙ map_same (λ r. form.read (beside r)) (λ r. form.read (columns_of form.layout r)) known.selects.read_on stored ∙ sym (map-map form.read (columns_of form.layout) stored) in
+      record {
+        same = subst (λ rs. IsPermutation rs (map form.read rows)) read (IsPermutation-map form.read (map beside stored) rows same);
+        rowids = own_behind (length form.layout.columns) beside known.selects.behind stored rows same own;
+      }

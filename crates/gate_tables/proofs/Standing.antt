@@ -7,11 +7,12 @@ use Rattle.std.specs.FinMap.{get, insert}
 use Rattle.std.proofs.lemmas.List.Elements.{All-from_recursion, recursion_from_All}
 use Rattle.std.proofs.lemmas.List.Sorted.{IsPermutation-map, All-permutation}
 use Rattle.gate_tables.proofs.Answering.{still_apart, one_more}
+use Rattle.gate_tables.proofs.Distinct.{answers_apart}
 use Rattle.gate_tables.proofs.Leaving.{ready_after}
-use Rattle.gate_tables.specs.Database.{cells}
-use Rattle.gate_tables.specs.Effects.{IsReady, Leaves, Made, Applied}
+use Rattle.gate_tables.specs.Database.{all_schema, cells}
+use Rattle.gate_tables.specs.Effects.{Applied, Brings, IsReady, Leaves, Made, MayBeTaken, Taken}
 use Rattle.gate_tables.specs.Forms.{answers, rows_of}
-use Rattle.gate_tables.specs.Tables.{is_sound, answers_in, AreAnswers, IsBook, Stands}
+use Rattle.gate_tables.specs.Tables.{is_sound, answers_in, AreAnswers, AreFound, IsBook, Stands}
 use Rattle.gate_tables.specs.declared.change.RowChange.{RowChange}
 use Rattle.gate_tables.specs.declared.fault.TablesFault.{TablesFault}
 use Rattle.sqlite.specs.Effect.{Database}
@@ -87,3 +88,19 @@ module _ {S : Type 0} (g : Ghosts S) (old new : Held S) (changes : List RowChang
       let book = stands.book (was sound) in
       one_more id body (rows_of answers was_state.now.trees) (rows_of answers now_state.now.trees) (entries_moved (applied sound.0 book.ready)) book.answered.apart (free (was sound))
   commit_answers (Err e) applied sound = tt
+
+-- tables that were found, and are taken over
+module _ {S : Type 0} (g : Ghosts S) (old new : Held S) (changes : List RowChange) (found : AreFound g old) (was : is_sound g new → is_sound g old) where
+  taken_all : (HasCleanDisk (state g new) → MayBeTaken (state g old) → Taken changes (state g old) (state g new)) → is_sound g new → Taken changes (state g old) (state g new)
+  taken_all taken sound = taken sound.0 (found.found (was sound))
+
+  pub taken_stands : new.in_transaction ≡ false → (HasCleanDisk (state g new) → MayBeTaken (state g old) → Taken changes (state g old) (state g new)) → Stands g new
+  taken_stands mode taken = record {
+    autocommit = mode;
+    book = λ sound.
+        let ready = (taken_all taken sound).ready in
+        record { ready = ready; answered = answers_apart all_schema (state g new).now.trees false refl ready.kept };
+  }
+
+  pub taken_rows : (HasCleanDisk (state g new) → MayBeTaken (state g old) → Taken changes (state g old) (state g new)) → is_sound g new → Brings changes (state g old).now (state g new).now
+  taken_rows taken sound = (taken_all taken sound).brought

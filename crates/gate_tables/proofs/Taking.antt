@@ -58,7 +58,7 @@ pub joined_all : {A : Type 0} (p : A → Bool) (xs ys : List A) → list_all p x
 joined_all p xs ys first second = list_all-append p xs ys ∙ and_from (list_all p xs) (list_all p ys) first second
 
 -- rows with rowids of their own, told apart by them
-tied_ints : (a b : ℤ) → is_eq (value_cmp (Int a) (Int b)) ≡ true → a ≡ b
+pub tied_ints : (a b : ℤ) → is_eq (value_cmp (Int a) (Int b)) ≡ true → a ≡ b
 tied_ints a b tied = int_cmp-IsAntisymmetric a b ((Equal-is _).0 (subst (λ o. is_eq o ≡ true) (value_cmp-Int a b) tied))
 
 own_same : (rows : List Row) (r q : Row) → AreApartBy rowid rows → Has rows r → Has rows q → rowid r ≡ rowid q → r ≡ q

@@ -30,12 +30,14 @@ inserts = record {
 selects : Selects forms.answers
 unfolding understood everything
 selects = record {
-  terms = col 1 1 ∷ col 1 2 ∷ [];
-  names = codes "id" ∷ codes "body" ∷ [];
+  terms = col 1 1 ∷ col 1 2 ∷ col 1 0 ∷ [];
+  names = codes "id" ∷ codes "body" ∷ codes "rowid" ∷ [];
   is = refl;
   plain = (refl, refl);
   unlisted = refl;
   shown = λ row. refl;
+  read_on = λ row. refl;
+  behind = λ row. refl;
 }
 
 pub known : IsKnown forms.answers

@@ -32,12 +32,14 @@ inserts = record {
 selects : Selects forms.batches
 unfolding understood everything
 selects = record {
-  terms = col 1 0 ∷ col 1 2 ∷ col 1 3 ∷ col 1 4 ∷ col 1 5 ∷ col 1 6 ∷ col 1 7 ∷ [];
-  names = codes "number" ∷ codes "branch" ∷ codes "priority" ∷ codes "again" ∷ codes "phase" ∷ codes "since" ∷ codes "sha" ∷ [];
+  terms = col 1 0 ∷ col 1 2 ∷ col 1 3 ∷ col 1 4 ∷ col 1 5 ∷ col 1 6 ∷ col 1 7 ∷ col 1 0 ∷ [];
+  names = codes "number" ∷ codes "branch" ∷ codes "priority" ∷ codes "again" ∷ codes "phase" ∷ codes "since" ∷ codes "sha" ∷ codes "number" ∷ [];
   is = refl;
   plain = (refl, refl);
   unlisted = refl;
   shown = λ row. refl;
+  read_on = λ row. refl;
+  behind = λ row. refl;
 }
 
 -- what is read of a whole row is all of it

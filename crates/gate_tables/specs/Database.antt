@@ -1,5 +1,5 @@
 -- THE DATABASE: its nine tables, and how a row of one is read. A tree holds the rows of a table, each behind its rowid.
-use Rattle.std.specs.Prelude.{ℕ, suc, true, false, List, [], ◌∷◌, map, flat_map, codes, Option, None, Some}
+use Rattle.std.specs.Prelude.{ℕ, suc, true, false, List, [], ◌∷◌, ◌++◌, map, flat_map, codes, Option, None, Some}
 use Rattle.sqlite.specs.Change.{automatics}
 use Rattle.sqlite.specs.Collation.TheVariants.{Binary}
 use Rattle.sqlite.specs.Kind.{Kind}
@@ -7,7 +7,7 @@ use Rattle.sqlite.specs.Kind.TheVariants.{Integer, Text}
 use Rattle.sqlite.specs.Order.{Row, column}
 use Rattle.sqlite.specs.Schema.{Schema}
 use Rattle.sqlite.specs.Table.{Table}
-use Rattle.sqlite.specs.Tree.{Trees}
+use Rattle.sqlite.specs.Tree.{Trees, rowid}
 use Rattle.sqlite.specs.declared.types.Value.TheVariants.{Null}
 use Rattle.sqlite_schema.specs.declared.schema.Column.{Column}
 use Rattle.sqlite_schema.specs.Names.{place_of}
@@ -108,6 +108,10 @@ columns_in table row = map (column row) (places_from table 0 table.columns)
 
 abbrev pub columns_of : Layout → Row → Row
 columns_of layout row = columns_in (table_of layout) row
+
+-- the same, and behind them the rowid
+abbrev pub beside_rowid : Layout → Row → Row
+beside_rowid layout row = columns_of layout row ++ rowid row ∷ []
 
 -- the rows of a table
 abbrev pub cells : Layout → Trees → List Row

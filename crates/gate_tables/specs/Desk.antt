@@ -32,12 +32,14 @@ inserts = record {
 selects : Selects forms.desk
 unfolding understood everything
 selects = record {
-  terms = col 1 0 ∷ col 1 2 ∷ col 1 3 ∷ col 1 4 ∷ col 1 5 ∷ col 1 6 ∷ col 1 7 ∷ col 1 8 ∷ [];
-  names = codes "one" ∷ codes "version" ∷ codes "next_batch" ∷ codes "clock" ∷ codes "base" ∷ codes "timeout_sec" ∷ codes "required_approvals" ∷ codes "max_batch_size" ∷ [];
+  terms = col 1 0 ∷ col 1 2 ∷ col 1 3 ∷ col 1 4 ∷ col 1 5 ∷ col 1 6 ∷ col 1 7 ∷ col 1 8 ∷ col 1 0 ∷ [];
+  names = codes "one" ∷ codes "version" ∷ codes "next_batch" ∷ codes "clock" ∷ codes "base" ∷ codes "timeout_sec" ∷ codes "required_approvals" ∷ codes "max_batch_size" ∷ codes "one" ∷ [];
   is = refl;
   plain = (refl, refl);
   unlisted = refl;
   shown = λ row. refl;
+  read_on = λ row. refl;
+  behind = λ row. refl;
 }
 
 -- what is read of a whole row is all of it

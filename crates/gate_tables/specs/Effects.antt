@@ -1,19 +1,23 @@
 -- What statements in a transaction make of the tables. For private clauses.
-use Rattle.std.specs.Prelude.{◌≡◌, ◌≢◌, ℕ, true, List, [], ◌∷◌, Ok, IsTrue, IsPermutation}
+use Rattle.std.specs.Prelude.{◌≡◌, ◌≢◌, ℕ, Bool, true, if◌then◌else◌, List, [], ◌∷◌, Ok, IsTrue, IsPermutation}
 use Rattle.std.specs.List.{AllByRecursion}
 use Rattle.gate_tables.specs.Applied.{put, without, applied, no_rows}
-use Rattle.gate_tables.specs.Database.{all_schema, cells}
+use Rattle.gate_tables.specs.Database.{Layout, all_schema, cells}
 use Rattle.gate_tables.specs.Contents.{AreSame, rows_at}
 use Rattle.gate_tables.specs.Database as database
 use Rattle.gate_tables.specs.Forms as forms
-use Rattle.gate_tables.specs.Kept.{AreKept}
+use Rattle.gate_tables.specs.Kept.{AreKept, HaveOwn}
 use Rattle.gate_tables.specs.Forms.{Form, rows_of}
 use Rattle.gate_tables.specs.declared.change.RowChange.{RowChange}
+use Rattle.gate_tables.specs.declared.look.Contents.{Contents}
 use Rattle.gate_tables.specs.declared.read.First.{First}
 use Rattle.gate_tables.specs.declared.read.Last.{Last}
+use Rattle.gate_tables.specs.declared.row.Rows.{Rows}
+use Rattle.gate_tables.specs.Schemas.{HasTables, first_schema, lacks_wanted, stored_rows}
+use Rattle.sqlite.specs.Effect.{Database, IsDatabase}
 use Rattle.sqlite.specs.Order.{Row}
 use Rattle.sqlite.specs.Schema.{Schema}
-use Rattle.sqlite.specs.State.{State, Executes, Shows}
+use Rattle.sqlite.specs.State.{State, Executes, IsLive, Shows}
 use Rattle.sqlite.specs.Tree.{Trees}
 
 -- a statement ran in a transaction, and ended nothing; it tells how many rows it wrote
@@ -34,6 +38,33 @@ pub record IsInside (schema : Schema) (s : State) : Type 0 where
 pub record IsBare (schema : Schema) (s : State) : Type 0 where
   pub inside : IsInside schema s
   pub none : AllByRecursion (λ t. s.now.trees t.tree ≡ []) schema.tables
+
+-- an open database of these tables, none of which has a row, once a transaction begins
+abbrev pub IsUnused : Schema → State → Type 0
+IsUnused schema s = IsBare schema (record s { in_transaction = true })
+
+-- a table was made, which has no row, and the others are as they were
+pub record Grows (front : Schema) (layout : Layout) (after : Schema) (old new : State) : Type 0 where
+  pub is_open : IsTrue new.is_open
+  pub within : IsTrue new.in_transaction
+  pub schema_is : new.now.schema ≡ after
+  pub sound : IsDatabase new.now
+  pub others : AllByRecursion (λ t. new.now.trees t.tree ≡ old.now.trees t.tree) front.tables
+  pub none : new.now.trees layout.tree ≡ []
+
+-- an open transaction over the tables of one version, of which the ninth may be missing
+pub record IsBegun (missing : Bool) (s : State) : Type 0 where
+  pub within : IsTrue s.in_transaction
+  pub lacks : lacks_wanted s.now.schema ≡ missing
+  pub schema_is : s.now.schema ≡ (if missing then first_schema else all_schema)
+  pub live : IsLive s
+
+-- a table was made if it was missing, and the rows are those that were stored
+pub record Completes (missing : Bool) (old new : State) : Type 0 where
+  pub within : IsTrue new.in_transaction
+  pub sound : IsDatabase new.now
+  pub others : AllByRecursion (λ t. new.now.trees t.tree ≡ old.now.trees t.tree) (if missing then first_schema else all_schema).tables
+  pub none : IsTrue missing → new.now.trees database.wanted.tree ≡ []
 
 -- a database of all tables, with nothing under way
 pub record IsReady (s : State) : Type 0 where
@@ -83,15 +114,51 @@ pub record Made (changes : List RowChange) (new : State) : Type 0 where
   pub rows_are : AreSame (rows_at new.now.trees) (applied changes no_rows)
   pub none : cells forms.answers.layout new.now.trees ≡ []
 
--- what was read of the first four tables, and of the last four
+-- The rows of a table were read. Each has an integer of its own as its rowid.
+pub record Reads {R : Type 0} (form : Form R) (db : Trees) (rows : List R) : Type 0 where
+  pub same : IsPermutation (rows_of form db) rows
+  pub rowids : HaveOwn 0 (db form.layout.tree)
+
+-- the first four tables were read, the last four, and all
 pub record ReadsFirst (db : Trees) (read : First) : Type 0 where
-  pub desk : IsPermutation (rows_of forms.desk db) read.desk
-  pub people : IsPermutation (rows_of forms.people db) read.people
-  pub changes : IsPermutation (rows_of forms.changes db) read.changes
-  pub marks : IsPermutation (rows_of forms.marks db) read.marks
+  pub desk : Reads forms.desk db read.desk
+  pub people : Reads forms.people db read.people
+  pub changes : Reads forms.changes db read.changes
+  pub marks : Reads forms.marks db read.marks
 
 pub record ReadsLast (db : Trees) (read : Last) : Type 0 where
-  pub batches : IsPermutation (rows_of forms.batches db) read.batches
-  pub members : IsPermutation (rows_of forms.members db) read.members
-  pub statuses : IsPermutation (rows_of forms.statuses db) read.statuses
-  pub wanted : IsPermutation (rows_of forms.wanted db) read.wanted
+  pub batches : Reads forms.batches db read.batches
+  pub members : Reads forms.members db read.members
+  pub statuses : Reads forms.statuses db read.statuses
+  pub wanted : Reads forms.wanted db read.wanted
+
+pub record ReadsRows (db : Trees) (rows : Rows) : Type 0 where
+  pub first : ReadsFirst db (record { desk = rows.desk; people = rows.people; changes = rows.changes; marks = rows.marks })
+  pub last : ReadsLast db (record { batches = rows.batches; members = rows.members; statuses = rows.statuses; wanted = rows.wanted })
+
+-- all that the tables hold was read
+pub record ReadsContents (db : Trees) (contents : Contents) : Type 0 where
+  pub rows : ReadsRows db contents.rows
+  pub answers : Reads forms.answers db contents.answers
+
+-- so it was of a database of either version, whose tables keep what tables keep
+pub record ShowsAll (db : Database) (contents : Contents) : Type 0 where
+  pub kept : AreKept db.schema db.trees
+  pub rows : AreSame (stored_rows db) contents.rows
+  pub answers : IsPermutation (rows_of forms.answers db.trees) contents.answers
+
+-- a database of either version, with nothing under way, whose tables keep what tables keep
+pub record MayBeTaken (s : State) : Type 0 where
+  pub tables : HasTables s.now
+  pub settled : s.now ≡ s.committed
+  pub kept : AreKept s.now.schema s.now.trees
+
+-- Row changes were applied to what it holds, and the answers are as they were.
+pub record Brings (changes : List RowChange) (old new : Database) : Type 0 where
+  pub rows_are : AreSame (rows_at new.trees) (applied changes (stored_rows old))
+  pub answers : new.trees database.answers.tree ≡ old.trees database.answers.tree
+
+-- it was brought to version 2, and row changes were applied
+pub record Taken (changes : List RowChange) (old new : State) : Type 0 where
+  pub ready : IsReady new
+  pub brought : Brings changes old.now new.now

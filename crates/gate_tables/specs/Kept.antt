@@ -1,18 +1,19 @@
 -- WHAT THE STORED ROWS OF A TABLE KEEP, whatever statements did to them. For private clauses.
-use Rattle.std.specs.Prelude.{◌≡◌, Bool, true, false, ◌&&◌, List, [], ◌∷◌}
+use Rattle.std.specs.Prelude.{◌≡◌, ℕ, Bool, true, false, ◌&&◌, List, [], ◌∷◌}
 use Rattle.std.specs.List.{AllByRecursion, list_all}
 use Rattle.gate_tables.specs.Apart.{AreApartBy}
 use Rattle.gate_tables.specs.Database.{columns_in}
 use Rattle.sqlite.specs.Edit.{have_rowids}
 use Rattle.sqlite.specs.Kind.{Kind}
 use Rattle.sqlite.specs.Kind.TheVariants as kind
-use Rattle.sqlite.specs.Order.{Row}
+use Rattle.sqlite.specs.Order.{Row, column}
 use Rattle.sqlite.specs.Schema.{Schema}
 use Rattle.sqlite.specs.Table.{Table}
 use Rattle.sqlite.specs.Tree.{Trees, rowid}
 use Rattle.sqlite.specs.declared.types.Value.{Value}
 use Rattle.sqlite.specs.declared.types.Value.TheVariants.{Null, Int, Real, Text, Blob}
 use Rattle.sqlite_schema.specs.Rules.{Keeps}
+use Rattle.sqlite_trees.specs.View.{is_int}
 use Rattle.sqlite_schema.specs.declared.schema.Column.{Column}
 use Rattle.sqlite_schema.specs.declared.schema.Constraint.TheVariants.{Unique}
 
@@ -38,6 +39,11 @@ is_whole [] [] = true
 is_whole [] (v ∷ vs) = false
 is_whole (c ∷ cs) [] = false
 is_whole (c ∷ cs) (v ∷ vs) = is_of_kind c.kind v && is_whole cs vs
+
+-- each row has an integer of its own at a place
+pub record HaveOwn (at : ℕ) (rows : List Row) : Type 0 where
+  pub integers : list_all (λ row. is_int (column row at)) rows ≡ true
+  pub own : AreApartBy (λ row. column row at) rows
 
 pub record IsKept (table : Table) (rows : List Row) : Type 0 where
   -- Each row has an integer as its rowid, so that it can be deleted, and no two have the same.

@@ -1,6 +1,6 @@
 -- What it is that the statements on a table are understood. For private clauses.
 use Rattle.std.specs.Prelude.{◌≡◌, ℕ, pos, negsuc, false, List, [], ◌∷◌, slice_get, true, Some, None, length, take, drop, ◌/◌, ◌++◌, Ok}
-use Rattle.gate_tables.specs.Database.{Layout, all_schema, table_of, columns_of, places_from}
+use Rattle.gate_tables.specs.Database.{Layout, all_schema, table_of, columns_of, beside_rowid, places_from}
 use Rattle.gate_tables.specs.Forms.{Form}
 use Rattle.gate_tables.specs.Kept.{is_whole}
 use Rattle.gate_tables.specs.Keys.{key_of, is_front, IsGivenAt, tests_of}
@@ -15,11 +15,12 @@ use Rattle.sqlite.specs.Command.TheVariants.{CreateTable, Insert, Select, Update
 use Rattle.sqlite.specs.Edit.{with_rowid}
 use Rattle.sqlite.specs.Effect.{value_rows}
 use Rattle.sqlite.specs.Listing.{understood, reads_listing}
-use Rattle.sqlite.specs.Order.{Row}
+use Rattle.sqlite.specs.Order.{Row, column}
 use Rattle.sqlite.specs.Query.{Query, inner, end}
 use Rattle.sqlite.specs.Rowids.TheVariants.{Chosen}
 use Rattle.sqlite.specs.Source.TheVariants.{Values}
 use Rattle.sqlite.specs.Term.{Term, lit, col, eval_all}
+use Rattle.sqlite.specs.Tree.{rowid}
 use Rattle.sqlite.specs.declared.types.Value.TheVariants.{Int}
 use Rattle.sqlite_schema.specs.declared.program.Program.{Program}
 
@@ -54,7 +55,9 @@ pub record Selects {R : Type 0} (form : Form R) : Type 0 where
   pub is : command_of (understood all_schema form.select) ≡ Select (program (picked form.layout.tree [] terms)) names
   pub plain : IsPlain (understood all_schema form.select)
   pub unlisted : reads_listing all_schema form.select ≡ false
-  pub shown : (row : Row) → eval_all terms ([] ∷ row ∷ []) ≡ columns_of form.layout row
+  pub shown : (row : Row) → eval_all terms ([] ∷ row ∷ []) ≡ beside_rowid form.layout row
+  pub read_on : (row : Row) → form.read (beside_rowid form.layout row) ≡ form.read (columns_of form.layout row)
+  pub behind : (row : Row) → column (beside_rowid form.layout row) (length form.layout.columns) ≡ rowid row
 
 -- What is changed in a row that has the key of another: the columns of the key stay, and all others become the other's.
 pub record Updates {R : Type 0} (form : Form R) : Type 0 where

@@ -2,13 +2,14 @@
 --     Database    the nine tables, and how a row of one is read
 --     Forms       the rows of a table as records
 --     Contents    what rows and what answers a database has
+--     Schemas     which tables a database has, by the version of its schema
 --     Tables      the same of a connection, and when it may be relied on
 --     Keys        the key of a row
 --     Apart       items with keys of their own
 --     Applied     what row changes make of rows
 --     Differences the row changes that lead from rows to others
 -- For the code: Faults; Answers, Batches, Changes, Desk, Marks, Members, People, Statuses, Wanted, the statements on each table; Casts,
--- Creation, Effects, Kept, Known, Texts, what statements do.
+-- Creation, Effects, Kept, Known, Texts, what statements do; Plain, which schemas are compared.
 pub mod Answers
 pub mod Apart
 pub mod Applied
@@ -29,6 +30,8 @@ pub mod Known
 pub mod Marks
 pub mod Members
 pub mod People
+pub mod Plain
+pub mod Schemas
 pub mod Statuses
 pub mod Tables
 pub mod Texts

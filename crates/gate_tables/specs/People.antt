@@ -32,12 +32,14 @@ inserts = record {
 selects : Selects forms.people
 unfolding understood everything
 selects = record {
-  terms = col 1 1 ∷ col 1 2 ∷ [];
-  names = codes "name" ∷ codes "role" ∷ [];
+  terms = col 1 1 ∷ col 1 2 ∷ col 1 0 ∷ [];
+  names = codes "name" ∷ codes "role" ∷ codes "rowid" ∷ [];
   is = refl;
   plain = (refl, refl);
   unlisted = refl;
   shown = λ row. refl;
+  read_on = λ row. refl;
+  behind = λ row. refl;
 }
 
 -- what is read of a whole row is all of it

@@ -7,7 +7,7 @@ use Rattle.std.specs.List.{AllByRecursion, IsDistinct}
 use Rattle.std.specs.Ordering.{nat_cmp, eq_by_cmp}
 use Rattle.gate_tables.specs.Contents.{rows_at, answers_at}
 use Rattle.gate_tables.specs.Database.{cells}
-use Rattle.gate_tables.specs.Effects.{IsReady}
+use Rattle.gate_tables.specs.Effects.{MayBeTaken, IsReady}
 use Rattle.gate_tables.specs.Forms.{answers, rows_of}
 use Rattle.gate_tables.specs.declared.row.Rows.{Rows}
 use Rattle.sqlite.proofs.Callers.{memory_is_clean}
@@ -42,6 +42,11 @@ pub record IsBook (s : State) : Type 0 where
 pub record Stands {S : Type 0} (g : Ghosts S) (h : Held S) : Type 0 where
   pub autocommit : h.in_transaction ≡ false
   pub book : is_sound g h → IsBook (state g h)
+
+-- the same of tables that were found, and aren't taken over yet
+pub record AreFound {S : Type 0} (g : Ghosts S) (h : Held S) : Type 0 where
+  pub autocommit : h.in_transaction ≡ false
+  pub found : is_sound g h → MayBeTaken (state g h)
 
 pub always_sound : (h : Held MemStore) → is_sound over_memory h
 always_sound h = (memory_is_clean h, refl)

@@ -1,17 +1,19 @@
-ghost use Rattle.std.specs.Prelude.{◌≡◌, false, IsTrue, IfOk, OnOk};
+ghost use Rattle.std.specs.Prelude.{◌≡◌, false, map, IsTrue, IfOk, OnOk};
 ghost use Rattle.std.specs.FinMap.{get};
 ghost use Rattle.gate_tables.specs.Contents.{answers_at};
 ghost use Rattle.gate_tables.specs.Database.{all_schema};
-ghost use Rattle.gate_tables.specs.Effects.{Adds, IsInside, IsReady, Leaves};
+ghost use Rattle.gate_tables.specs.Effects.{Adds, IsInside, IsReady, Leaves, Reads};
 ghost use Rattle.gate_tables.specs.Forms.{answers};
 ghost use Rattle.gate_tables.specs.Tables.{AreAnswers, answer_of};
 ghost use Rattle.sqlite.specs.Held.{state};
-ghost use Rattle.sqlite.specs.State.{HasCleanDisk, KeepsCommit};
+ghost use Rattle.sqlite.specs.State.{HasCleanDisk, IsUnchanged, KeepsCommit};
 
 use crate::fault::TablesFault;
-use crate::statement::{run, select, text_at};
-use gate_text::Text;
+use crate::rowids::check_rowids;
+use crate::statement::{run, select, select_inside, text_at};
+use gate_text::{List, Text};
 use sqlite::{Alter, Connection, Row, Transaction, params};
+use std::alloc::Global;
 
 // Adds an answer.
 pub(crate) fn put_answer<S: Alter>(
@@ -30,6 +32,37 @@ pub(crate) fn put_answer<S: Alter>(
         "INSERT INTO answers (id, body) VALUES (?1, ?2)",
         params![id, body],
     )
+}
+
+// What the rows of an answer say of identifiers and their texts.
+fn read_texts(alloc: Global, rows: &[Row]) -> Result<List<(Text, Text)>, TablesFault>
+    ensures value { IfOk result (λ read. read ≡ map answers.read rows.now) }
+{
+    let mut read = List::from(Vec::new(alloc));
+    for row in rows {
+        read.push((text_at(row, 0)?, text_at(row, 1)?))?;
+    }
+    Ok(read)
+}
+
+// All answers, each under its identifier. A row has an integer of its own as its rowid, or else they are refused with `Store`.
+pub(crate) fn read_answers<S: Alter>(
+    alloc: Global,
+    tx: &mut Transaction<'_, S>,
+) -> Result<List<(Text, Text)>, TablesFault>
+    ensures same_reference { tx.new.conn.ghost_name ≡ tx.old.conn.ghost_name }
+    ensures read { HasCleanDisk (state S.Store tx.new.conn.now) → (state S.Store tx.old.conn.now).now.schema ≡ all_schema
+        → IfOk result (Reads answers (state S.Store tx.old.conn.now).now.trees) }
+    ensures still { HasCleanDisk (state S.Store tx.new.conn.now) → (state S.Store tx.old.conn.now).now.schema ≡ all_schema
+        → OnOk result (IsUnchanged (state S.Store tx.old.conn.now) (state S.Store tx.new.conn.now)) }
+    ensures kept { HasCleanDisk (state S.Store tx.new.conn.now) → (state S.Store tx.old.conn.now).now.schema ≡ all_schema
+        → KeepsCommit (state S.Store tx.old.conn.now) (state S.Store tx.new.conn.now) }
+    ensures was { HasCleanDisk (state S.Store tx.new.conn.now) → IsTrue (state S.Store tx.new.conn.now).is_open → IsTrue (state S.Store tx.old.conn.now).is_open }
+    ensures clean { HasCleanDisk (state S.Store tx.new.conn.now) → HasCleanDisk (state S.Store tx.old.conn.now) }
+{
+    let rows = select_inside(tx, "SELECT id, body, rowid FROM answers")?;
+    check_rowids(rows.as_slice(), 2)?;
+    read_texts(alloc, rows.as_slice())
 }
 
 // The rows that the database has of an identifier.

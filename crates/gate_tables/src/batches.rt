@@ -11,7 +11,11 @@ impl TableRow for BatchRow {
     ghost form = { forms.batches };
 
     fn select_text() -> &'static str {
-        "SELECT number, branch, priority, again, phase, since, sha FROM batches"
+        "SELECT number, branch, priority, again, phase, since, sha, rowid FROM batches"
+    }
+
+    fn rowid_at() -> usize {
+        7
     }
 
     fn delete_text() -> &'static str {

@@ -11,7 +11,11 @@ impl TableRow for ChangeRow {
     ghost form = { forms.changes };
 
     fn select_text() -> &'static str {
-        "SELECT number, author, head, phase, priority, approved, last_command FROM changes"
+        "SELECT number, author, head, phase, priority, approved, last_command, rowid FROM changes"
+    }
+
+    fn rowid_at() -> usize {
+        7
     }
 
     fn delete_text() -> &'static str {

@@ -1,6 +1,8 @@
 ghost use Rattle.std.specs.Prelude.{◌≡◌, OnOk};
 ghost use Rattle.gate_tables.specs.Creation.{after_first};
-ghost use Rattle.gate_tables.specs.Effects.{IsBare};
+ghost use Rattle.gate_tables.specs.Database.{all_schema, wanted};
+ghost use Rattle.gate_tables.specs.Effects.{Grows, IsBare};
+ghost use Rattle.gate_tables.specs.Schemas.{first_schema};
 ghost use Rattle.sqlite.specs.Held.{state};
 ghost use Rattle.sqlite.specs.State.{HasCleanDisk, KeepsCommit};
 
@@ -66,8 +68,23 @@ fn create_last<S: Alter>(tx: &mut Transaction<'_, S>) -> Result<(), TablesFault>
     )
 }
 
-fn create_wanted<S: Alter>(tx: &mut Transaction<'_, S>) -> Result<(), TablesFault>
+// Makes the eight tables of version 1, which have no rows, in a database that has none.
+pub(crate) fn create_version_1<S: Alter>(tx: &mut Transaction<'_, S>) -> Result<(), TablesFault>
     ensures same_reference { tx.new.conn.ghost_name ≡ tx.old.conn.ghost_name }
+    ensures made { HasCleanDisk (state S.Store tx.new.conn.now) → OnOk result (IsBare (after_first 0) (state S.Store tx.old.conn.now)
+        → IsBare (after_first 8) (state S.Store tx.new.conn.now)) }
+    ensures kept { HasCleanDisk (state S.Store tx.new.conn.now) → KeepsCommit (state S.Store tx.old.conn.now) (state S.Store tx.new.conn.now) }
+    ensures clean { HasCleanDisk (state S.Store tx.new.conn.now) → HasCleanDisk (state S.Store tx.old.conn.now) }
+{
+    create_first(tx)?;
+    create_last(tx)
+}
+
+// Makes the table that version 2 has besides.
+pub(crate) fn create_wanted<S: Alter>(tx: &mut Transaction<'_, S>) -> Result<(), TablesFault>
+    ensures same_reference { tx.new.conn.ghost_name ≡ tx.old.conn.ghost_name }
+    ensures grown { HasCleanDisk (state S.Store tx.new.conn.now) → OnOk result ((state S.Store tx.old.conn.now).now.schema ≡ first_schema
+        → Grows first_schema wanted all_schema (state S.Store tx.old.conn.now) (state S.Store tx.new.conn.now)) }
     ensures made { HasCleanDisk (state S.Store tx.new.conn.now) → OnOk result (IsBare (after_first 8) (state S.Store tx.old.conn.now)
         → IsBare (after_first 9) (state S.Store tx.new.conn.now)) }
     ensures kept { HasCleanDisk (state S.Store tx.new.conn.now) → KeepsCommit (state S.Store tx.old.conn.now) (state S.Store tx.new.conn.now) }
@@ -88,7 +105,6 @@ pub(crate) fn create<S: Alter>(tx: &mut Transaction<'_, S>) -> Result<(), Tables
     ensures kept { HasCleanDisk (state S.Store tx.new.conn.now) → KeepsCommit (state S.Store tx.old.conn.now) (state S.Store tx.new.conn.now) }
     ensures clean { HasCleanDisk (state S.Store tx.new.conn.now) → HasCleanDisk (state S.Store tx.old.conn.now) }
 {
-    create_first(tx)?;
-    create_last(tx)?;
+    create_version_1(tx)?;
     create_wanted(tx)
 }

@@ -11,7 +11,11 @@ impl TableRow for DeskRow {
     ghost form = { forms.desk };
 
     fn select_text() -> &'static str {
-        "SELECT one, version, next_batch, clock, base, timeout_sec, required_approvals, max_batch_size FROM desk"
+        "SELECT one, version, next_batch, clock, base, timeout_sec, required_approvals, max_batch_size, rowid FROM desk"
+    }
+
+    fn rowid_at() -> usize {
+        8
     }
 
     fn delete_text() -> &'static str {

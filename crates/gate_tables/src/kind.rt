@@ -1,15 +1,15 @@
-ghost use Rattle.std.specs.Prelude.{◌≡◌, map, false, IsTrue, IfOk, OnOk, IsPermutation};
+ghost use Rattle.std.specs.Prelude.{◌≡◌, length, map, IsTrue, IfOk, OnOk};
 ghost use Rattle.gate_tables.specs.Database.{all_schema};
-ghost use Rattle.gate_tables.specs.Effects.{RanInside, RanOn, Leaves};
-ghost use Rattle.gate_tables.specs.Forms.{rows_of};
+ghost use Rattle.gate_tables.specs.Effects.{RanInside, RanOn, Reads};
 ghost use Rattle.gate_tables.specs.Texts.{delete_text, update_text};
 ghost use Rattle.sqlite.specs.Held.{state};
-ghost use Rattle.sqlite.specs.State.{HasCleanDisk, KeepsCommit};
+ghost use Rattle.sqlite.specs.State.{HasCleanDisk, IsUnchanged, KeepsCommit};
 
 use crate::fault::TablesFault;
-use crate::statement::select;
+use crate::rowids::check_rowids;
+use crate::statement::select_inside;
 use gate_text::List;
-use sqlite::{Alter, Connection, Row, Transaction};
+use sqlite::{Alter, Row, Transaction};
 use std::alloc::Global;
 
 // A row of one of the tables, with the statements on that table.
@@ -20,9 +20,13 @@ pub(crate) trait TableRow: Sized + Drop {
     // How the rows of the table are seen.
     ghost form: { Form Self };
 
-    // The text that asks for all rows.
+    // The text that asks for all rows, each with its rowid behind its columns.
     fn select_text() -> &'static str
         ensures text { result.now ≡ form.select };
+
+    // How many columns a row has.
+    fn rowid_at() -> usize
+        ensures at { result ≡ length form.layout.columns };
 
     // The text that deletes the row of a key.
     fn delete_text() -> &'static str
@@ -60,19 +64,22 @@ fn read_all<R: TableRow>(alloc: Global, rows: &[Row]) -> Result<List<R>, TablesF
     Ok(read)
 }
 
-// All rows of a table.
+// All rows of a table. Each has an integer of its own as its rowid, or else it is refused with `Store`.
 pub(crate) fn all<S: Alter, R: TableRow>(
     alloc: Global,
-    conn: &mut Connection<S>,
+    tx: &mut Transaction<'_, S>,
 ) -> Result<List<R>, TablesFault>
-    requires mode { conn.old.in_transaction ≡ false }
-    ensures mode { conn.new.in_transaction ≡ false }
-    ensures rows { HasCleanDisk (state S.Store conn.new) → (state S.Store conn.old).now.schema ≡ all_schema
-        → IfOk result (λ rows. IsPermutation (rows_of R.form (state S.Store conn.old).now.trees) rows) }
-    ensures left { HasCleanDisk (state S.Store conn.new) → (state S.Store conn.old).now.schema ≡ all_schema → Leaves (state S.Store conn.old) (state S.Store conn.new) }
-    ensures was { HasCleanDisk (state S.Store conn.new) → IsTrue (state S.Store conn.new).is_open → IsTrue (state S.Store conn.old).is_open }
-    ensures clean { HasCleanDisk (state S.Store conn.new) → HasCleanDisk (state S.Store conn.old) }
+    ensures same_reference { tx.new.conn.ghost_name ≡ tx.old.conn.ghost_name }
+    ensures rows { HasCleanDisk (state S.Store tx.new.conn.now) → (state S.Store tx.old.conn.now).now.schema ≡ all_schema
+        → IfOk result (Reads R.form (state S.Store tx.old.conn.now).now.trees) }
+    ensures still { HasCleanDisk (state S.Store tx.new.conn.now) → (state S.Store tx.old.conn.now).now.schema ≡ all_schema
+        → OnOk result (IsUnchanged (state S.Store tx.old.conn.now) (state S.Store tx.new.conn.now)) }
+    ensures kept { HasCleanDisk (state S.Store tx.new.conn.now) → (state S.Store tx.old.conn.now).now.schema ≡ all_schema
+        → KeepsCommit (state S.Store tx.old.conn.now) (state S.Store tx.new.conn.now) }
+    ensures was { HasCleanDisk (state S.Store tx.new.conn.now) → IsTrue (state S.Store tx.new.conn.now).is_open → IsTrue (state S.Store tx.old.conn.now).is_open }
+    ensures clean { HasCleanDisk (state S.Store tx.new.conn.now) → HasCleanDisk (state S.Store tx.old.conn.now) }
 {
-    let rows = select(conn, R::select_text(), &[])?;
+    let rows = select_inside(tx, R::select_text())?;
+    check_rowids(rows.as_slice(), R::rowid_at())?;
     read_all(alloc, rows.as_slice())
 }

@@ -1,14 +1,17 @@
 ghost use Rattle.std.specs.Prelude.{◌≡◌, ◌↔◌, [], false, IsTrue, OnOk, OnErr};
-ghost use Rattle.gate_tables.specs.Database.{schema_of};
-ghost use Rattle.gate_tables.specs.Effects.{Leaves, Made};
+ghost use Rattle.gate_tables.specs.Database.{all_schema, schema_of};
+ghost use Rattle.gate_tables.specs.Effects.{Brings, IsBegun, MayBeTaken, IsInside, Leaves, Made, Taken};
+ghost use Rattle.gate_tables.specs.Kept.{AreKept};
+ghost use Rattle.gate_tables.specs.Schemas as spec;
 ghost use Rattle.sqlite.specs.Held.{state};
-ghost use Rattle.sqlite.specs.State.{HasCleanDisk};
+ghost use Rattle.sqlite.specs.State.{HasCleanDisk, IsLive, KeepsCommit};
 
 use crate::apply::change_all;
 use crate::change::RowChange;
+use crate::complete::{complete, lacks_wanted};
 use crate::create::create;
 use crate::fault::TablesFault;
-use sqlite::{Alter, Connection};
+use sqlite::{Alter, Connection, Transaction};
 use sqlite_schema::schema::Schema;
 
 /// Whether there is no table, index or view.
@@ -37,4 +40,57 @@ pub(crate) fn make<S: Alter>(
     create(&mut tx)?;
     change_all(&mut tx, first)?;
     Ok(tx.commit()?)
+}
+
+// Makes the table that is missing in version 1, and these row changes.
+fn bring<S: Alter>(
+    tx: &mut Transaction<'_, S>,
+    missing: bool,
+    changes: &[RowChange],
+) -> Result<(), TablesFault>
+    ensures same_reference { tx.new.conn.ghost_name ≡ tx.old.conn.ghost_name }
+    ensures brought { HasCleanDisk (state S.Store tx.new.conn.now) → OnOk result (IsTrue (state S.Store tx.new.conn.now).is_open → IsBegun missing (state S.Store tx.old.conn.now)
+        → AreKept (state S.Store tx.old.conn.now).now.schema (state S.Store tx.old.conn.now).now.trees
+        → IsInside all_schema (state S.Store tx.new.conn.now) × Brings changes.now (state S.Store tx.old.conn.now).now (state S.Store tx.new.conn.now).now) }
+    ensures kept { HasCleanDisk (state S.Store tx.new.conn.now) → KeepsCommit (state S.Store tx.old.conn.now) (state S.Store tx.new.conn.now) }
+    ensures clean { HasCleanDisk (state S.Store tx.new.conn.now) → HasCleanDisk (state S.Store tx.old.conn.now) }
+{
+    complete(tx, missing)?;
+    change_all(tx, changes)
+}
+
+// The same in a transaction, or it changes nothing.
+fn bring_all<S: Alter>(
+    conn: &mut Connection<S>,
+    missing: bool,
+    changes: &[RowChange],
+) -> Result<(), TablesFault>
+    requires mode { conn.old.in_transaction ≡ false }
+    ensures mode { conn.new.in_transaction ≡ false }
+    ensures taken { HasCleanDisk (state S.Store conn.new) → OnOk result (missing ≡ spec.lacks_wanted (state S.Store conn.old).now.schema → IsLive (state S.Store conn.old) → MayBeTaken (state S.Store conn.old)
+        → Taken changes.now (state S.Store conn.old) (state S.Store conn.new)) }
+    ensures left { HasCleanDisk (state S.Store conn.new) → missing ≡ spec.lacks_wanted (state S.Store conn.old).now.schema → IsLive (state S.Store conn.old) → MayBeTaken (state S.Store conn.old)
+        → OnErr result (Leaves (state S.Store conn.old) (state S.Store conn.new)) }
+    ensures was { HasCleanDisk (state S.Store conn.new) → IsTrue (state S.Store conn.new).is_open → IsTrue (state S.Store conn.old).is_open }
+    ensures clean { HasCleanDisk (state S.Store conn.new) → HasCleanDisk (state S.Store conn.old) }
+{
+    let mut tx = conn.transaction();
+    bring(&mut tx, missing, changes)?;
+    Ok(tx.commit()?)
+}
+
+// Brings a database of either version to version 2, and makes these row changes in it, or changes nothing.
+pub(crate) fn take_over<S: Alter>(
+    conn: &mut Connection<S>,
+    changes: &[RowChange],
+) -> Result<(), TablesFault>
+    requires mode { conn.old.in_transaction ≡ false }
+    ensures mode { conn.new.in_transaction ≡ false }
+    ensures taken { HasCleanDisk (state S.Store conn.new) → OnOk result (MayBeTaken (state S.Store conn.old) → Taken changes.now (state S.Store conn.old) (state S.Store conn.new)) }
+    ensures left { HasCleanDisk (state S.Store conn.new) → MayBeTaken (state S.Store conn.old) → OnErr result (Leaves (state S.Store conn.old) (state S.Store conn.new)) }
+    ensures was { HasCleanDisk (state S.Store conn.new) → IsTrue (state S.Store conn.new).is_open → IsTrue (state S.Store conn.old).is_open }
+    ensures clean { HasCleanDisk (state S.Store conn.new) → HasCleanDisk (state S.Store conn.old) }
+{
+    let missing = lacks_wanted(conn.schema());
+    bring_all(conn, missing, changes)
 }

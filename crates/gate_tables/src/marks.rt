@@ -11,7 +11,11 @@ impl TableRow for MarkRow {
     ghost form = { forms.marks };
 
     fn select_text() -> &'static str {
-        "SELECT change_no, kind, word, place FROM marks"
+        "SELECT change_no, kind, word, place, rowid FROM marks"
+    }
+
+    fn rowid_at() -> usize {
+        4
     }
 
     fn delete_text() -> &'static str {

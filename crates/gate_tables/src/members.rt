@@ -11,7 +11,11 @@ impl TableRow for MemberRow {
     ghost form = { forms.members };
 
     fn select_text() -> &'static str {
-        "SELECT batch, place, change_no FROM members"
+        "SELECT batch, place, change_no, rowid FROM members"
+    }
+
+    fn rowid_at() -> usize {
+        3
     }
 
     fn delete_text() -> &'static str {

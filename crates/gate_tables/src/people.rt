@@ -11,7 +11,11 @@ impl TableRow for PersonRow {
     ghost form = { forms.people };
 
     fn select_text() -> &'static str {
-        "SELECT name, role FROM people"
+        "SELECT name, role, rowid FROM people"
+    }
+
+    fn rowid_at() -> usize {
+        2
     }
 
     fn delete_text() -> &'static str {

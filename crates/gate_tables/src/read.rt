@@ -1,8 +1,8 @@
-ghost use Rattle.std.specs.Prelude.{◌≡◌, false, IsTrue, IfOk};
-ghost use Rattle.gate_tables.specs.Contents.{AreSame, rows_at};
-ghost use Rattle.gate_tables.specs.Effects.{IsReady, Leaves, ReadsFirst, ReadsLast};
+ghost use Rattle.std.specs.Prelude.{◌≡◌, IsTrue, IfOk, OnOk};
+ghost use Rattle.gate_tables.specs.Database.{all_schema};
+ghost use Rattle.gate_tables.specs.Effects.{ReadsFirst, ReadsLast, ReadsRows};
 ghost use Rattle.sqlite.specs.Held.{state};
-ghost use Rattle.sqlite.specs.State.{HasCleanDisk};
+ghost use Rattle.sqlite.specs.State.{HasCleanDisk, IsUnchanged, KeepsCommit};
 
 use crate::fault::TablesFault;
 use crate::kind::all;
@@ -10,7 +10,7 @@ use crate::row::{
     BatchRow, ChangeRow, DeskRow, MarkRow, MemberRow, PersonRow, Rows, StatusRow, WantedRow,
 };
 use gate_text::List;
-use sqlite::{Alter, Connection};
+use sqlite::{Alter, Transaction};
 use std::alloc::Global;
 
 // The rows of the first four tables, and of the last four. A function has four statements at the most, since the proof of more
@@ -31,18 +31,21 @@ struct Last {
     wanted: List<WantedRow>,
 }
 
-fn read_first<S: Alter>(alloc: Global, conn: &mut Connection<S>) -> Result<First, TablesFault>
-    requires mode { conn.old.in_transaction ≡ false }
-    ensures mode { conn.new.in_transaction ≡ false }
-    ensures rows { HasCleanDisk (state S.Store conn.new) → IsTrue (state S.Store conn.new).is_open → IsReady (state S.Store conn.old) → IfOk result (ReadsFirst (state S.Store conn.old).now.trees) }
-    ensures left { HasCleanDisk (state S.Store conn.new) → IsReady (state S.Store conn.old) → Leaves (state S.Store conn.old) (state S.Store conn.new) }
-    ensures was { HasCleanDisk (state S.Store conn.new) → IsTrue (state S.Store conn.new).is_open → IsTrue (state S.Store conn.old).is_open }
-    ensures clean { HasCleanDisk (state S.Store conn.new) → HasCleanDisk (state S.Store conn.old) }
+fn read_first<S: Alter>(alloc: Global, tx: &mut Transaction<'_, S>) -> Result<First, TablesFault>
+    ensures same_reference { tx.new.conn.ghost_name ≡ tx.old.conn.ghost_name }
+    ensures rows { HasCleanDisk (state S.Store tx.new.conn.now) → (state S.Store tx.old.conn.now).now.schema ≡ all_schema
+        → IfOk result (ReadsFirst (state S.Store tx.old.conn.now).now.trees) }
+    ensures still { HasCleanDisk (state S.Store tx.new.conn.now) → (state S.Store tx.old.conn.now).now.schema ≡ all_schema
+        → OnOk result (IsUnchanged (state S.Store tx.old.conn.now) (state S.Store tx.new.conn.now)) }
+    ensures kept { HasCleanDisk (state S.Store tx.new.conn.now) → (state S.Store tx.old.conn.now).now.schema ≡ all_schema
+        → KeepsCommit (state S.Store tx.old.conn.now) (state S.Store tx.new.conn.now) }
+    ensures was { HasCleanDisk (state S.Store tx.new.conn.now) → IsTrue (state S.Store tx.new.conn.now).is_open → IsTrue (state S.Store tx.old.conn.now).is_open }
+    ensures clean { HasCleanDisk (state S.Store tx.new.conn.now) → HasCleanDisk (state S.Store tx.old.conn.now) }
 {
-    let desk = all(alloc, conn)?;
-    let people = all(alloc, conn)?;
-    let changes = all(alloc, conn)?;
-    let marks = all(alloc, conn)?;
+    let desk = all(alloc, tx)?;
+    let people = all(alloc, tx)?;
+    let changes = all(alloc, tx)?;
+    let marks = all(alloc, tx)?;
     Ok(First {
         desk,
         people,
@@ -51,18 +54,21 @@ fn read_first<S: Alter>(alloc: Global, conn: &mut Connection<S>) -> Result<First
     })
 }
 
-fn read_last<S: Alter>(alloc: Global, conn: &mut Connection<S>) -> Result<Last, TablesFault>
-    requires mode { conn.old.in_transaction ≡ false }
-    ensures mode { conn.new.in_transaction ≡ false }
-    ensures rows { HasCleanDisk (state S.Store conn.new) → IsTrue (state S.Store conn.new).is_open → IsReady (state S.Store conn.old) → IfOk result (ReadsLast (state S.Store conn.old).now.trees) }
-    ensures left { HasCleanDisk (state S.Store conn.new) → IsReady (state S.Store conn.old) → Leaves (state S.Store conn.old) (state S.Store conn.new) }
-    ensures was { HasCleanDisk (state S.Store conn.new) → IsTrue (state S.Store conn.new).is_open → IsTrue (state S.Store conn.old).is_open }
-    ensures clean { HasCleanDisk (state S.Store conn.new) → HasCleanDisk (state S.Store conn.old) }
+fn read_last<S: Alter>(alloc: Global, tx: &mut Transaction<'_, S>) -> Result<Last, TablesFault>
+    ensures same_reference { tx.new.conn.ghost_name ≡ tx.old.conn.ghost_name }
+    ensures rows { HasCleanDisk (state S.Store tx.new.conn.now) → (state S.Store tx.old.conn.now).now.schema ≡ all_schema
+        → IfOk result (ReadsLast (state S.Store tx.old.conn.now).now.trees) }
+    ensures still { HasCleanDisk (state S.Store tx.new.conn.now) → (state S.Store tx.old.conn.now).now.schema ≡ all_schema
+        → OnOk result (IsUnchanged (state S.Store tx.old.conn.now) (state S.Store tx.new.conn.now)) }
+    ensures kept { HasCleanDisk (state S.Store tx.new.conn.now) → (state S.Store tx.old.conn.now).now.schema ≡ all_schema
+        → KeepsCommit (state S.Store tx.old.conn.now) (state S.Store tx.new.conn.now) }
+    ensures was { HasCleanDisk (state S.Store tx.new.conn.now) → IsTrue (state S.Store tx.new.conn.now).is_open → IsTrue (state S.Store tx.old.conn.now).is_open }
+    ensures clean { HasCleanDisk (state S.Store tx.new.conn.now) → HasCleanDisk (state S.Store tx.old.conn.now) }
 {
-    let batches = all(alloc, conn)?;
-    let members = all(alloc, conn)?;
-    let statuses = all(alloc, conn)?;
-    let wanted = all(alloc, conn)?;
+    let batches = all(alloc, tx)?;
+    let members = all(alloc, tx)?;
+    let statuses = all(alloc, tx)?;
+    let wanted = all(alloc, tx)?;
     Ok(Last {
         batches,
         members,
@@ -71,30 +77,33 @@ fn read_last<S: Alter>(alloc: Global, conn: &mut Connection<S>) -> Result<Last, 
     })
 }
 
-// The rows of all tables but `answers`. It changes nothing.
+// The rows of all tables but `answers`, in an open transaction. It changes nothing.
 pub(crate) fn read_rows<S: Alter>(
     alloc: Global,
-    conn: &mut Connection<S>,
+    tx: &mut Transaction<'_, S>,
 ) -> Result<Rows, TablesFault>
-    requires mode { conn.old.in_transaction ≡ false }
-    ensures mode { conn.new.in_transaction ≡ false }
-    ensures rows { HasCleanDisk (state S.Store conn.new) → IsTrue (state S.Store conn.new).is_open → IsReady (state S.Store conn.old) → IfOk result (AreSame (rows_at (state S.Store conn.old).now.trees)) }
-    ensures left { HasCleanDisk (state S.Store conn.new) → IsReady (state S.Store conn.old) → Leaves (state S.Store conn.old) (state S.Store conn.new) }
-    ensures was { HasCleanDisk (state S.Store conn.new) → IsTrue (state S.Store conn.new).is_open → IsTrue (state S.Store conn.old).is_open }
-    ensures clean { HasCleanDisk (state S.Store conn.new) → HasCleanDisk (state S.Store conn.old) }
+    ensures same_reference { tx.new.conn.ghost_name ≡ tx.old.conn.ghost_name }
+    ensures rows { HasCleanDisk (state S.Store tx.new.conn.now) → (state S.Store tx.old.conn.now).now.schema ≡ all_schema
+        → IfOk result (ReadsRows (state S.Store tx.old.conn.now).now.trees) }
+    ensures still { HasCleanDisk (state S.Store tx.new.conn.now) → (state S.Store tx.old.conn.now).now.schema ≡ all_schema
+        → OnOk result (IsUnchanged (state S.Store tx.old.conn.now) (state S.Store tx.new.conn.now)) }
+    ensures kept { HasCleanDisk (state S.Store tx.new.conn.now) → (state S.Store tx.old.conn.now).now.schema ≡ all_schema
+        → KeepsCommit (state S.Store tx.old.conn.now) (state S.Store tx.new.conn.now) }
+    ensures was { HasCleanDisk (state S.Store tx.new.conn.now) → IsTrue (state S.Store tx.new.conn.now).is_open → IsTrue (state S.Store tx.old.conn.now).is_open }
+    ensures clean { HasCleanDisk (state S.Store tx.new.conn.now) → HasCleanDisk (state S.Store tx.old.conn.now) }
 {
     let First {
         desk,
         people,
         changes,
         marks,
-    } = read_first(alloc, conn)?;
+    } = read_first(alloc, tx)?;
     let Last {
         batches,
         members,
         statuses,
         wanted,
-    } = read_last(alloc, conn)?;
+    } = read_last(alloc, tx)?;
     Ok(Rows {
         desk,
         people,

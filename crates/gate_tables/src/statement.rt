@@ -1,10 +1,10 @@
-ghost use Rattle.std.specs.Prelude.{◌≡◌, false, IsTrue, IfOk, OnOk};
+ghost use Rattle.std.specs.Prelude.{◌≡◌, [], false, IsTrue, IfOk, OnOk};
 ghost use Rattle.gate_tables.specs.Effects.{RanInside, RanOn, Leaves};
 ghost use Rattle.sqlite.specs.Given.{IsPlain};
 ghost use Rattle.sqlite.specs.Held.{state};
 ghost use Rattle.sqlite.specs.Listing.{understood};
 ghost use Rattle.sqlite.specs.Order.{column};
-ghost use Rattle.sqlite.specs.State.{HasCleanDisk, KeepsCommit, Shown};
+ghost use Rattle.sqlite.specs.State.{HasCleanDisk, IsUnchanged, KeepsCommit, Shown};
 ghost use Rattle.sqlite.specs.Values.{bound};
 ghost use Rattle.sqlite.specs.declared.types.Value.TheVariants.{Text as SqlText};
 
@@ -56,6 +56,23 @@ pub(crate) fn select<S: Alter>(
     ensures clean { HasCleanDisk (state S.Store conn.new) → HasCleanDisk (state S.Store conn.old) }
 {
     Ok(conn.query_all(sql, params)?)
+}
+
+// All rows that a query shows in an open transaction. Whatever becomes of it, nothing is committed.
+pub(crate) fn select_inside<S: Alter>(
+    tx: &mut Transaction<'_, S>,
+    sql: &str,
+) -> Result<Vec<Row>, TablesFault>
+    ensures same_reference { tx.new.conn.ghost_name ≡ tx.old.conn.ghost_name }
+    ensures shown { HasCleanDisk (state S.Store tx.new.conn.now) → IfOk result (λ rows. Shown sql.now [] (state S.Store tx.old.conn.now) (state S.Store tx.new.conn.now) rows.items) }
+    ensures still { HasCleanDisk (state S.Store tx.new.conn.now) → IsPlain (understood (state S.Store tx.old.conn.now).now.schema sql.now)
+        → OnOk result (IsUnchanged (state S.Store tx.old.conn.now) (state S.Store tx.new.conn.now)) }
+    ensures kept { HasCleanDisk (state S.Store tx.new.conn.now) → IsPlain (understood (state S.Store tx.old.conn.now).now.schema sql.now)
+        → KeepsCommit (state S.Store tx.old.conn.now) (state S.Store tx.new.conn.now) }
+    ensures was { HasCleanDisk (state S.Store tx.new.conn.now) → IsTrue (state S.Store tx.new.conn.now).is_open → IsTrue (state S.Store tx.old.conn.now).is_open }
+    ensures clean { HasCleanDisk (state S.Store tx.new.conn.now) → HasCleanDisk (state S.Store tx.old.conn.now) }
+{
+    Ok(tx.query_all(sql, &[])?)
 }
 
 // The text in a column.

@@ -11,7 +11,11 @@ impl TableRow for StatusRow {
     ghost form = { forms.statuses };
 
     fn select_text() -> &'static str {
-        "SELECT batch, name, report FROM statuses"
+        "SELECT batch, name, report, rowid FROM statuses"
+    }
+
+    fn rowid_at() -> usize {
+        3
     }
 
     fn delete_text() -> &'static str {

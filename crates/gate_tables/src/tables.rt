@@ -3,15 +3,15 @@ ghost use Rattle.std.specs.FinMap.{empty, get, insert};
 ghost use Rattle.gate_tables.specs.Applied.{applied, no_rows};
 ghost use Rattle.gate_tables.specs.Contents.{AreSame};
 ghost use Rattle.gate_tables.specs.Database.{schema_of};
-ghost use Rattle.gate_tables.specs.Tables.{is_sound, rows_in, answers_in, IsBook};
+ghost use Rattle.gate_tables.specs.Tables.{is_sound, rows_in, answers_in, IsBook, Stands};
 ghost use Rattle.sqlite.specs.Held.{state};
 
 use crate::answers::find_answer;
 use crate::apply::apply_all;
 use crate::change::RowChange;
 use crate::fault::TablesFault;
+use crate::look::read;
 use crate::make::make;
-use crate::read::read_rows;
 use crate::row::Rows;
 use gate_text::Text;
 use sqlite::{Alter, Connection};
@@ -73,6 +73,14 @@ impl<S: Alter> Tables<S> {
         }
     }
 
+    // The tables of a connection that has all of them.
+    pub(crate) fn of(connection: Connection<S>) -> Tables<S>
+        requires stands { Stands S.Store connection }
+        ensures value { result ≡ connection }
+    {
+        Tables { connection }
+    }
+
     /// Hands back the connection as it is: no transaction is open.
     pub fn into_connection(self) -> Connection<S>
         ensures value { result ≡ self }
@@ -99,7 +107,7 @@ impl<S: Alter> Tables<S> {
         ensures same { is_sound S.Store self.new → (rows_in S.Store self.new ≡ rows_in S.Store self.old) × (answers_in S.Store self.new ≡ answers_in S.Store self.old) }
         ensures was { is_sound S.Store self.new → is_sound S.Store self.old }
     {
-        read_rows(alloc, &mut self.connection)
+        read(alloc, &mut self.connection)
     }
 
     /// The answer under an identifier, if there is one. It changes nothing. `Store` if the database fails, and `Memory` if

@@ -11,7 +11,11 @@ impl TableRow for WantedRow {
     ghost form = { forms.wanted };
 
     fn select_text() -> &'static str {
-        "SELECT kind, place, word FROM wanted"
+        "SELECT kind, place, word, rowid FROM wanted"
+    }
+
+    fn rowid_at() -> usize {
+        3
     }
 
     fn delete_text() -> &'static str {

@@ -1,0 +1,81 @@
+ghost use Rattle.std.specs.Prelude.{◌≡◌, false, IsTrue, IfOk, OnOk};
+ghost use Rattle.gate_tables.specs.Contents.{AreSame, rows_at};
+ghost use Rattle.gate_tables.specs.Database.{all_schema};
+ghost use Rattle.gate_tables.specs.Effects.{IsReady, Leaves, ReadsContents, ShowsAll};
+ghost use Rattle.gate_tables.specs.Schemas.{HasTables};
+ghost use Rattle.sqlite.specs.Held.{state};
+ghost use Rattle.sqlite.specs.State.{HasCleanDisk, IsUnchanged, KeepsCommit};
+
+use crate::answers::read_answers;
+use crate::complete::{complete, lacks_wanted};
+use crate::fault::TablesFault;
+use crate::read::read_rows;
+use crate::row::Rows;
+use gate_text::{List, Text};
+use sqlite::{Alter, Connection, Transaction};
+use std::alloc::Global;
+
+/// What tables hold.
+#[derive(Drop)]
+pub struct Contents {
+    /// The rows of all tables but `answers`.
+    pub rows: Rows,
+    /// The answers, each under its identifier.
+    pub answers: List<(Text, Text)>,
+}
+
+// The rows of all tables but `answers`. It changes nothing.
+pub(crate) fn read<S: Alter>(alloc: Global, conn: &mut Connection<S>) -> Result<Rows, TablesFault>
+    requires mode { conn.old.in_transaction ≡ false }
+    ensures mode { conn.new.in_transaction ≡ false }
+    ensures rows { HasCleanDisk (state S.Store conn.new) → IsTrue (state S.Store conn.new).is_open → IsReady (state S.Store conn.old) → IfOk result (AreSame (rows_at (state S.Store conn.old).now.trees)) }
+    ensures left { HasCleanDisk (state S.Store conn.new) → IsReady (state S.Store conn.old) → Leaves (state S.Store conn.old) (state S.Store conn.new) }
+    ensures was { HasCleanDisk (state S.Store conn.new) → IsTrue (state S.Store conn.new).is_open → IsTrue (state S.Store conn.old).is_open }
+    ensures clean { HasCleanDisk (state S.Store conn.new) → HasCleanDisk (state S.Store conn.old) }
+{
+    let mut tx = conn.transaction();
+    let rows = read_rows(alloc, &mut tx)?;
+    tx.commit()?;
+    Ok(rows)
+}
+
+// All that the tables hold, in an open transaction. It changes nothing.
+fn read_contents<S: Alter>(
+    alloc: Global,
+    tx: &mut Transaction<'_, S>,
+) -> Result<Contents, TablesFault>
+    ensures same_reference { tx.new.conn.ghost_name ≡ tx.old.conn.ghost_name }
+    ensures read { HasCleanDisk (state S.Store tx.new.conn.now) → (state S.Store tx.old.conn.now).now.schema ≡ all_schema
+        → IfOk result (ReadsContents (state S.Store tx.old.conn.now).now.trees) }
+    ensures still { HasCleanDisk (state S.Store tx.new.conn.now) → (state S.Store tx.old.conn.now).now.schema ≡ all_schema
+        → OnOk result (IsUnchanged (state S.Store tx.old.conn.now) (state S.Store tx.new.conn.now)) }
+    ensures kept { HasCleanDisk (state S.Store tx.new.conn.now) → (state S.Store tx.old.conn.now).now.schema ≡ all_schema
+        → KeepsCommit (state S.Store tx.old.conn.now) (state S.Store tx.new.conn.now) }
+    ensures was { HasCleanDisk (state S.Store tx.new.conn.now) → IsTrue (state S.Store tx.new.conn.now).is_open → IsTrue (state S.Store tx.old.conn.now).is_open }
+    ensures clean { HasCleanDisk (state S.Store tx.new.conn.now) → HasCleanDisk (state S.Store tx.old.conn.now) }
+{
+    let rows = read_rows(alloc, tx)?;
+    let answers = read_answers(alloc, tx)?;
+    Ok(Contents { rows, answers })
+}
+
+// All that the tables of a database of either version hold. It changes nothing: the table that is missing in version 1 is made in a
+// transaction that is rolled back, so that the rows are read by the same texts.
+pub(crate) fn look<S: Alter>(
+    alloc: Global,
+    conn: &mut Connection<S>,
+) -> Result<Contents, TablesFault>
+    requires mode { conn.old.in_transaction ≡ false }
+    ensures mode { conn.new.in_transaction ≡ false }
+    ensures shown { HasCleanDisk (state S.Store conn.new) → HasTables (state S.Store conn.old).now → IfOk result (ShowsAll (state S.Store conn.old).now) }
+    ensures left { HasCleanDisk (state S.Store conn.new) → HasTables (state S.Store conn.old).now → Leaves (state S.Store conn.old) (state S.Store conn.new) }
+    ensures was { HasCleanDisk (state S.Store conn.new) → HasTables (state S.Store conn.old).now → IsTrue (state S.Store conn.new).is_open → IsTrue (state S.Store conn.old).is_open }
+    ensures clean { HasCleanDisk (state S.Store conn.new) → HasCleanDisk (state S.Store conn.old) }
+{
+    let missing = lacks_wanted(conn.schema());
+    let mut tx = conn.transaction();
+    complete(&mut tx, missing)?;
+    let contents = read_contents(alloc, &mut tx)?;
+    tx.rollback();
+    Ok(contents)
+}
