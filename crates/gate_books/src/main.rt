@@ -5,11 +5,15 @@
 //! each line. `gate_books tables` prints the rows of the tables in place of the answers, and `gate_books changed` the row changes
 //! of each line. `.ci/test_rows` starts it so.
 //!
+//! `gate_books opened` begins with lines of SQL, which make the database that it opens, and prints the rows of the tables behind
+//! the answers.
+//!
 //! `gate_books refusals` prints what is answered to rows and to a database that no delivery makes, and what row changes leave.
 #![tactic(auto)]
 
 mod changed;
 mod fault;
+mod opened;
 mod refusals;
 mod row_changes;
 mod serving;
@@ -42,6 +46,7 @@ fn run(rt: &HostRuntime) -> Result<(), BooksFault> {
         "loaded" => serving::serve_loaded(rt.alloc(), &mut reader, &mut writer),
         "tables" => tables::print_tables(rt.alloc(), &mut reader, &mut writer),
         "changed" => changed::print_changed(rt.alloc(), &mut reader, &mut writer),
+        "opened" => opened::print_opened(rt.alloc(), &mut reader, &mut writer),
         "refusals" => refusals::print_refusals(rt.alloc(), &mut reader, &mut writer),
         _ => Err(BooksFault::Usage),
     }

@@ -81,6 +81,17 @@ fn serve_each<B: Book + Drop, R: BufRead, W: Write>(
     reader: &mut R,
     writer: &mut W,
 ) -> Result<(), BooksFault> {
+    drop(served_each(alloc, book, reader, writer)?);
+    Ok(())
+}
+
+/// Serves all lines over a book, each by a keeper of its own, and gives the book back.
+pub(crate) fn served_each<B: Book + Drop, R: BufRead, W: Write>(
+    alloc: Global,
+    book: B,
+    reader: &mut R,
+    writer: &mut W,
+) -> Result<B, BooksFault> {
     let mut book = book;
     for _ in 0..u64::MAX {
         let mut line = Vec::new(alloc);
@@ -89,5 +100,5 @@ fn serve_each<B: Book + Drop, R: BufRead, W: Write>(
         }
         book = served(alloc, book, &mut line.as_slice(), writer)?;
     }
-    Ok(())
+    Ok(book)
 }

@@ -42,7 +42,11 @@ fn book_after<R: Read>(alloc: Global, reader: &mut R) -> Result<MemoryBook, Book
     }
 }
 
-fn print_all<W: Write>(connection: Connection<MemStore>, writer: &mut W) -> Result<(), BooksFault> {
+/// Prints the rows of all tables of a database.
+pub(crate) fn print_all<W: Write>(
+    connection: Connection<MemStore>,
+    writer: &mut W,
+) -> Result<(), BooksFault> {
     let mut connection = connection;
     let printed = print_each(&mut connection, writer);
     drop(connection);

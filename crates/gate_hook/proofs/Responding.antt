@@ -3,7 +3,7 @@ use Rattle.std.proofs.Common.{◌≡◌, inl, inr, ℕ, ◌<◌, List, ◌++◌,
 use Rattle.std.specs.Io.KnownBytes.{Appends, Consumes}
 use Rattle.std.specs.String.{string_bytes}
 use Rattle.gate_queue.specs.declared.fault.Fault.{Fault}
-use Rattle.gate_queue.specs.declared.fault.Fault.TheVariants.{Memory, Store, Full}
+use Rattle.gate_queue.specs.declared.fault.Fault.TheVariants.{Memory, Store, Full, Foreign}
 use Rattle.gate_store.specs.Run.{Records}
 use Rattle.gate_hook.specs.Receiving.{IsInput, IsUnread}
 use Rattle.gate_hook.specs.Requests.{Asks}
@@ -37,6 +37,7 @@ answers-read (Err (Gate Memory)) input wish old new asks (inl same) = inl same
 answers-read (Err (Gate Memory)) input wish old new asks (inr kept) = inr (wish, asks, kept.0, kept.1)
 answers-read (Err (Gate Store)) input wish old new asks responds = (responds.0, (wish, asks, responds.1))
 answers-read (Err (Gate Full)) input wish old new asks responds = (responds.0, (wish, asks, responds.1))
+answers-read (Err (Gate Foreign)) input wish old new asks responds = absurd responds
 answers-read (Err Read) input wish old new asks responds = absurd responds
 answers-read (Err Write) input wish old new asks responds = absurd responds
 answers-read (Err TooMuch) input wish old new asks responds = absurd responds
@@ -96,6 +97,7 @@ quiet-same (Err (Gate Memory)) input old new none (inl same) = same
 quiet-same (Err (Gate Memory)) input old new none (inr kept) = quiet-wish kept.0 input old new none kept.1 kept.2
 quiet-same (Err (Gate Store)) input old new none is = is.0
 quiet-same (Err (Gate Full)) input old new none is = is.0
+quiet-same (Err (Gate Foreign)) input old new none is = absurd is
 quiet-same (Err Read) input old new none is = is
 quiet-same (Err Write) input old new none is = absurd is
 quiet-same (Err TooMuch) input old new none is = absurd is

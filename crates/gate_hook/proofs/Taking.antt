@@ -5,7 +5,7 @@ use Rattle.std.proofs.lemmas.Bool.Decides.{nat_tests}
 use Rattle.std.proofs.lemmas.List.{length_push}
 use Rattle.std.specs.Io.KnownBytes.{Appends}
 use Rattle.gate_queue.specs.declared.fault.Fault.{Fault}
-use Rattle.gate_queue.specs.declared.fault.Fault.TheVariants.{Memory, Store, Full}
+use Rattle.gate_queue.specs.declared.fault.Fault.TheVariants.{Memory, Store, Full, Foreign}
 use Rattle.gate_store.specs.Run.{Records}
 use Rattle.gate_hook.specs.Deliveries.{delivery_of}
 use Rattle.gate_hook.specs.Lines.{ended_lines, open_line, line_text, too_long_text, text_answered, after_line, is_delivery, line_meets_full, after_reading, reading_meets_full, text_for, after_lines, NoLineMeetsFull, MayCause, StopsAtLine}
@@ -33,6 +33,7 @@ may_cause-kept : (records : Records) (line : List ℕ) (fault : Fault) → MayCa
 may_cause-kept records line Memory cause = cause
 may_cause-kept records line Store cause = sym (is_delivery-kept line) ∙ cause
 may_cause-kept records line Full cause = sym (line_meets_full-kept records line) ∙ cause
+may_cause-kept records line Foreign cause = cause
 
 -- The line that is open, by what is kept of it and by what it was: the records and the text are the same.
 text_at : (now served : Records) (line last : List ℕ) → now ≡ served → line ≡ kept_of last → line_text now line ++ 10 ∷ [] ≡ line_text served last ++ 10 ∷ []

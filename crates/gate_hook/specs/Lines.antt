@@ -2,7 +2,7 @@
 use Rattle.std.specs.Prelude.{◌≡◌, ◌⊎◌, ℕ, ◌+◌, ◌<◌, ◌≤◌, ◌==◌, ◌&&◌, not, nat_lt, ⊤, List, [], ◌∷◌, ◌++◌, length, take, Bool, true, false, Option, Result, Ok, Err, is_ok, codes, if◌then◌else◌}
 use Rattle.std.specs.Io.KnownBytes.{Appends, IsAtEnd}
 use Rattle.gate_queue.specs.declared.fault.Fault.{Fault}
-use Rattle.gate_queue.specs.declared.fault.Fault.TheVariants.{Memory, Store, Full}
+use Rattle.gate_queue.specs.declared.fault.Fault.TheVariants.{Memory, Store, Full, Foreign}
 use Rattle.gate_store.specs.Answers.{answer_text_of}
 use Rattle.gate_store.specs.Run.{Records, answer_to, after_delivery, meets_full, IsOfKeepers}
 use Rattle.gate_store.specs.declared.delivery.Delivery.{Delivery}
@@ -111,6 +111,7 @@ abbrev pub MayCause : Records → List ℕ → Fault → Type 0
 MayCause records line Memory = ⊤
 MayCause records line Store = is_delivery line ≡ true
 MayCause records line Full = line_meets_full records line ≡ true
+MayCause records line Foreign = ⊥
 
 -- A fault at a line that comes after those served: nothing of its answer is written. Nothing has changed, and the line may cause
 -- the fault; or the line has acted and its answer is kept, but there was no memory for its text.

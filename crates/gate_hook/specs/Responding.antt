@@ -2,7 +2,7 @@
 use Rattle.std.specs.Prelude.{◌≡◌, ◌⊎◌, ℕ, ◌<◌, ⊤, List, length, take, Option, Result, Ok, Err}
 use Rattle.std.specs.Io.KnownBytes.{Appends}
 use Rattle.gate_queue.specs.declared.fault.Fault.{Fault}
-use Rattle.gate_queue.specs.declared.fault.Fault.TheVariants.{Memory, Store, Full}
+use Rattle.gate_queue.specs.declared.fault.Fault.TheVariants.{Memory, Store, Full, Foreign}
 use Rattle.gate_store.specs.Run.{Records, IsOfKeepers}
 use Rattle.gate_hook.specs.Requests.{Asks}
 use Rattle.gate_hook.specs.Responses.{IsResponse}
@@ -20,6 +20,7 @@ Responds (Ok made) old wish new = IsResponse made (response_to old wish) × (new
 Responds (Err (Gate Memory)) old wish new = (new ≡ old) ⊎ ((new ≡ after_wish old wish) × HasRoom old wish)
 Responds (Err (Gate Store)) old wish new = (new ≡ old) × IsTaken wish
 Responds (Err (Gate Full)) old wish new = (new ≡ old) × MeetsFull old wish
+Responds (Err (Gate Foreign)) old wish new = ⊥
 Responds (Err Read) old wish new = ⊥
 Responds (Err Write) old wish new = ⊥
 Responds (Err TooMuch) old wish new = ⊥

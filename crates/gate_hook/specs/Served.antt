@@ -2,7 +2,7 @@
 use Rattle.std.specs.Prelude.{◌≡◌, ◌⊎◌, ℕ, ◌<◌, true, false, ⊤, List, [], length, take, Option, Some, None, Result, Ok, Err}
 use Rattle.std.specs.Io.KnownBytes.{Appends}
 use Rattle.gate_queue.specs.declared.fault.Fault.{Fault}
-use Rattle.gate_queue.specs.declared.fault.Fault.TheVariants.{Memory, Store, Full}
+use Rattle.gate_queue.specs.declared.fault.Fault.TheVariants.{Memory, Store, Full, Foreign}
 use Rattle.gate_state.specs.declared.state.State.{State}
 use Rattle.gate_report.specs.Change.{change_text_of}
 use Rattle.gate_report.specs.Queue.{queue_text_of}
@@ -60,12 +60,13 @@ IsTaken (Err refusal) = ⊥
 
 -- The faults, and what each leaves: nothing has changed; or after `Memory`, the delivery has acted and its answer is kept, but there
 -- was no memory for its text or its response. The records fail only at a delivery or a report, and `Full` comes only at a delivery
--- of which an act meets a full gate.
+-- of which an act meets a full gate. `Foreign` never comes here.
 abbrev pub Breaks : List ℕ → Fault → Records → Records → Type 0
 Breaks input Memory old new =
     (new ≡ old) ⊎ ((wish : Result Request Refusal) × Asks input wish × (new ≡ after_wish old wish) × HasRoom old wish)
 Breaks input Store old new = (new ≡ old) × ((wish : Result Request Refusal) × Asks input wish × IsTaken wish)
 Breaks input Full old new = (new ≡ old) × ((wish : Result Request Refusal) × Asks input wish × MeetsFull old wish)
+Breaks input Foreign old new = ⊥
 
 -- this response is due, with this fault if there was one, and leaves these records
 abbrev pub IsDue : List ℕ → Records → Response → Option Fault → Records → Type 0

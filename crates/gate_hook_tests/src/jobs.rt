@@ -85,6 +85,7 @@ fn statuses_and_words(rt: HostRuntime) {
     check_fault(&rt, JobFault::from(Fault::Memory), "gate: Memory");
     check_fault(&rt, JobFault::from(Fault::Store), "gate: Store");
     check_fault(&rt, JobFault::from(Fault::Full), "gate: Full");
+    check_fault(&rt, JobFault::from(Fault::Foreign), "gate: Foreign");
     check_fault(&rt, JobFault::from(HookFault::Read), "gate: Read");
     check_fault(&rt, JobFault::from(HookFault::Write), "gate: Write");
     check_fault(&rt, JobFault::from(HookFault::TooMuch), "gate: TooMuch");

@@ -28,6 +28,7 @@ fn words_of_hook_faults(rt: HostRuntime) {
     check_hook_fault(&rt, rt.alloc(), HookFault::Gate(Fault::Memory), "Memory");
     check_hook_fault(&rt, rt.alloc(), HookFault::Gate(Fault::Store), "Store");
     check_hook_fault(&rt, rt.alloc(), HookFault::Gate(Fault::Full), "Full");
+    check_hook_fault(&rt, rt.alloc(), HookFault::Gate(Fault::Foreign), "Foreign");
     check_hook_fault(&rt, rt.alloc(), HookFault::Read, "Read");
     check_hook_fault(&rt, rt.alloc(), HookFault::Write, "Write");
     check_hook_fault(&rt, rt.alloc(), HookFault::TooMuch, "TooMuch");

@@ -8,13 +8,16 @@ use Rattle.gate_hook.specs.Sending.{IsCutOff}
 use Rattle.gate_hook.specs.declared.fault.HookFault.{HookFault}
 use Rattle.gate_hook.specs.declared.fault.HookFault.TheVariants.{Gate, Read, Write, TooMuch}
 use Rattle.gate_queue.specs.declared.fault.Fault.{Fault}
-use Rattle.gate_queue.specs.declared.fault.Fault.TheVariants.{Memory, Store, Full}
+use Rattle.gate_queue.specs.declared.fault.Fault.TheVariants.{Memory, Store, Full, Foreign}
 use Rattle.gate_state.specs.declared.state.State.{State}
 use Rattle.gate_report.specs.Queue.{head_of, queue_text_of}
 use Rattle.gate_store.specs.Run.{IsOfBooks, Records}
 
 full_is_not_memory : Full ≡ Memory → ⊥
 full_is_not_memory e = grind arith
+
+foreign_is_not_memory : Foreign ≡ Memory → ⊥
+foreign_is_not_memory e = grind arith
 
 -- serving the lines stopped
 pub served_misses : (old : Records) (fault : HookFault) (input : List ℕ) (left : Option (List ℕ)) (new : Records) (before after : Option (List ℕ))
@@ -30,6 +33,10 @@ served_misses old (Gate Full) input left new before after within served = (
     | inr acted ↦ absurd (full_is_not_memory acted.0)
   ],
 )
+served_misses old (Gate Foreign) input left new before after within served = elim served.records [
+  | inl kept ↦ absurd kept.1
+  | inr acted ↦ absurd (foreign_is_not_memory acted.0)
+]
 served_misses old Read input left new before after within served = tt
 served_misses old Write input left new before after within served = tt
 served_misses old TooMuch input left new before after within served = omega (arith, within)
@@ -40,6 +47,8 @@ gate_misses old Memory input left cause = tt
 gate_misses old Store input left cause = tt
 gate_misses old Full input left (inl e) = absurd (full_is_not_memory e)
 gate_misses old Full input left (inr e) = absurd (grind (arith, e))
+gate_misses old Foreign input left (inl e) = absurd (foreign_is_not_memory e)
+gate_misses old Foreign input left (inr e) = absurd (grind (arith, e))
 
 some_text : (state : State) → 0 < length (queue_text_of state)
 unfolding head_of

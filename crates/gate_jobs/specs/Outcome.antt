@@ -5,7 +5,7 @@ use Rattle.gate_jobs.specs.declared.fault.JobFault.TheVariants.{Hook, Bind, Acce
 use Rattle.gate_jobs.specs.declared.outcome.Ending.{Ending}
 use Rattle.gate_jobs.specs.declared.outcome.Ending.TheVariants as ending
 use Rattle.gate_hook.specs.declared.fault.HookFault.TheVariants.{Gate, Read, Write, TooMuch}
-use Rattle.gate_queue.specs.declared.fault.Fault.TheVariants.{Memory, Store, Full}
+use Rattle.gate_queue.specs.declared.fault.Fault.TheVariants.{Memory, Store, Full, Foreign}
 
 abbrev pub ending_of : Result (Unit {0}) JobFault → Ending
 ending_of (Ok _) = ending.Done
@@ -20,6 +20,7 @@ abbrev pub word_of : JobFault → List ℕ
 word_of (Hook (Gate Memory)) = codes "Memory"
 word_of (Hook (Gate Store)) = codes "Store"
 word_of (Hook (Gate Full)) = codes "Full"
+word_of (Hook (Gate Foreign)) = codes "Foreign"
 word_of (Hook Read) = codes "Read"
 word_of (Hook Write) = codes "Write"
 word_of (Hook TooMuch) = codes "TooMuch"

@@ -6,7 +6,7 @@ use Rattle.gate_hook.specs.Lines.{AreComplete, NoLineMeetsFull, after_lines, lin
 use Rattle.gate_hook.specs.Sending.{IsCutOff}
 use Rattle.gate_hook.specs.declared.fault.HookFault.{HookFault}
 use Rattle.gate_hook.specs.declared.fault.HookFault.TheVariants.{Gate, Read, Write, TooMuch}
-use Rattle.gate_queue.specs.declared.fault.Fault.TheVariants.{Memory, Store, Full}
+use Rattle.gate_queue.specs.declared.fault.Fault.TheVariants.{Memory, Store, Full, Foreign}
 use Rattle.gate_report.specs.Queue.{queue_text_of}
 use Rattle.gate_store.specs.Run.{Records}
 
@@ -24,6 +24,7 @@ abbrev pub MayMiss : Records → HookFault → List ℕ → Option (List ℕ) �
 MayMiss records (Gate Memory) input left = ⊤
 MayMiss records (Gate Store) input left = ⊤
 MayMiss records (Gate Full) input left = StopsAtFull records input left
+MayMiss records (Gate Foreign) input left = ⊥
 MayMiss records Read input left = ⊤
 MayMiss records Write input left = ⊤
 MayMiss records TooMuch input left = max_input < length input

@@ -45,6 +45,7 @@ pub fn complaint(fault: JobFault) -> &'static str
         JobFault::Hook(HookFault::Gate(Fault::Memory)) => "gate: Memory",
         JobFault::Hook(HookFault::Gate(Fault::Store)) => "gate: Store",
         JobFault::Hook(HookFault::Gate(Fault::Full)) => "gate: Full",
+        JobFault::Hook(HookFault::Gate(Fault::Foreign)) => "gate: Foreign",
         JobFault::Hook(HookFault::Read) => "gate: Read",
         JobFault::Hook(HookFault::Write) => "gate: Write",
         JobFault::Hook(HookFault::TooMuch) => "gate: TooMuch",

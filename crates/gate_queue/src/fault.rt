@@ -13,6 +13,9 @@ pub enum Fault {
     /// The batch numbers are used up.
     #[error("Full")]
     Full,
+    /// The rows of a database that was to be opened stand for no state and answers.
+    #[error("Foreign")]
+    Foreign,
 }
 
 impl From<AllocError> for Fault {

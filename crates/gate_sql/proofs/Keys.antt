@@ -61,13 +61,13 @@ across_flat P f xs [] p = across_none P xs
 across_flat P f xs (z ∷ zs) p = across_joined P xs (f z) (flat_map f zs) p.0 (across_flat P f xs zs p.1)
 
 -- items whose own keys are apart give rows whose keys are
-mapped_apart : {X Y K L : Type 0} (own : X → K) (key : Y → L) (f : X → Y) → ((x y : X) → key (f y) ≡ key (f x) → own y ≡ own x) → (xs : List X) → AreApartBy own xs → AreApartBy key (map f xs)
+pub mapped_apart : {X Y K L : Type 0} (own : X → K) (key : Y → L) (f : X → Y) → ((x y : X) → key (f y) ≡ key (f x) → own y ≡ own x) → (xs : List X) → AreApartBy own xs → AreApartBy key (map f xs)
 mapped_apart own key f back [] apart = tt
 mapped_apart own key f back (x ∷ xs) apart =
     (all_mapped (λ y. key y ≢ key (f x)) f xs (all_weaker (λ y. own y ≢ own x) (λ y. key (f y) ≢ key (f x)) (λ y other same. other (back x y same)) xs apart.0), mapped_apart own key f back xs apart.1)
 
 module _ {X K : Type 0} (key : X → K) where
-  joined_apart : (xs ys : List X) → AreApartBy key xs → AreApartBy key ys → AllAcross (λ x y. key y ≢ key x) xs ys → AreApartBy key (xs ++ ys)
+  pub joined_apart : (xs ys : List X) → AreApartBy key xs → AreApartBy key ys → AllAcross (λ x y. key y ≢ key x) xs ys → AreApartBy key (xs ++ ys)
   joined_apart [] ys p q cross = q
   joined_apart (x ∷ xs) ys p q cross = (all_joined (λ y. key y ≢ key x) xs ys p.0 cross.0, joined_apart xs ys p.1 q cross.1)
 
@@ -101,11 +101,11 @@ module _ {K X : Type 0} {R : K → K → Ordering} (total : IsTotalOrder R) wher
   entries_apart m = sorted_apart (finite.entries m) (entries_sorted m)
 
 -- what each of some rows says keeps it apart from each of others, by what those say
-across_of : {X Y : Type 0} (P : X → Y → Type 0) (Q : X → Type 0) (S : Y → Type 0) → ((x : X) (y : Y) → Q x → S y → P x y) → (xs : List X) (ys : List Y) → AllByRecursion Q xs → AllByRecursion S ys → AllAcross P xs ys
+pub across_of : {X Y : Type 0} (P : X → Y → Type 0) (Q : X → Type 0) (S : Y → Type 0) → ((x : X) (y : Y) → Q x → S y → P x y) → (xs : List X) (ys : List Y) → AllByRecursion Q xs → AllByRecursion S ys → AllAcross P xs ys
 across_of P Q S apart xs ys p q = all_weaker Q (λ x. AllByRecursion (P x) ys) (λ x own. all_weaker S (P x) (λ y other. apart x y own other) ys q) xs p
 
 -- texts of which no two are the same
-other_text : (one other : List ℕ) → bytes_eq one other ≡ false → other ≢ one
+pub other_text : (one other : List ℕ) → bytes_eq one other ≡ false → other ≢ one
 other_text one other is same = cc (is, ap (λ (x : List ℕ). bytes_eq one x) same, (bytes_eq-Decides one one).1 refl)
 
 -- items of which a test of pairs says that they are apart
@@ -126,7 +126,7 @@ places_apart : {X : Type 0} (n : ℕ) (xs : List X) → AreApartBy (λ (e : ℤ 
 places_apart n [] = tt
 places_apart n (x ∷ xs) = (places_after n (suc n) xs (omega arith), places_apart (suc n) xs)
 
-placed_apart : {X : Type 0} (n : ℕ) (xs : List X) → AreApartBy (λ (x : X). x) xs → AreApartBy (λ (e : ℤ × X). e.1) (from_place n xs)
+pub placed_apart : {X : Type 0} (n : ℕ) (xs : List X) → AreApartBy (λ (x : X). x) xs → AreApartBy (λ (e : ℤ × X). e.1) (from_place n xs)
 placed_apart n [] apart = tt
 placed_apart n (x ∷ xs) apart = (others (suc n) xs apart.0, placed_apart (suc n) xs apart.1)
   where
@@ -135,16 +135,16 @@ placed_apart n (x ∷ xs) apart = (others (suc n) xs apart.0, placed_apart (suc 
     others m (y ∷ ys) all = (all.0, others (suc m) ys all.1)
 
 -- TABLE BY TABLE
-abbrev number_at : ℕ → Row → ℤ
+abbrev pub number_at : ℕ → Row → ℤ
 number_at at columns = id_in (column columns at)
 
 whole_number : (a b : ℕ) → pos a ≡ pos b → a ≡ b
 whole_number a b same = cc same
 
-people_apart : (s : State) → AreApart forms.people (rows_of s).people
+pub people_apart : (s : State) → AreApart forms.people (rows_of s).people
 people_apart s = mapped_apart (λ (e : List ℕ × Role). e.0) (key_of forms.people) person_row (λ e o same. ap (λ (c : Row). bytes (column c 0)) same) (finite.entries s.desk.roles) (entries_apart nat_list_cmp_total s.desk.roles)
 
-changes_apart : (s : State) → AreApart forms.changes (rows_of s).changes
+pub changes_apart : (s : State) → AreApart forms.changes (rows_of s).changes
 changes_apart s =
     mapped_apart (λ (e : ℕ × Change). e.0) (key_of forms.changes) change_row (λ e o same. whole_number o.0 e.0 (ap (number_at 0) same)) (finite.entries s.desk.changes) (entries_apart nat_cmp_total s.desk.changes)
 
@@ -164,10 +164,10 @@ module _ (s : State) (fit : Fits s) where
   numbers_apart = joined_apart (λ (b : Batch). b.number) (lane.batches_of s.queue.staging) (lane.batches_of s.queue.trying) (lane_apart (lane.batches_of s.queue.staging) fit.staging_numbers) (lane_apart (lane.batches_of s.queue.trying) fit.trying_numbers)
       (lanes_apart (lane.batches_of s.queue.staging) (lane.batches_of s.queue.trying) fit.across)
 
-  batches_apart : AreApart forms.batches (rows_of s).batches
+  pub batches_apart : AreApart forms.batches (rows_of s).batches
   batches_apart = mapped_apart (λ (b : Batch). b.number) (key_of forms.batches) batch_row (λ b o same. whole_number o.number b.number (ap (number_at 0) same)) (batches_of s.queue) numbers_apart
 
-  members_apart : AreApart forms.members (rows_of s).members
+  pub members_apart : AreApart forms.members (rows_of s).members
   members_apart = flat_apart (λ (b : Batch). b.number) (key_of forms.members) members_of
       (λ b o unlike. across_of (λ r q. key_of forms.members q ≢ key_of forms.members r) (λ (r : MemberRow). r.batch ≡ pos b.number) (λ (q : MemberRow). q.batch ≡ pos o.number)
       (λ r q of_b of_o same. unlike (whole_number o.number b.number (sym of_o ∙ ap (number_at 0) same ∙ of_b))) (members_of b) (members_of o)
@@ -183,7 +183,7 @@ module _ (s : State) (fit : Fits s) where
   reports_apart (stage.Staged since commit reports) = entries_apart nat_list_cmp_total reports
   reports_apart (stage.Landing commit) = tt
 
-  statuses_apart : AreApart forms.statuses (rows_of s).statuses
+  pub statuses_apart : AreApart forms.statuses (rows_of s).statuses
   statuses_apart = flat_apart (λ (b : Batch). b.number) (key_of forms.statuses) statuses_of
       (λ b o unlike. across_of (λ r q. key_of forms.statuses q ≢ key_of forms.statuses r) (λ (r : StatusRow). r.batch ≡ pos b.number) (λ (q : StatusRow). q.batch ≡ pos o.number)
       (λ r q of_b of_o same. unlike (whole_number o.number b.number (sym of_o ∙ ap (number_at 0) same ∙ of_b))) (statuses_of b) (statuses_of o)
@@ -194,7 +194,7 @@ module _ (s : State) (fit : Fits s) where
       numbers_apart
 
 -- MARKS: apart by their words, then by their kinds, then by their changes
-abbrev mark_key : MarkRow → Row
+abbrev pub mark_key : MarkRow → Row
 mark_key = key_of forms.marks
 
 list_apart : (n : ℕ) (kind : ℤ) (words : List (List ℕ)) → AreApartBy (λ (w : List ℕ). w) words → AreApartBy mark_key (list_marks n kind words)
@@ -213,7 +213,7 @@ module _ (P : MarkRow → Type 0) (n : ℕ) (kind : ℤ) (each : (e : ℤ × Lis
   of_list : (words : List (List ℕ)) → AllByRecursion P (list_marks n kind words)
   of_list words = all_mapped P (mark n kind) (placed words) (all_of (λ e. P (mark n kind e)) each (placed words))
 
-  of_set : (words : FinSet (slice_cmp nat_cmp)) → AllByRecursion P (set_marks n kind words)
+  pub of_set : (words : FinSet (slice_cmp nat_cmp)) → AllByRecursion P (set_marks n kind words)
   of_set words = all_mapped P (λ (word : List ℕ). mark n kind (pos 0, word)) (words_of words) (all_of (λ word. P (mark n kind (pos 0, word))) (λ word. each (pos 0, word)) (words_of words))
 
 -- of each mark of a change, but for the names that passed on its head; and of all
@@ -222,7 +222,7 @@ first_marks e =
     set_marks e.0 (pos 1) e.1.labels ++ set_marks e.0 (pos 2) e.1.reviews ++ set_marks e.0 (pos 3) e.1.delegates
     ++ list_marks e.0 (pos 4) (unwrap_or e.1.approved []) ++ list_marks e.0 (pos 5) (names_of e.1.last)
 
-of_first : (P : MarkRow → Type 0) (e : ℕ × Change) → ((m : ℤ × List ℕ) → P (mark e.0 (pos 1) m)) → ((m : ℤ × List ℕ) → P (mark e.0 (pos 2) m)) → ((m : ℤ × List ℕ) → P (mark e.0 (pos 3) m))
+pub of_first : (P : MarkRow → Type 0) (e : ℕ × Change) → ((m : ℤ × List ℕ) → P (mark e.0 (pos 1) m)) → ((m : ℤ × List ℕ) → P (mark e.0 (pos 2) m)) → ((m : ℤ × List ℕ) → P (mark e.0 (pos 3) m))
     → ((m : ℤ × List ℕ) → P (mark e.0 (pos 4) m)) → ((m : ℤ × List ℕ) → P (mark e.0 (pos 5) m)) → AllByRecursion P (first_marks e)
 of_first P e one two three four five =
     all_joined P _ _ (all_joined P _ _ (all_joined P _ _ (all_joined P _ _ (of_set P e.0 (pos 1) one e.1.labels) (of_set P e.0 (pos 2) two e.1.reviews)) (of_set P e.0 (pos 3) three e.1.delegates))
@@ -234,7 +234,7 @@ of_change P e each =
 
 -- rows of one kind after rows of others, if the key tells the kind
 module _ {R : Type 0} (key : R → Row) (kind_of : R → ℤ) (told : (r q : R) → key q ≡ key r → kind_of q ≡ kind_of r) where
-  joined_kinds : (kind : ℤ) (xs ys : List R) → AreApartBy key xs → AreApartBy key ys → AllByRecursion (λ r. kind_of r ≢ kind) xs → AllByRecursion (λ q. kind_of q ≡ kind) ys → AreApartBy key (xs ++ ys)
+  pub joined_kinds : (kind : ℤ) (xs ys : List R) → AreApartBy key xs → AreApartBy key ys → AllByRecursion (λ r. kind_of r ≢ kind) xs → AllByRecursion (λ q. kind_of q ≡ kind) ys → AreApartBy key (xs ++ ys)
   joined_kinds kind xs ys p q other own = joined_apart key xs ys p q
       (across_of (λ r q. key q ≢ key r) (λ r. kind_of r ≢ kind) (λ q. kind_of q ≡ kind) (λ r q of_r of_q same. of_r (sym (told r q same) ∙ of_q)) xs ys other own)
 
@@ -298,7 +298,7 @@ each_change ready (e ∷ entries) is =
       each_change ready entries (second_so (fits_change ready change) (fit_changes ready entries) is),
     )
 
-marks_apart : (s : State) → fits s ≡ true → AreApart forms.marks (rows_of s).marks
+pub marks_apart : (s : State) → fits s ≡ true → AreApart forms.marks (rows_of s).marks
 marks_apart s is =
     let entries = finite.entries s.desk.changes in
     let desk = first_so (fits_desk s.desk) (fits_next s.queue.next) (first_so (fits_desk s.desk && fits_next s.queue.next) (fits_queue s.desk s.queue) is) in
@@ -317,7 +317,7 @@ module _ (kind : ℤ) (words : List (List ℕ)) where
   wanted_list_apart : AreApartBy wanted_key (list_wanted kind words)
   wanted_list_apart = mapped_apart (λ (e : ℤ × List ℕ). e.0) wanted_key (wanted_row kind) (λ e o same. ap (number_at 1) same) (placed words) (places_apart 0 words)
 
-  of_wanted : (P : WantedRow → Type 0) → ((e : ℤ × List ℕ) → P (wanted_row kind e)) → AllByRecursion P (list_wanted kind words)
+  pub of_wanted : (P : WantedRow → Type 0) → ((e : ℤ × List ℕ) → P (wanted_row kind e)) → AllByRecursion P (list_wanted kind words)
   of_wanted P each = all_mapped P (wanted_row kind) (placed words) (all_of (λ e. P (wanted_row kind e)) each (placed words))
 
 joined_wanted : (kind : ℤ) (xs ys : List WantedRow) → AreApartBy wanted_key xs → AreApartBy wanted_key ys → AllByRecursion (λ (r : WantedRow). r.kind ≢ kind) xs → AllByRecursion (λ (q : WantedRow). q.kind ≡ kind) ys → AreApartBy wanted_key (xs ++ ys)

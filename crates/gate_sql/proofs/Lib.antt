@@ -6,6 +6,8 @@ pub mod Canonical
 pub mod Each
 pub mod Elements
 pub mod Entries
+pub mod FirstKeys
+pub mod FirstMarks
 pub mod Holding
 pub mod KeyOrders
 pub mod Keys
@@ -16,6 +18,7 @@ pub mod NewBatches
 pub mod Noted
 pub mod Numbered
 pub mod OneState
+pub mod Opened
 pub mod Parted
 pub mod SameRows
 pub mod Scanning

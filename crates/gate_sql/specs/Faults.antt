@@ -1,4 +1,5 @@
--- What a book tells of a fault of its tables.
+-- What a book tells of a fault of its tables, and what one that is opened may tell of what it found.
+use Rattle.std.specs.Prelude.{◌≡◌, ◌⊎◌}
 use Rattle.gate_queue.specs.declared.fault.Fault.{Fault}
 use Rattle.gate_queue.specs.declared.fault.Fault.TheVariants as fault
 use Rattle.gate_tables.specs.declared.fault.TablesFault.{TablesFault}
@@ -7,3 +8,6 @@ use Rattle.gate_tables.specs.declared.fault.TablesFault.TheVariants.{Memory, Sto
 abbrev pub told_as : TablesFault → Fault
 told_as Memory = fault.Memory
 told_as Store = fault.Store
+
+abbrev pub MayRefuse : Fault → Type 0
+MayRefuse told = (told ≡ fault.Memory) ⊎ (told ≡ fault.Foreign)

@@ -5,6 +5,7 @@
 --     Changed     the rows that differ between two states, as row changes
 --     Parts       the same between a state and one of which parts were noted before
 --     Shown       what a book over the tables shows, and that its tables hold nothing besides
+--     Versions    the rows of schema version 1, and what a database of either version stands for
 -- For the code: Faults; Same, that `==` of rows is equality.
 pub mod Changed
 pub mod Decoding
@@ -14,3 +15,4 @@ pub mod Parts
 pub mod Same
 pub mod Shown
 pub mod Standing
+pub mod Versions

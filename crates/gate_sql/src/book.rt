@@ -1,14 +1,16 @@
-ghost use Rattle.std.specs.Prelude.{◌≡◌, ◌≢◌, [], None, false, IfOk, IfErr, IsErrAnd, OnOk, OnErr};
+ghost use Rattle.std.specs.Prelude.{◌≡◌, ◌≢◌, ◌⊎◌, [], None, false, IfOk, IfErr, IsErrAnd, OnOk, OnErr};
 ghost use Rattle.std.specs.FinMap.{empty};
 ghost use Rattle.std.specs.Option.{option_map};
 ghost use Rattle.std.specs.String.{string_bytes};
 ghost use Rattle.gate_queue.specs.Before.{IsBefore};
 ghost use Rattle.gate_queue.specs.Machine.{empty_state};
 ghost use Rattle.gate_tables.specs.Applied.{applied, no_rows as no_rows_at_all};
-ghost use Rattle.gate_tables.specs.Contents.{AreSame};
+ghost use Rattle.gate_tables.specs.Contents.{AreSame, answers_at};
 ghost use Rattle.gate_tables.specs.Database.{schema_of};
 ghost use Rattle.gate_sql.specs.Encoding as encoding;
-ghost use Rattle.gate_sql.specs.Shown.{shown, Holds, IsHeld};
+ghost use Rattle.gate_sql.specs.Shown.{answers_of, shown, Holds, IsHeld};
+ghost use Rattle.gate_sql.specs.Versions.{StandsFor};
+ghost use Rattle.gate_tables.specs.Schemas.{HasTables, lacks_wanted};
 ghost use Rattle.gate_tables.specs.Tables.{is_sound, rows_in, answers_in, IsBook};
 ghost use Rattle.gate_store.specs.Answers.{answer_text_of};
 ghost use Rattle.gate_store.specs.Reading.{answer_of};
@@ -18,13 +20,17 @@ ghost use Rattle.sqlite.specs.Held.{state};
 use crate::changed::{changes_since, row_changes};
 use crate::fault::told;
 use crate::laws::{
-    is_of_machine, law_of_changed_rows, law_of_keys, law_of_keys_of, law_of_rows_of,
+    is_of_machine, law_of_changed_rows, law_of_keys, law_of_keys_of, law_of_rows, law_of_rows_of,
 };
+use crate::opening::understood;
 use crate::reading::gate_of;
 use crate::rows::rows_of;
 use gate_queue::{Before, Fault, Gate};
 use gate_store::{Answer, AnswerFault, Book, answer_text, law_of_texts, read_answer};
-use gate_tables::{RowChange, Rows, Tables, TablesFault, is_blank, law_of_differences};
+use gate_tables::{
+    Found, FoundTables, RowChange, Rows, Tables, TablesFault, found_in, is_blank,
+    law_of_differences,
+};
 use gate_text::{DeliveryId, List, Text};
 use sqlite::{Alter, Connection};
 use std::alloc::{AllocError, Global};
@@ -33,7 +39,7 @@ use std::marker::Model;
 /// A connection in which no book was made, with the reason.
 #[derive(Drop)]
 pub struct Refused<S: Alter> {
-    /// `Memory` or `Store`.
+    /// `Memory` or `Store`, and of `SqlBook::open` also `Foreign`.
     pub fault: Fault,
     /// The connection, with its database as it was.
     pub connection: Connection<S>,
@@ -104,6 +110,33 @@ impl<S: Alter> SqlBook<S> {
                 fault: told(refused.fault),
                 connection: refused.connection,
             }),
+        }
+    }
+
+    /// Opens the book that a database of either schema version keeps, and brings one of version 1 to version 2, with the same state
+    /// and the same answers, in one transaction. In a database that has no table, index or view it makes one, as `new` does. If it is
+    /// refused, the database is as it was, and the connection is handed back. `Foreign` if the tables are those of a version, but
+    /// what they hold stands for no state and answers of it. `Store` if the tables, their columns, keys or indexes are others, or if
+    /// the database fails. `Memory` if there is no memory for it.
+    pub fn open(alloc: Global, connection: Connection<S>) -> Result<SqlBook<S>, Refused<S>>
+        requires { connection.in_transaction ≡ false }
+        ensures blank { (state S.Store connection).now.schema ≡ schema_of [] → IfOk result (λ book. is_sound S.Store book → shown S.Store book ≡ record { state = empty_state 1; kept = empty }) }
+        ensures state { HasTables (state S.Store connection).now → IfOk result (λ book. is_sound S.Store book → StandsFor (state S.Store connection).now (shown S.Store book).state) }
+        ensures kept { HasTables (state S.Store connection).now → IfOk result (λ book. is_sound S.Store book → (shown S.Store book).kept ≡ answers_of (answers_at (state S.Store connection).now.trees)) }
+        ensures holds { IfOk result (λ book. is_sound S.Store book → Holds S.Store book) }
+        ensures others { (state S.Store connection).now.schema ≢ schema_of [] → ¬ HasTables (state S.Store connection).now → IsErrAnd result (λ refused. IsOfBooks refused.fault) }
+        ensures same { IfErr result (λ refused. is_sound S.Store refused.connection → (state S.Store refused.connection).now ≡ (state S.Store connection).now) }
+        ensures mode { IfErr result (λ refused. refused.connection.in_transaction ≡ false) }
+        ensures fault { IfErr result (λ refused. IsOfBooks refused.fault ⊎ (refused.fault ≡ Fault.Foreign)) }
+        ensures was { IfOk result (λ book. is_sound S.Store book → is_sound S.Store connection) }
+        ensures was_refused { IfErr result (λ refused. is_sound S.Store refused.connection → is_sound S.Store connection) }
+    {
+        match found_in(alloc, connection.schema()) {
+            Ok(Found::Nothing) => SqlBook::new(alloc, connection),
+            Ok(Found::First) => adopt(alloc, connection, true),
+            Ok(Found::All) => adopt(alloc, connection, false),
+            Ok(Found::Others) => Err(refusal(Fault::Store, connection)),
+            Err(fault) => Err(refusal(told(fault), connection)),
         }
     }
 
@@ -220,6 +253,49 @@ impl<S: Alter> Book for SqlBook<S> {
         }
         Ok(())
     }
+}
+
+// The book that a database with tables of this version keeps.
+fn adopt<S: Alter>(
+    alloc: Global,
+    connection: Connection<S>,
+    first: bool,
+) -> Result<SqlBook<S>, Refused<S>>
+    requires mode { connection.in_transaction ≡ false }
+    requires tables { HasTables (state S.Store connection).now }
+    requires version { first ≡ lacks_wanted (state S.Store connection).now.schema }
+    ensures state { IfOk result (λ book. is_sound S.Store book → StandsFor (state S.Store connection).now (shown S.Store book).state) }
+    ensures kept { IfOk result (λ book. is_sound S.Store book → (shown S.Store book).kept ≡ answers_of (answers_at (state S.Store connection).now.trees)) }
+    ensures holds { IfOk result (λ book. is_sound S.Store book → Holds S.Store book) }
+    ensures same { IfErr result (λ refused. is_sound S.Store refused.connection → (state S.Store refused.connection).now ≡ (state S.Store connection).now) }
+    ensures mode { IfErr result (λ refused. refused.connection.in_transaction ≡ false) }
+    ensures fault { IfErr result (λ refused. IsOfBooks refused.fault ⊎ (refused.fault ≡ Fault.Foreign)) }
+    ensures was { IfOk result (λ book. is_sound S.Store book → is_sound S.Store connection) }
+    ensures was_refused { IfErr result (λ refused. is_sound S.Store refused.connection → is_sound S.Store connection) }
+{
+    law_of_rows();
+    let (found, contents) = match FoundTables::open(alloc, connection) {
+        Ok(found) => found,
+        Err(refused) => return Err(refusal(told(refused.fault), refused.connection)),
+    };
+    match understood(alloc, contents, first) {
+        Ok(changes) => match found.take(changes.as_slice()) {
+            Ok(tables) => {
+                tables.connection();
+                Ok(SqlBook { tables })
+            }
+            Err(refused) => Err(refusal(told(refused.fault), refused.connection)),
+        },
+        Err(fault) => Err(refusal(fault, found.into_connection())),
+    }
+}
+
+// A connection that is handed back, with the reason.
+fn refusal<S: Alter>(fault: Fault, connection: Connection<S>) -> Refused<S>
+    ensures fault { result.fault ≡ fault }
+    ensures connection { result.connection ≡ connection }
+{
+    Refused { fault, connection }
 }
 
 // The row changes that lead from no rows to those of a gate.

@@ -7,6 +7,7 @@ ghost use Rattle.gate_sql.specs.Decoding.{state_in};
 ghost use Rattle.gate_sql.specs.Encoding.{rows_of};
 ghost use Rattle.gate_sql.specs.Parts.{LawOfChangesSince, LawOfKeysSince};
 ghost use Rattle.gate_sql.specs.Standing.{KeepsLimits, LawOfKeys, LawOfRows};
+ghost use Rattle.gate_sql.specs.Versions.{LawOfFirstKeys, in_first};
 ghost use Rattle.gate_tables.specs.declared.row.Rows.{Rows};
 
 use gate_queue::Gate;
@@ -24,6 +25,13 @@ pub fn law_of_rows()
 /// told by keys.
 pub fn law_of_keys()
     ensures { LawOfKeys }
+{
+    law_of_checks();
+}
+
+/// The law of keys in version 1: in the rows of a state in that version no two rows of a table have one key, either.
+pub fn law_of_first_keys()
+    ensures { LawOfFirstKeys }
 {
     law_of_checks();
 }
@@ -77,6 +85,14 @@ pub(crate) fn law_of_keys_of(gate: &Gate)
     ensures { HaveKeys (rows_of gate.now) }
 {
     law_of_keys();
+    is_of_machine(gate);
+}
+
+/// The law of keys in version 1 for a gate: no two of its rows of a table in that version have one key.
+pub(crate) fn law_of_first_keys_of(gate: &Gate)
+    ensures { HaveKeys (in_first (rows_of gate.now)) }
+{
+    law_of_first_keys();
     is_of_machine(gate);
 }
 

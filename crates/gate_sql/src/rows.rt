@@ -44,8 +44,8 @@ pub fn rows_of(alloc: Global, gate: &Gate) -> Result<Rows, AllocError>
     })
 }
 
-// The one row of the desk, as a table.
-fn one(alloc: Global, row: DeskRow) -> Result<List<DeskRow>, AllocError>
+/// The one row of the desk, as a table.
+pub(crate) fn one(alloc: Global, row: DeskRow) -> Result<List<DeskRow>, AllocError>
     ensures { IfOk result (λ rows. rows ≡ row ∷ []) }
 {
     let mut rows = Vec::new(alloc);

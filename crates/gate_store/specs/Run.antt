@@ -9,7 +9,7 @@ use Rattle.gate_state.specs.declared.act.Act.{Act}
 use Rattle.gate_state.specs.declared.reply.Reply.{Reply}
 use Rattle.gate_queue.specs.Machine.{reply_to, after}
 use Rattle.gate_queue.specs.declared.fault.Fault.{Fault}
-use Rattle.gate_queue.specs.declared.fault.Fault.TheVariants.{Memory, Store, Full}
+use Rattle.gate_queue.specs.declared.fault.Fault.TheVariants.{Memory, Store, Full, Foreign}
 use Rattle.gate_state.specs.declared.state.State.{State}
 use Rattle.gate_store.specs.Acts.{acts_of_event}
 use Rattle.gate_store.specs.declared.delivery.Delivery.{Delivery}
@@ -80,12 +80,13 @@ abbrev pub meets_full : Records → Delivery → Bool
 meets_full records delivery = not (is_known records delivery.id) && acts_meet_full records.state (acts_in delivery)
 
 -- What is answered has met no full gate, and `Full` is answered only if one was met. So, unless memory or the records fail,
--- `Full` is answered exactly if an act meets a full gate.
+-- `Full` is answered exactly if an act meets a full gate. `Foreign` is never answered.
 abbrev pub AgreesOnFull : {X : Type 0} → Result X Fault → Bool → Type 0
 AgreesOnFull (Ok _) full = full ≡ false
 AgreesOnFull (Err Full) full = full ≡ true
 AgreesOnFull (Err Memory) full = ⊤
 AgreesOnFull (Err Store) full = ⊤
+AgreesOnFull (Err Foreign) full = ⊥
 
 -- None of the deliveries meets it, each after those before it.
 abbrev pub NoneMeetsFull : Records → List Delivery → Type 0

@@ -1,0 +1,13 @@
+use Rattle.gate_sql.proofs.Alike.{same_then}
+use Rattle.gate_sql.specs.Encoding.{rows_of}
+use Rattle.gate_sql.specs.Versions.{in_first}
+use Rattle.gate_sql.proofs.opening.first_understood.Goals as goal
+
+pub returns-in_ok-changes-in-Ok-clause-rows : goal.returns-in_ok-changes-in-Ok-clause-rows
+returns-in_ok-changes-in-Ok-clause-rows c = record {
+  s = c.in-Ok.gate;
+  state = c.is_of_machine.ensures.state;
+  limits = c.is_of_machine.ensures.limits;
+  rows_are = c.in-Ok.ensures.rows;
+  leads = λ others same. c.in_ok-changes-in-Ok.ensures others (same_then others c.args.rows (in_first (rows_of c.in-Ok.gate)) same c.in-Ok.ensures.rows);
+}

@@ -1,0 +1,61 @@
+-- THE ROWS OF BOTH SCHEMA VERSIONS. In version 1 the lists of the settings stand among the marks, of no change.
+use Rattle.std.specs.Prelude.{◌≡◌, ℕ, ℤ, pos, Bool, List, [], ◌++◌, map, if◌then◌else◌}
+use Rattle.std.specs.List.{AllByRecursion}
+use Rattle.std.specs.Ordering.{int_eq}
+use Rattle.gate_state.specs.State.{IsState}
+use Rattle.gate_state.specs.declared.state.State.{State}
+use Rattle.gate_store.specs.Answers.{answer_text_of}
+use Rattle.gate_store.specs.Reading.{answer_of}
+use Rattle.gate_sql.specs.Encoding.{rows_of}
+use Rattle.gate_sql.specs.Standing.{KeepsLimits}
+use Rattle.gate_tables.specs.Applied.{applied}
+use Rattle.gate_tables.specs.Contents.{AreSame}
+use Rattle.gate_tables.specs.Differences.{HaveKeys}
+use Rattle.gate_tables.specs.Schemas.{lacks_wanted, stored_rows}
+use Rattle.gate_tables.specs.declared.change.RowChange.{RowChange}
+use Rattle.gate_tables.specs.declared.row.DeskRow.{DeskRow}
+use Rattle.gate_tables.specs.declared.row.MarkRow.{MarkRow}
+use Rattle.gate_tables.specs.declared.row.Rows.{Rows}
+use Rattle.gate_tables.specs.declared.row.WantedRow.{WantedRow}
+use Rattle.sqlite.specs.Effect.{Database}
+
+-- required statuses, blocking labels, statuses of the head
+abbrev pub first_kind : ℤ → ℤ
+first_kind kind = if int_eq kind (pos 1) then pos 6 else (if int_eq kind (pos 2) then pos 7 else pos 9)
+
+abbrev pub as_mark : WantedRow → MarkRow
+as_mark row = record { change_no = pos 0; kind = first_kind row.kind; word = row.word; place = row.place }
+
+abbrev pub with_version : ℤ → DeskRow → DeskRow
+with_version version row = record row { version = version }
+
+-- the rows of version 1 that stand for what rows of version 2 stand for
+abbrev pub in_first : Rows → Rows
+in_first rows = record rows {
+  desk = map (with_version (pos 1)) rows.desk;
+  marks = rows.marks ++ map as_mark rows.wanted;
+  wanted = [];
+}
+
+-- In the rows of a state in version 1 no two rows of a table have one key, either.
+abbrev pub LawOfFirstKeys : Type 0
+LawOfFirstKeys = (s : State) → IsState s → KeepsLimits s.desk → HaveKeys (in_first (rows_of s))
+
+-- WHAT A DATABASE OF EITHER VERSION STANDS FOR
+abbrev pub rows_as : Bool → Rows → Rows
+rows_as first rows = if first then in_first rows else rows
+
+abbrev pub StandsFor : Database → State → Type 0
+StandsFor db s = AreSame (stored_rows db) (rows_as (lacks_wanted db.schema) (rows_of s))
+
+-- texts of answers, each under its identifier
+abbrev pub AreAnswerTexts : List (List ℕ × List ℕ) → Type 0
+AreAnswerTexts entries = AllByRecursion (λ entry. entry.1 ≡ answer_text_of (answer_of entry.1)) entries
+
+-- For private clauses: rows stand for a state, and row changes lead from them to its rows in version 2.
+pub record Understands (first : Bool) (rows : Rows) (changes : List RowChange) : Type 0 where
+  pub s : State
+  pub state : IsState s
+  pub limits : KeepsLimits s.desk
+  pub rows_are : AreSame rows (rows_as first (rows_of s))
+  pub leads : (others : Rows) → AreSame others rows → AreSame (applied changes others) (rows_of s)
