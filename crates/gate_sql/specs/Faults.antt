@@ -2,6 +2,7 @@
 use Rattle.std.specs.Prelude.{◌≡◌, ◌⊎◌}
 use Rattle.gate_queue.specs.declared.fault.Fault.{Fault}
 use Rattle.gate_queue.specs.declared.fault.Fault.TheVariants as fault
+use Rattle.gate_store.specs.Run.{IsOfBooks}
 use Rattle.gate_tables.specs.declared.fault.TablesFault.{TablesFault}
 use Rattle.gate_tables.specs.declared.fault.TablesFault.TheVariants.{Memory, Store}
 
@@ -10,4 +11,4 @@ told_as Memory = fault.Memory
 told_as Store = fault.Store
 
 abbrev pub MayRefuse : Fault → Type 0
-MayRefuse told = (told ≡ fault.Memory) ⊎ (told ≡ fault.Foreign)
+MayRefuse told = IsOfBooks told ⊎ (told ≡ fault.Foreign)

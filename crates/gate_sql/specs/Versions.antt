@@ -1,16 +1,20 @@
 -- THE ROWS OF BOTH SCHEMA VERSIONS. In version 1 the lists of the settings stand among the marks, of no change.
-use Rattle.std.specs.Prelude.{◌≡◌, ℕ, ℤ, pos, Bool, List, [], ◌++◌, map, if◌then◌else◌}
+use Rattle.std.specs.Prelude.{◌≡◌, IsOk, ℕ, ℤ, pos, Bool, List, [], ◌++◌, map, if◌then◌else◌}
 use Rattle.std.specs.List.{AllByRecursion}
 use Rattle.std.specs.Ordering.{int_eq}
+use Rattle.gate_text.specs.SmallTexts.{delivery_id_of}
 use Rattle.gate_state.specs.State.{IsState}
 use Rattle.gate_state.specs.declared.state.State.{State}
 use Rattle.gate_store.specs.Answers.{answer_text_of}
 use Rattle.gate_store.specs.Reading.{answer_of}
+use Rattle.gate_store.specs.Run.{Records}
 use Rattle.gate_sql.specs.Encoding.{rows_of}
+use Rattle.gate_sql.specs.Shown.{AreTextsOf}
 use Rattle.gate_sql.specs.Standing.{KeepsLimits}
 use Rattle.gate_tables.specs.Applied.{applied}
-use Rattle.gate_tables.specs.Contents.{AreSame}
+use Rattle.gate_tables.specs.Contents.{AreSame, answers_at}
 use Rattle.gate_tables.specs.Differences.{HaveKeys}
+use Rattle.gate_tables.specs.Forms as forms
 use Rattle.gate_tables.specs.Schemas.{lacks_wanted, stored_rows}
 use Rattle.gate_tables.specs.declared.change.RowChange.{RowChange}
 use Rattle.gate_tables.specs.declared.row.DeskRow.{DeskRow}
@@ -37,22 +41,30 @@ in_first rows = record rows {
   wanted = [];
 }
 
--- In the rows of a state in version 1 no two rows of a table have one key, either.
+-- In the rows of a state in version 1 no two rows of a table have one key.
 abbrev pub LawOfFirstKeys : Type 0
 LawOfFirstKeys = (s : State) → IsState s → KeepsLimits s.desk → HaveKeys (in_first (rows_of s))
 
--- WHAT A DATABASE OF EITHER VERSION STANDS FOR
+-- WHAT A DATABASE OF EITHER VERSION STANDS FOR: a state of the machine, of which it has the rows, and answers under identifiers, of
+-- which it has the texts
 abbrev pub rows_as : Bool → Rows → Rows
 rows_as first rows = if first then in_first rows else rows
 
-abbrev pub StandsFor : Database → State → Type 0
-StandsFor db s = AreSame (stored_rows db) (rows_as (lacks_wanted db.schema) (rows_of s))
+pub record StandsFor (db : Database) (records : Records) : Type 0 where
+  pub state : IsState records.state
+  pub limits : KeepsLimits records.state.desk
+  pub rows_are : AreSame (stored_rows db) (rows_as (lacks_wanted db.schema) (rows_of records.state))
+  pub identified : AllByRecursion (λ entry. IsOk (delivery_id_of entry.0)) (forms.rows_of forms.answers db.trees)
+  pub texts_are : AreTextsOf records.kept (answers_at db.trees)
 
--- texts of answers, each under its identifier
-abbrev pub AreAnswerTexts : List (List ℕ × List ℕ) → Type 0
-AreAnswerTexts entries = AllByRecursion (λ entry. entry.1 ≡ answer_text_of (answer_of entry.1)) entries
+-- For private clauses: texts of answers under identifiers of deliveries.
+abbrev pub IsKeptAnswer : List ℕ × List ℕ → Type 0
+IsKeptAnswer entry = IsOk (delivery_id_of entry.0) × (entry.1 ≡ answer_text_of (answer_of entry.1))
 
--- For private clauses: rows stand for a state, and row changes lead from them to its rows in version 2.
+abbrev pub AreKeptAnswers : List (List ℕ × List ℕ) → Type 0
+AreKeptAnswers entries = AllByRecursion IsKeptAnswer entries
+
+-- and rows that stand for a state, with row changes that lead from them to its rows in version 2
 pub record Understands (first : Bool) (rows : Rows) (changes : List RowChange) : Type 0 where
   pub s : State
   pub state : IsState s

@@ -5,10 +5,11 @@ ghost use Rattle.std.specs.String.{string_bytes};
 ghost use Rattle.gate_queue.specs.Before.{IsBefore};
 ghost use Rattle.gate_queue.specs.Machine.{empty_state};
 ghost use Rattle.gate_tables.specs.Applied.{applied, no_rows as no_rows_at_all};
-ghost use Rattle.gate_tables.specs.Contents.{AreSame, answers_at};
+ghost use Rattle.gate_tables.specs.Contents.{AreSame};
 ghost use Rattle.gate_tables.specs.Database.{schema_of};
 ghost use Rattle.gate_sql.specs.Encoding as encoding;
-ghost use Rattle.gate_sql.specs.Shown.{answers_of, shown, Holds, IsHeld};
+ghost use Rattle.gate_sql.specs.Faults.{MayRefuse};
+ghost use Rattle.gate_sql.specs.Shown.{shown, Holds, IsHeld};
 ghost use Rattle.gate_sql.specs.Versions.{StandsFor};
 ghost use Rattle.gate_tables.specs.Schemas.{HasTables, lacks_wanted};
 ghost use Rattle.gate_tables.specs.Tables.{is_sound, rows_in, answers_in, IsBook};
@@ -121,13 +122,12 @@ impl<S: Alter> SqlBook<S> {
     pub fn open(alloc: Global, connection: Connection<S>) -> Result<SqlBook<S>, Refused<S>>
         requires { connection.in_transaction ≡ false }
         ensures blank { (state S.Store connection).now.schema ≡ schema_of [] → IfOk result (λ book. is_sound S.Store book → shown S.Store book ≡ record { state = empty_state 1; kept = empty }) }
-        ensures state { HasTables (state S.Store connection).now → IfOk result (λ book. is_sound S.Store book → StandsFor (state S.Store connection).now (shown S.Store book).state) }
-        ensures kept { HasTables (state S.Store connection).now → IfOk result (λ book. is_sound S.Store book → (shown S.Store book).kept ≡ answers_of (answers_at (state S.Store connection).now.trees)) }
+        ensures stands { HasTables (state S.Store connection).now → IfOk result (λ book. is_sound S.Store book → StandsFor (state S.Store connection).now (shown S.Store book)) }
         ensures holds { IfOk result (λ book. is_sound S.Store book → Holds S.Store book) }
         ensures others { (state S.Store connection).now.schema ≢ schema_of [] → ¬ HasTables (state S.Store connection).now → IsErrAnd result (λ refused. IsOfBooks refused.fault) }
         ensures same { IfErr result (λ refused. is_sound S.Store refused.connection → (state S.Store refused.connection).now ≡ (state S.Store connection).now) }
         ensures mode { IfErr result (λ refused. refused.connection.in_transaction ≡ false) }
-        ensures fault { IfErr result (λ refused. IsOfBooks refused.fault ⊎ (refused.fault ≡ Fault.Foreign)) }
+        ensures fault { IfErr result (λ refused. IsOfBooks refused.fault ⊎ ((refused.fault ≡ Fault.Foreign) × HasTables (state S.Store connection).now)) }
         ensures was { IfOk result (λ book. is_sound S.Store book → is_sound S.Store connection) }
         ensures was_refused { IfErr result (λ refused. is_sound S.Store refused.connection → is_sound S.Store connection) }
     {
@@ -264,12 +264,11 @@ fn adopt<S: Alter>(
     requires mode { connection.in_transaction ≡ false }
     requires tables { HasTables (state S.Store connection).now }
     requires version { first ≡ lacks_wanted (state S.Store connection).now.schema }
-    ensures state { IfOk result (λ book. is_sound S.Store book → StandsFor (state S.Store connection).now (shown S.Store book).state) }
-    ensures kept { IfOk result (λ book. is_sound S.Store book → (shown S.Store book).kept ≡ answers_of (answers_at (state S.Store connection).now.trees)) }
+    ensures stands { IfOk result (λ book. is_sound S.Store book → StandsFor (state S.Store connection).now (shown S.Store book)) }
     ensures holds { IfOk result (λ book. is_sound S.Store book → Holds S.Store book) }
     ensures same { IfErr result (λ refused. is_sound S.Store refused.connection → (state S.Store refused.connection).now ≡ (state S.Store connection).now) }
     ensures mode { IfErr result (λ refused. refused.connection.in_transaction ≡ false) }
-    ensures fault { IfErr result (λ refused. IsOfBooks refused.fault ⊎ (refused.fault ≡ Fault.Foreign)) }
+    ensures fault { IfErr result (λ refused. MayRefuse refused.fault) }
     ensures was { IfOk result (λ book. is_sound S.Store book → is_sound S.Store connection) }
     ensures was_refused { IfErr result (λ refused. is_sound S.Store refused.connection → is_sound S.Store connection) }
 {

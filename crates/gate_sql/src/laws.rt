@@ -29,7 +29,8 @@ pub fn law_of_keys()
     law_of_checks();
 }
 
-/// The law of keys in version 1: in the rows of a state in that version no two rows of a table have one key, either.
+/// The law of keys in version 1: if the settings of a state keep their limits, no two of its rows of a table in that version have
+/// one key.
 pub fn law_of_first_keys()
     ensures { LawOfFirstKeys }
 {

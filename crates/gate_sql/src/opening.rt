@@ -1,8 +1,9 @@
-ghost use Rattle.std.specs.Prelude.{◌≡◌, IfOk, IfErr, IsTrue, OnOk, true, false};
+ghost use Rattle.std.specs.Prelude.{◌≡◌, IfOk, IfErr, IsOk, IsTrue, OnOk, true, false};
+ghost use Rattle.gate_text.specs.SmallTexts.{delivery_id_of};
 ghost use Rattle.gate_sql.specs.Encoding as encoding;
 ghost use Rattle.gate_sql.specs.Faults.{MayRefuse};
 ghost use Rattle.gate_sql.specs.Versions as versions;
-ghost use Rattle.gate_sql.specs.Versions.{AreAnswerTexts, Understands};
+ghost use Rattle.gate_sql.specs.Versions.{AreKeptAnswers, IsKeptAnswer, Understands};
 ghost use Rattle.gate_store.specs.Answers.{answer_text_of};
 ghost use Rattle.gate_store.specs.Reading.{answer_of};
 ghost use Rattle.gate_store.specs.Run.{IsOfBooks};
@@ -13,25 +14,26 @@ ghost use Rattle.gate_tables.specs.declared.row.Rows.{Rows as RowsOf};
 use crate::changed::row_changes;
 use crate::fault::told;
 use crate::first_rows::in_first;
-use crate::laws::{is_of_machine, law_of_first_keys_of, law_of_keys_of, law_of_rows_of};
+use crate::laws::{is_of_machine, law_of_first_keys_of, law_of_keys_of};
 use crate::reading::gate_of;
 use crate::rows::rows_of;
 use crate::upgrading::upgraded;
 use gate_queue::{Fault, Gate};
 use gate_store::{AnswerFault, answer_text, read_answer};
-use gate_tables::{Contents, RowChange, Rows, TablesFault, law_of_differences};
-use gate_text::Text;
+use gate_tables::{Contents, DeskRow, RowChange, Rows, law_of_differences};
+use gate_text::{DeliveryId, Text, TextFault};
 use std::alloc::{AllocError, Global};
 
 /// The row changes that bring what tables hold to the rows in version 2 of the state for which it stands. `Foreign` if it stands
-/// for no state and answers, and `Memory` if there is no memory for them.
+/// for no state and answers, `Store` if it is of version 2 and the table is missing that version 1 hasn't, and `Memory` if there is
+/// no memory for them.
 pub(crate) fn understood(
     alloc: Global,
     contents: Contents,
     first: bool,
 ) -> Result<Vec<RowChange>, Fault>
     ensures rows { IfOk result (λ changes. Understands first contents.rows changes.items) }
-    ensures texts { OnOk result (AreAnswerTexts contents.answers) }
+    ensures texts { OnOk result (AreKeptAnswers contents.answers) }
     ensures fault { IfErr result MayRefuse }
 {
     let Contents { rows, answers } = contents;
@@ -77,6 +79,11 @@ fn first_understood(alloc: Global, rows: Rows) -> Result<Vec<RowChange>, Fault>
     ensures rows { IfOk result (λ changes. Understands true rows changes.items) }
     ensures fault { IfErr result MayRefuse }
 {
+    // Version 2 has one table more, so a table is missing.
+    if is_of_second(rows.desk.as_slice()) {
+        drop(rows);
+        return Err(Fault::Store);
+    }
     match first_gate(alloc, rows) {
         Ok(gate) => {
             is_of_machine(&gate);
@@ -85,6 +92,13 @@ fn first_understood(alloc: Global, rows: Rows) -> Result<Vec<RowChange>, Fault>
             Ok(changes?)
         }
         Err(fault) => Err(foreign(fault)),
+    }
+}
+
+fn is_of_second(desk: &[DeskRow]) -> bool {
+    match desk.first() {
+        Some(row) => row.version == 2,
+        None => false,
     }
 }
 
@@ -110,17 +124,33 @@ fn upgrade(alloc: Global, gate: &Gate) -> Result<Vec<RowChange>, AllocError>
     row_changes(alloc, first, rows_of(alloc, gate)?)
 }
 
-// Refuses texts with `Foreign`, unless each is that of an answer.
+// Refuses answers with `Foreign`, unless each stands under an identifier, and is the text of an answer.
 fn check_answers(alloc: Global, answers: &[(Text, Text)]) -> Result<(), Fault>
-    ensures texts { OnOk result (AreAnswerTexts answers.now) }
+    ensures texts { OnOk result (AreKeptAnswers answers.now) }
     ensures fault { IfErr result MayRefuse }
 {
     for answer in answers {
-        if !is_answer_text(alloc, answer.1.as_str())? {
+        if !is_kept(alloc, answer.0.as_str(), answer.1.as_str())? {
             return Err(Fault::Foreign);
         }
     }
     Ok(())
+}
+
+fn is_kept(alloc: Global, id: &str, body: &str) -> Result<bool, AllocError>
+    ensures { IfOk result (λ is. IsTrue is → IsKeptAnswer (id.now, body.now)) }
+{
+    Ok(is_identifier(alloc, id)? && is_answer_text(alloc, body)?)
+}
+
+fn is_identifier(alloc: Global, text: &str) -> Result<bool, AllocError>
+    ensures { IfOk result (λ is. IsTrue is → IsOk (delivery_id_of text.now)) }
+{
+    match DeliveryId::read(alloc, text) {
+        Ok(_) => Ok(true),
+        Err(TextFault::Memory) => Err(AllocError),
+        Err(_) => Ok(false),
+    }
 }
 
 // Whether a text is that of the answer that is read of it.

@@ -22,8 +22,8 @@ all g c sound =
 pub invariant_of-result : goal.invariant_of-result
 invariant_of-result g c sound = (all g c sound).held
 
-pub returns-in-Ok-take-clause-state : goal.returns-in-Ok-take-clause-state
-returns-in-Ok-take-clause-state g c sound = (all g c.before sound).stands
+pub returns-in-Ok-take-clause-stands : goal.returns-in-Ok-take-clause-stands
+returns-in-Ok-take-clause-stands g c sound = (all g c.before sound).stands
 
 pub returns-in-Ok-take-clause-holds : goal.returns-in-Ok-take-clause-holds
 returns-in-Ok-take-clause-holds g c sound = holds_of g.S.Store c.in-Ok-take.tables (c.connection.ensures.book sound) (all g c.before sound).held
