@@ -25,8 +25,8 @@ use gate_text::{DeliveryId, Text, TextFault};
 use std::alloc::{AllocError, Global};
 
 /// The row changes that bring what tables hold to the rows in version 2 of the state for which it stands. `Foreign` if it stands
-/// for no state and answers, `Store` if it is of version 2 and the table is missing that version 1 hasn't, and `Memory` if there is
-/// no memory for them.
+/// for no state and answers. `Store` if the tables are those of version 1 and hold version 2, so that one is missing. `Memory` if
+/// there is no memory for them.
 pub(crate) fn understood(
     alloc: Global,
     contents: Contents,
@@ -79,7 +79,7 @@ fn first_understood(alloc: Global, rows: Rows) -> Result<Vec<RowChange>, Fault>
     ensures rows { IfOk result (λ changes. Understands true rows changes.items) }
     ensures fault { IfErr result MayRefuse }
 {
-    // Version 2 has one table more, so a table is missing.
+    // Version 2 has a table more.
     if is_of_second(rows.desk.as_slice()) {
         drop(rows);
         return Err(Fault::Store);

@@ -10,7 +10,7 @@ use Rattle.gate_tables.specs.Effects.{Brings, Changes, Completes, IsBegun, IsIns
 use Rattle.gate_tables.specs.Forms as forms
 use Rattle.gate_tables.specs.Forms.{Form}
 use Rattle.gate_tables.specs.Kept.{AreKept, IsKept}
-use Rattle.gate_tables.specs.Schemas.{first_schema, lacks_wanted, stored_rows}
+use Rattle.gate_tables.specs.Schemas.{first_schema, lacks_wanted, schema_of_version, stored_rows}
 use Rattle.gate_tables.specs.declared.change.RowChange.{RowChange}
 use Rattle.gate_tables.specs.declared.row.Rows.{Rows}
 use Rattle.sqlite.specs.Effect.{Database}
@@ -21,24 +21,21 @@ use Rattle.sqlite.specs.Tree.{Trees}
 use Rattle.sqlite_schema.specs.Rules.{Keeps}
 use Rattle.sqlite_schema.specs.declared.schema.Constraint.TheVariants.{Unique}
 
-abbrev version : Bool → Schema
-version missing = if missing then first_schema else all_schema
-
 module _ (old new : Trees) where
   abbrev AreTheSame : Bool → Type 0
-  AreTheSame missing = AllByRecursion (λ t. new t.tree ≡ old t.tree) (version missing).tables
+  AreTheSame missing = AllByRecursion (λ t. new t.tree ≡ old t.tree) (schema_of_version missing).tables
 
   none_kept : new database.wanted.tree ≡ [] → IsKept (table_of database.wanted) (new database.wanted.tree)
   none_kept none = subst (IsKept (table_of database.wanted)) (sym none) (record { rowids = refl; own = tt; whole = refl })
 
-  tables_kept : (missing : Bool) → AreTheSame missing → (IsTrue missing → new database.wanted.tree ≡ []) → AllByRecursion (λ t. IsKept t (old t.tree)) (version missing).tables
+  tables_kept : (missing : Bool) → AreTheSame missing → (IsTrue missing → new database.wanted.tree ≡ []) → AllByRecursion (λ t. IsKept t (old t.tree)) (schema_of_version missing).tables
       → AllByRecursion (λ t. IsKept t (new t.tree)) all_schema.tables
   tables_kept true same none kept =
       let k = same_kept old new first_schema.tables same kept in
       (k.0, (k.1.0, (k.1.1.0, (k.1.1.1.0, (k.1.1.1.1.0, (k.1.1.1.1.1.0, (k.1.1.1.1.1.1.0, (k.1.1.1.1.1.1.1.0, (none_kept (none refl), tt)))))))))
   tables_kept false same none kept = same_kept old new all_schema.tables same kept
 
-  pub completed_kept : (schema : Schema) (missing : Bool) → schema ≡ version missing → AreTheSame missing → (IsTrue missing → new database.wanted.tree ≡ []) → AreKept schema old
+  pub completed_kept : (schema : Schema) (missing : Bool) → schema ≡ schema_of_version missing → AreTheSame missing → (IsTrue missing → new database.wanted.tree ≡ []) → AreKept schema old
       → Keeps Unique all_schema new → AreKept all_schema new
   completed_kept schema missing is same none kept unique =
       record { tables = tables_kept missing same none (subst (λ (s : Schema). AllByRecursion (λ t. IsKept t (old t.tree)) s.tables) is kept.tables); unique = unique }

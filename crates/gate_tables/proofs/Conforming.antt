@@ -2,7 +2,7 @@
 use Rattle.std.proofs.Common.{◌≡◌, ◌+◌, ℕ, zero, suc, Bool, true, false, not, ◌&&◌, ◌||◌, cond, List, [], ◌∷◌, map, drop, Option, refl, sym, ap, subst, ◌∙◌}
 use native.Mathlib.Omega.{arith}
 use Rattle.std.specs.List.{AllByRecursion, list_all}
-use Rattle.std.proofs.lemmas.Bool.{and_from, and_parts}
+use Rattle.std.proofs.lemmas.Bool.{and_from, and_parts, not-true}
 use Rattle.gate_tables.specs.Database.{columns_in, places_from}
 use Rattle.gate_tables.specs.Kept.{HaveOwn, IsKept, is_integer, is_of_kind, is_text, is_whole}
 use Rattle.sqlite.specs.Kind.{Kind}
@@ -71,10 +71,6 @@ key_integer true t h = refl
 key_integer false true h = h
 key_integer false false h = h
 
-not_false : (b : Bool) → not b ≡ true → b ≡ false
-not_false true h = sym h
-not_false false h = refl
-
 null_suits : (c : Column) (k : Bool) → c.is_strict ≡ true → cond k (is_null Null) (suits c Null) ≡ true
 null_suits c true strict = refl
 null_suits c false strict = ap (λ (b : Bool). cond b true (has_affinity c.kind Null)) strict
@@ -87,7 +83,7 @@ module _ (t : Table) (row : Row) (int : is_int (rowid row) ≡ true) where
   one_column c false n v strict filled kinds is typed present =
       let fits : is_of c.kind v ≡ true = ap (λ (b : Bool). cond b (is_of c.kind v) (has_affinity c.kind v)) (sym strict) ∙ typed in
       let some : not (is_null (column row n)) ≡ true = ap (λ (b : Bool). not b || not (is_null (column row n))) (sym filled) ∙ present in
-      suited c.kind (column row n) (either_kind _ _ false kinds) (ap (is_of c.kind) is ∙ fits) (not_false _ some)
+      suited c.kind (column row n) (either_kind _ _ false kinds) (ap (is_of c.kind) is ∙ fits) (not-true _ some)
 
   -- a column, and those behind it
   column_and : (at : ℕ) (c : Column) (cs : List Column) (v : Value) → column row (suc at) ≡ v → are_strict t.key at (c ∷ cs) ≡ true

@@ -1,5 +1,5 @@
 -- No two answers have the same identifier: the table has an index of it, and a database of these tables keeps that unique.
-use Rattle.std.proofs.Common.{◌≡◌, ◌≢◌, ℕ, List, [], ◌∷◌, map, Bool, if◌then◌else◌, true, false, not, ◌&&◌, refl, sym, ap, subst, ◌∙◌}
+use Rattle.std.proofs.Common.{◌≡◌, ◌≢◌, ℕ, List, [], ◌∷◌, map, Bool, true, false, not, ◌&&◌, refl, sym, ap, subst, ◌∙◌}
 use Rattle.std.specs.List.{AllByRecursion, IsDistinct, list_all}
 use Rattle.std.specs.Ordering.{is_eq, is_ne}
 use Rattle.std.specs.declared.cmp.Ordering.{Ordering}
@@ -10,10 +10,10 @@ use Rattle.gate_tables.proofs.Taking.{tied_ints}
 use Rattle.gate_tables.proofs.Testing.{truth_of}
 use Rattle.gate_tables.specs.Apart.{AreApartBy}
 use Rattle.gate_tables.specs.Casts.{each, text_again}
-use Rattle.gate_tables.specs.Database.{all_schema, columns_of, table_of}
+use Rattle.gate_tables.specs.Database.{columns_of, table_of}
 use Rattle.gate_tables.specs.Forms.{answers}
 use Rattle.gate_tables.specs.Kept.{AreKept, IsKept, is_whole}
-use Rattle.gate_tables.specs.Schemas.{first_schema}
+use Rattle.gate_tables.specs.Schemas.{schema_of_version}
 use Rattle.gate_tables.specs.Tables.{AreAnswers}
 use Rattle.sqlite.specs.Collation.TheVariants.{Binary}
 use Rattle.sqlite.specs.Edit.{have_rowids}
@@ -34,13 +34,13 @@ abbrev AreUnique : List Row → List Row → Type 0
 AreUnique rows some = AllByRecursion (λ row. not (clashes plain (1 ∷ []) rows row) && true ≡ true) some
 
 -- it is the eighth table of both
-held : (schema : Schema) (db : Trees) → (missing : Bool) → schema ≡ (if missing then first_schema else all_schema) → AreKept schema db → IsKept (table_of answers.layout) (db 11) × AreUnique (db 11) (db 11)
+held : (schema : Schema) (db : Trees) → (missing : Bool) → schema ≡ schema_of_version missing → AreKept schema db → IsKept (table_of answers.layout) (db 11) × AreUnique (db 11) (db 11)
 held schema db true is kept = let first = subst (λ s. AreKept s db) is kept in (first.tables.1.1.1.1.1.1.1.0, first.unique.1.1.1.1.1.1.1.0)
 held schema db false is kept = let all = subst (λ s. AreKept s db) is kept in (all.tables.1.1.1.1.1.1.1.0, all.unique.1.1.1.1.1.1.1.0)
 
 -- WHOLE ROWS: what is read of one is all of it
-again : (row : Row) → is_whole answers.layout.columns (columns_of answers.layout row) ≡ true → answers.values (answers.read (columns_of answers.layout row)) ≡ columns_of answers.layout row
-again row whole = let kinds = each answers.layout.columns (columns_of answers.layout row) whole in λ i. text_again (column row 1) kinds.0 i ∷ text_again (column row 2) kinds.1.0 i ∷ []
+again : (cells : Row) → is_whole answers.layout.columns (columns_of answers.layout cells) ≡ true → answers.values (answers.read (columns_of answers.layout cells)) ≡ columns_of answers.layout cells
+again cells whole = let kinds = each answers.layout.columns (columns_of answers.layout cells) whole in λ i. text_again (column cells 1) kinds.0 i ∷ text_again (column cells 2) kinds.1.0 i ∷ []
 
 all_again : (rows : List Row) → list_all (λ row. is_whole answers.layout.columns (columns_of answers.layout row)) rows ≡ true → AreWhole rows
 all_again [] whole = tt
@@ -111,7 +111,7 @@ all_apart (r ∷ rs) whole ints own free =
     (apart_from r rs (first_text r whole.0) both.0 whole.1 both.1 own.0 parts.0, all_apart rs whole.1 both.1 own.1 parts.1)
 
 -- a database of these tables has answers that are apart
-pub answers_apart : (schema : Schema) (db : Trees) → (missing : Bool) → schema ≡ (if missing then first_schema else all_schema) → AreKept schema db → AreAnswers db
+pub answers_apart : (schema : Schema) (db : Trees) → (missing : Bool) → schema ≡ schema_of_version missing → AreKept schema db → AreAnswers db
 answers_apart schema db missing is kept =
     let table = held schema db missing is kept in
     let whole = all_again (db 11) table.0.whole in

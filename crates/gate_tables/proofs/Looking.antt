@@ -9,7 +9,7 @@ use Rattle.gate_tables.specs.Effects.{IsBegun, Reads, ReadsContents, ShowsAll}
 use Rattle.gate_tables.specs.Forms as forms
 use Rattle.gate_tables.specs.Forms.{Form, rows_of}
 use Rattle.gate_tables.specs.Kept.{HaveOwn}
-use Rattle.gate_tables.specs.Schemas.{HasTables, first_schema, lacks_wanted, stored_rows}
+use Rattle.gate_tables.specs.Schemas.{HasTables, first_schema, lacks_wanted, schema_of_version, stored_rows}
 use Rattle.gate_tables.specs.declared.look.Contents.{Contents}
 use Rattle.gate_tables.specs.declared.row.WantedRow.{WantedRow}
 use Rattle.sqlite.specs.Effect.{IsDatabase}
@@ -23,7 +23,7 @@ use Rattle.sqlite.specs.Tree.{Trees}
 use Rattle.sqlite_schema.specs.declared.schema.Constraint.TheVariants.{Datatype, NotNull, Unique}
 
 -- the columns of these tables are strict
-strict : (missing : Bool) → AllByRecursion (λ t. are_strict t.key 0 t.columns ≡ true) (if missing then first_schema else all_schema).tables
+strict : (missing : Bool) → AllByRecursion (λ t. are_strict t.key 0 t.columns ≡ true) (schema_of_version missing).tables
 strict true = (refl, (refl, (refl, (refl, (refl, (refl, (refl, (refl, tt))))))))
 strict false = (refl, (refl, (refl, (refl, (refl, (refl, (refl, (refl, (refl, tt)))))))))
 
@@ -32,7 +32,7 @@ own_same : (old new : Trees) (tables : List Table) → AllByRecursion (λ t. new
 own_same old new [] same own = tt
 own_same old new (t ∷ ts) same own = (subst (HaveOwn 0) same.0 own.0, own_same old new ts same.1 own.1)
 
-own_read : (db : Trees) (contents : Contents) → ReadsContents db contents → (missing : Bool) → AllByRecursion (λ t. HaveOwn 0 (db t.tree)) (if missing then first_schema else all_schema).tables
+own_read : (db : Trees) (contents : Contents) → ReadsContents db contents → (missing : Bool) → AllByRecursion (λ t. HaveOwn 0 (db t.tree)) (schema_of_version missing).tables
 own_read db contents reads true =
     let first = reads.rows.first in
     let last = reads.rows.last in
@@ -72,13 +72,13 @@ module _ (old new : Trees) (contents : Contents) (reads : ReadsContents new cont
   }
 
   -- by the version, whose tables are the same in both
-  rows_by : (schema : Schema) (missing : Bool) → lacks_wanted schema ≡ missing → AllByRecursion (λ t. new t.tree ≡ old t.tree) (if missing then first_schema else all_schema).tables
+  rows_by : (schema : Schema) (missing : Bool) → lacks_wanted schema ≡ missing → AllByRecursion (λ t. new t.tree ≡ old t.tree) (schema_of_version missing).tables
       → (IsTrue missing → new database.wanted.tree ≡ []) → AreSame (stored_rows (record { schema = schema; trees = old })) contents.rows
   rows_by schema true lacks same none = subst (λ (b : Bool). AreSame (if b then record (rows_at old) { wanted = [] } else rows_at old) contents.rows) (sym lacks) (first_rows same (none refl))
   rows_by schema false lacks same none = subst (λ (b : Bool). AreSame (if b then record (rows_at old) { wanted = [] } else rows_at old) contents.rows) (sym lacks) (all_rows same)
 
-  pub shows : (schema : Schema) (missing : Bool) → lacks_wanted schema ≡ missing → schema ≡ (if missing then first_schema else all_schema) → IsDatabase (record { schema = schema; trees = old })
-      → AllByRecursion (λ t. new t.tree ≡ old t.tree) (if missing then first_schema else all_schema).tables → (IsTrue missing → new database.wanted.tree ≡ [])
+  pub shows : (schema : Schema) (missing : Bool) → lacks_wanted schema ≡ missing → schema ≡ schema_of_version missing → IsDatabase (record { schema = schema; trees = old })
+      → AllByRecursion (λ t. new t.tree ≡ old t.tree) (schema_of_version missing).tables → (IsTrue missing → new database.wanted.tree ≡ [])
       → ShowsAll (record { schema = schema; trees = old }) contents
   shows schema missing lacks is sound same none =
       let own = own_same old new _ same (own_read new contents reads missing) in
@@ -92,7 +92,7 @@ module _ (old new : Trees) (contents : Contents) (reads : ReadsContents new cont
         answers = rows_same forms.answers old new contents.answers (answers_same missing same) reads.answers;
       }
     where
-      answers_same : (missing : Bool) → AllByRecursion (λ t. new t.tree ≡ old t.tree) (if missing then first_schema else all_schema).tables → new database.answers.tree ≡ old database.answers.tree
+      answers_same : (missing : Bool) → AllByRecursion (λ t. new t.tree ≡ old t.tree) (schema_of_version missing).tables → new database.answers.tree ≡ old database.answers.tree
       answers_same true same = same.1.1.1.1.1.1.1.0
       answers_same false same = same.1.1.1.1.1.1.1.0
 
@@ -105,6 +105,6 @@ module _ {S : Type 0} (g : Ghosts S) (old begun : Held S) (is : begun ≡ record
   has_begun missing lacks has live = subst (λ (h : Held S). IsBegun missing (state g h)) (sym is) (record {
     within = refl;
     lacks = sym lacks;
-    schema_is = has ∙ ap (λ (b : Bool). if b then first_schema else all_schema) (sym lacks);
+    schema_is = has ∙ ap schema_of_version (sym lacks);
     live = live;
   })

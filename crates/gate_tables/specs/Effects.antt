@@ -1,5 +1,5 @@
 -- What statements in a transaction make of the tables. For private clauses.
-use Rattle.std.specs.Prelude.{◌≡◌, ◌≢◌, ℕ, Bool, true, if◌then◌else◌, List, [], ◌∷◌, Ok, IsTrue, IsPermutation}
+use Rattle.std.specs.Prelude.{◌≡◌, ◌≢◌, ℕ, Bool, true, List, [], ◌∷◌, Ok, IsTrue, IsPermutation}
 use Rattle.std.specs.List.{AllByRecursion}
 use Rattle.gate_tables.specs.Applied.{put, without, applied, no_rows}
 use Rattle.gate_tables.specs.Database.{Layout, all_schema, cells}
@@ -13,7 +13,7 @@ use Rattle.gate_tables.specs.declared.look.Contents.{Contents}
 use Rattle.gate_tables.specs.declared.read.First.{First}
 use Rattle.gate_tables.specs.declared.read.Last.{Last}
 use Rattle.gate_tables.specs.declared.row.Rows.{Rows}
-use Rattle.gate_tables.specs.Schemas.{HasTables, first_schema, lacks_wanted, stored_rows}
+use Rattle.gate_tables.specs.Schemas.{HasTables, lacks_wanted, schema_of_version, stored_rows}
 use Rattle.sqlite.specs.Effect.{Database, IsDatabase}
 use Rattle.sqlite.specs.Order.{Row}
 use Rattle.sqlite.specs.Schema.{Schema}
@@ -56,14 +56,14 @@ pub record Grows (front : Schema) (layout : Layout) (after : Schema) (old new : 
 pub record IsBegun (missing : Bool) (s : State) : Type 0 where
   pub within : IsTrue s.in_transaction
   pub lacks : lacks_wanted s.now.schema ≡ missing
-  pub schema_is : s.now.schema ≡ (if missing then first_schema else all_schema)
+  pub schema_is : s.now.schema ≡ schema_of_version missing
   pub live : IsLive s
 
 -- a table was made if it was missing, and the rows are those that were stored
 pub record Completes (missing : Bool) (old new : State) : Type 0 where
   pub within : IsTrue new.in_transaction
   pub sound : IsDatabase new.now
-  pub others : AllByRecursion (λ t. new.now.trees t.tree ≡ old.now.trees t.tree) (if missing then first_schema else all_schema).tables
+  pub others : AllByRecursion (λ t. new.now.trees t.tree ≡ old.now.trees t.tree) (schema_of_version missing).tables
   pub none : IsTrue missing → new.now.trees database.wanted.tree ≡ []
 
 -- a database of all tables, with nothing under way

@@ -19,12 +19,16 @@ IsFound First schema = schema ≡ first_schema
 IsFound All schema = schema ≡ all_schema
 IsFound Others schema = (schema ≢ schema_of []) × (schema ≢ first_schema) × (schema ≢ all_schema)
 
+-- the tables of a database that lacks the one, or doesn't
+abbrev pub schema_of_version : Bool → Schema
+schema_of_version missing = if missing then first_schema else all_schema
+
 -- whether a schema is that of version 1, if it is of one of the two
 abbrev pub lacks_wanted : Schema → Bool
 lacks_wanted schema = length schema.tables == 8
 
 abbrev pub HasTables : Database → Type 0
-HasTables db = db.schema ≡ (if lacks_wanted db.schema then first_schema else all_schema)
+HasTables db = db.schema ≡ schema_of_version (lacks_wanted db.schema)
 
 -- the rows that a database of either version has
 abbrev pub stored_rows : Database → Rows

@@ -65,8 +65,8 @@ impl<S: Alter> FoundTables<S> {
         }
     }
 
-    /// Brings a database of version 1 to version 2, and makes these row changes, in their order, all in one transaction or not at
-    /// all. The answers stay. If it is refused, the database is as it was, and the connection is handed back. `Store` if the
+    /// Makes the ninth table if the database is of version 1, and these row changes, in their order, all in one transaction or not
+    /// at all. The answers stay. If it is refused, the database is as it was, and the connection is handed back. `Store` if the
     /// database fails, and `Memory` if there is no memory for it.
     pub fn take(self, changes: &[RowChange]) -> Result<Tables<S>, NotMade<S>>
         ensures rows { IfOk result (λ tables. is_sound S.Store tables → AreSame (rows_in S.Store tables) (applied changes.now (stored_rows (state S.Store self).now))) }

@@ -1,5 +1,5 @@
-//! The nine tables of the records in a SQLite database, as rows: they are made, read whole, and changed row by row with one
-//! answer, in one transaction or not at all. What rows stand for isn't known here.
+//! The nine tables of the records in a SQLite database, as rows: they are made, or found and taken over, read whole, and changed
+//! row by row with one answer, in one transaction or not at all. What rows stand for isn't known here.
 #![tactic(auto)]
 
 mod answers;

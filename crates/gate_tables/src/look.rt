@@ -35,6 +35,7 @@ pub(crate) fn read<S: Alter>(alloc: Global, conn: &mut Connection<S>) -> Result<
 {
     let mut tx = conn.transaction();
     let rows = read_rows(alloc, &mut tx)?;
+    // After a rollback the next write would cost a copy of all rows in memory.
     tx.commit()?;
     Ok(rows)
 }

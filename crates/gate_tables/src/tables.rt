@@ -18,7 +18,7 @@ use sqlite::{Alter, Connection};
 use std::alloc::Global;
 use std::marker::Model;
 
-/// A connection in which no tables were made, with the reason.
+/// A connection in which no tables were made, found or taken over, with the reason.
 #[derive(Drop)]
 pub struct NotMade<S: Alter> {
     /// `Memory` or `Store`.
@@ -101,7 +101,7 @@ impl<S: Alter> Tables<S> {
     }
 
     /// The rows of all tables but `answers`. It changes nothing. `Store` if the database fails, or if a row has values of
-    /// other kinds, and `Memory` if there is no memory for it.
+    /// other kinds or no rowid of its own, and `Memory` if there is no memory for it.
     pub fn read(&mut self, alloc: Global) -> Result<Rows, TablesFault>
         ensures rows { is_sound S.Store self.new → IfOk result (AreSame (rows_in S.Store self.old)) }
         ensures same { is_sound S.Store self.new → (rows_in S.Store self.new ≡ rows_in S.Store self.old) × (answers_in S.Store self.new ≡ answers_in S.Store self.old) }
