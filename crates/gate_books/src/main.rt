@@ -2,8 +2,8 @@
 //! program holds at the end.
 //!
 //! `gate_books plain` serves them over a book without a database, `gate_books loaded` loads the state from the tables before
-//! each line. `gate_books tables` prints the rows of the tables in place of the answers, and `gate_books changed` the row changes
-//! of each line. `.ci/test_rows` starts it so.
+//! each line, and `gate_books reopened` leaves its book after each line, and opens it again. `gate_books tables` prints the rows of
+//! the tables in place of the answers, and `gate_books changed` the row changes of each line. `.ci/test_rows` starts it so.
 //!
 //! `gate_books opened` begins with lines of SQL, which make the database that it opens, and prints the rows of the tables behind
 //! the answers.
@@ -15,6 +15,7 @@ mod changed;
 mod fault;
 mod opened;
 mod refusals;
+mod reopened;
 mod row_changes;
 mod serving;
 mod tables;
@@ -44,6 +45,7 @@ fn run(rt: &HostRuntime) -> Result<(), BooksFault> {
     match asked.as_str() {
         "plain" => serving::serve_plain(rt.alloc(), &mut reader, &mut writer),
         "loaded" => serving::serve_loaded(rt.alloc(), &mut reader, &mut writer),
+        "reopened" => reopened::serve_reopened(rt.alloc(), &mut reader, &mut writer),
         "tables" => tables::print_tables(rt.alloc(), &mut reader, &mut writer),
         "changed" => changed::print_changed(rt.alloc(), &mut reader, &mut writer),
         "opened" => opened::print_opened(rt.alloc(), &mut reader, &mut writer),

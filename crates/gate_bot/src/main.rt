@@ -5,12 +5,13 @@ mod records;
 mod reporting;
 mod running;
 
-use crate::records::book_in_memory;
+use crate::records::{book_in_file, book_in_memory, close};
 use gate_jobs::{
     Ending, Job, JobFault, WordsFault, announce, complaint, ended, explain, no_text, read_words,
     status,
 };
 use gate_store::{Book, Keeper};
+use sqlite::Unknown;
 use std::fs::File;
 use std::net::TcpListener;
 use std::process::ExitCode;
@@ -47,8 +48,18 @@ fn asked(rt: &HostRuntime) -> Result<Job, WordsFault> {
 
 fn done(rt: &HostRuntime, job: &Job) -> Result<(), JobFault> {
     match job {
-        Job::Run => run(rt),
-        Job::Serve { port, count } => serve(rt, *port, *count),
+        Job::Run { db: None } => run(rt),
+        Job::Run { db: Some(db) } => run_in_file(rt, db.as_str()),
+        Job::Serve {
+            port,
+            count,
+            db: None,
+        } => serve(rt, *port, *count),
+        Job::Serve {
+            port,
+            count,
+            db: Some(db),
+        } => serve_in_file(rt, db.as_str(), *port, *count),
         Job::Report { file } => report(rt, file.as_str()),
     }
 }
@@ -58,22 +69,42 @@ fn run(rt: &HostRuntime) -> Result<(), JobFault> {
     Ok(())
 }
 
-// The records are made before the address is bound.
-fn serve(rt: &HostRuntime, port: u16, count: u32) -> Result<(), JobFault> {
-    serve_over(rt, book_in_memory(rt.alloc())?, port, count)
+fn run_in_file(rt: &HostRuntime, file: &str) -> Result<(), JobFault> {
+    let (served, book) = running::run_in_file(
+        rt,
+        file,
+        Unknown,
+        &mut rt.reader(),
+        &mut io::writer(rt),
+    )?;
+    close(book);
+    served?;
+    Ok(())
 }
 
-// The same over any book. A keeper whose book is known is dear to prove where it is let go.
-fn serve_over<B: Book + Drop>(
+// The records are made, or opened, before the address is bound.
+fn serve(rt: &HostRuntime, port: u16, count: u32) -> Result<(), JobFault> {
+    let (served, book) = serve_over(rt, book_in_memory(rt.alloc())?, port, count);
+    drop(book);
+    served
+}
+
+fn serve_in_file(rt: &HostRuntime, file: &str, port: u16, count: u32) -> Result<(), JobFault> {
+    let (served, book) = serve_over(rt, book_in_file(rt, file, Unknown)?, port, count);
+    close(book);
+    served
+}
+
+// Over any book, which it gives back. A keeper whose book is known is dear to prove.
+fn serve_over<B: Book>(
     rt: &HostRuntime,
     book: B,
     port: u16,
     count: u32,
-) -> Result<(), JobFault> {
+) -> (Result<(), JobFault>, B) {
     let mut keeper = Keeper::new(book);
-    let done = serve_on(rt, &mut keeper, port, count);
-    drop(keeper);
-    done
+    let served = serve_on(rt, &mut keeper, port, count);
+    (served, keeper.into_book())
 }
 
 fn serve_on<B: Book>(

@@ -1,18 +1,25 @@
 ghost use Rattle.std.specs.Prelude.{◌≡◌, IfErr, IfOk};
-ghost use Rattle.gate_bot.specs.Program.{no_records};
+ghost use Rattle.gate_bot.specs.Program.{IsOfFiles, StandIn, fault_of, no_records};
 ghost use Rattle.gate_sql.specs.Shown.{shown};
 ghost use Rattle.gate_store.specs.Run.{IsOfBooks};
+ghost use Rattle.gate_tables.specs.Tables.{is_honest, is_sound};
+ghost use Rattle.sqlite.specs.Files.{over_files};
 ghost use Rattle.sqlite.specs.Steps.{over_memory};
+ghost use Rattle.sqlite.specs.WalFiles.{image_at};
 
+use gate_jobs::JobFault;
 use gate_queue::Fault;
 use gate_sql::SqlBook;
-use sqlite::{Connection, MemStore};
+use sqlite::{Connection, Error, ErrorCode, FileFrom, FileStore, MemStore, Start};
 use std::alloc::Global;
 
-/// A book in a database in memory, which keeps the records of a job.
+/// A book in a database in memory, which keeps the records until the program ends.
 pub type MemoryBook = SqlBook<MemStore>;
 
-/// The book with which each job begins: it has no records, and its database is new.
+/// A book in a database file, which keeps the records for the next program. `S` stands for what the file and its log held.
+pub type FileBook<S> = SqlBook<FileStore<FileFrom<S>>>;
+
+/// A book without records, in a new database in memory.
 pub fn book_in_memory(alloc: Global) -> Result<MemoryBook, Fault>
     ensures value { IfOk result (λ book. shown over_memory book ≡ no_records) }
     ensures fault { IfErr result IsOfBooks }
@@ -21,5 +28,45 @@ pub fn book_in_memory(alloc: Global) -> Result<MemoryBook, Fault>
     match SqlBook::new(alloc, connection) {
         Ok(book) => Ok(book),
         Err(refused) => Err(refused.fault),
+    }
+}
+
+/// The book that a database file keeps. A file that isn't there is made, and one that is empty gets its tables and no records. Each
+/// page of a new file ends in a sum of it, by which a later open refuses a page that was changed. `File` if it can't be opened, or
+/// isn't a database, or is damaged, or another program has it open. `Gate(Foreign)` and `Gate(Store)` if its tables or what they
+/// hold are others. `Gate(Memory)` if there is no memory for it. A file that is refused keeps what it held.
+pub fn book_in_file<S: Start>(
+    rt: &HostRuntime,
+    file: &str,
+    start: S,
+) -> Result<FileBook<S>, JobFault>
+    // If nobody else has written the file, and the disk has returned what was written, the records are those for which the database
+    // stands that the file held.
+    ensures records { IfOk result (λ book. is_honest over_files book → StandIn (image_at S.Start) (shown over_files book)) }
+    ensures stays { IfOk result (λ book. is_honest over_files book → is_sound over_files book) }
+    ensures fault { IfErr result IsOfFiles }
+{
+    match Connection::open_from(rt, file, true, start) {
+        Ok(connection) => match SqlBook::open(rt.alloc(), connection) {
+            Ok(book) => Ok(book),
+            Err(refused) => Err(JobFault::from(refused.fault)),
+        },
+        Err((error, _)) => Err(told(error)),
+    }
+}
+
+/// Lets a book go, and copies into the file what its log has. If that fails, nothing is lost: file and log have the records together
+/// then, as after a program that was killed.
+pub fn close<S: Start>(book: FileBook<S>) {
+    let _ = book.into_connection().close();
+}
+
+// What is told of a file that can't be opened.
+fn told(error: Error) -> JobFault
+    ensures { result ≡ fault_of error }
+{
+    match error {
+        Error::SqliteFailure(ErrorCode::OutOfMemory) => JobFault::from(Fault::Memory),
+        _ => JobFault::File,
     }
 }

@@ -9,7 +9,7 @@ use Rattle.gate_queue.specs.declared.fault.Fault.TheVariants.{Memory, Store, Ful
 use Rattle.gate_store.specs.Run.{Records}
 use Rattle.gate_hook.specs.Deliveries.{delivery_of}
 use Rattle.gate_hook.specs.Lines.{ended_lines, open_line, line_text, too_long_text, text_answered, after_line, is_delivery, line_meets_full, after_reading, reading_meets_full, text_for, after_lines, NoLineMeetsFull, MayCause, StopsAtLine}
-use Rattle.gate_hook.specs.Serving.{IsAnswered, IsUpTo, StopsBehind, kept_of}
+use Rattle.gate_hook.specs.Serving.{IsAnswered, IsOfGate, IsUpTo, StopsBehind, ToldBehind, kept_of}
 use Rattle.gate_hook.specs.declared.fault.HookFault.{HookFault}
 use Rattle.gate_hook.specs.declared.fault.HookFault.TheVariants.{Gate, Read, Write, TooMuch}
 use Rattle.gate_hook.proofs.Kept.{kept-push, kept-says}
@@ -128,3 +128,18 @@ pub stops : (old_sound sound : Type 0) (opened : Records) (input : List ℕ) (ol
     → sound → StopsBehind fault opened input new before after
 stops old_sound sound opened input old new line count before between after fault was so_far refused premise =
     stops_behind opened input old new line before between after fault (so_far.records (was premise)) so_far.line (so_far.written (was premise)) (so_far.room (was premise)) (refused premise)
+
+-- What was written before a fault of the gate is still what is written.
+told_behind : (opened : Records) (input : List ℕ) (before between after : Option (List ℕ)) (fault : HookFault)
+    → Appends before between (text_for opened (ended_lines input)) → NoLineMeetsFull opened (ended_lines input) → (IsOfGate fault → after ≡ between)
+    → ToldBehind fault opened input before after
+told_behind opened input before between after (Gate fault) written room unwritten =
+    (subst (λ (last : Option (List ℕ)). Appends before last (text_for opened (ended_lines input))) (sym (unwritten (fault, refl))) written, room)
+told_behind opened input before between after Read written room unwritten = tt
+told_behind opened input before between after Write written room unwritten = tt
+told_behind opened input before between after TooMuch written room unwritten = tt
+
+pub tells : (sound : Type 0) (opened : Records) (input : List ℕ) (now : Records) (line : List ℕ) (count : ℕ) (before between after : Option (List ℕ)) (fault : HookFault)
+    → IsUpTo sound opened input now line count before between → (IsOfGate fault → after ≡ between) → sound → ToldBehind fault opened input before after
+tells sound opened input now line count before between after fault so_far unwritten premise =
+    told_behind opened input before between after fault (so_far.written premise) (so_far.room premise) unwritten

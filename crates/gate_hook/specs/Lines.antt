@@ -4,7 +4,7 @@ use Rattle.std.specs.Io.KnownBytes.{Appends, IsAtEnd}
 use Rattle.gate_queue.specs.declared.fault.Fault.{Fault}
 use Rattle.gate_queue.specs.declared.fault.Fault.TheVariants.{Memory, Store, Full, Foreign}
 use Rattle.gate_store.specs.Answers.{answer_text_of}
-use Rattle.gate_store.specs.Run.{Records, answer_to, after_delivery, meets_full, IsOfKeepers}
+use Rattle.gate_store.specs.Run.{Records, answer_to, after_delivery, meets_full, IsOfKeepers, IsOpenAfter}
 use Rattle.gate_store.specs.declared.delivery.Delivery.{Delivery}
 use Rattle.gate_hook.specs.Errors.{error_text_of}
 use Rattle.gate_hook.specs.Deliveries.{delivery_of}
@@ -124,13 +124,17 @@ abbrev pub AreComplete : List ℕ → Option (List ℕ) → List (List ℕ) → 
 AreComplete input left lines =
     ((others : List (List ℕ)) × (ended_lines input ≡ lines ++ others)) ⊎ ((lines_of input ≡ lines) × IsAtEnd left)
 
-pub record StopsAtGate (fault : Fault) (old : Records) (input : List ℕ) (left : Option (List ℕ)) (new : Records) (before after : Option (List ℕ)) : Type 0 where
+-- A fault of the gate came at a line, and nothing of its answer is written: only the answers to the lines before it are.
+pub record HasTold (old : Records) (input : List ℕ) (left before after : Option (List ℕ)) : Type 0 where
   pub served : List (List ℕ)
   pub line : List ℕ
   pub complete : AreComplete input left (served ++ line ∷ [])
-  pub records : StopsAtLine fault (after_lines old served) line new
   pub written : Appends before after (text_for old served)
   pub room : NoLineMeetsFull old served
+
+pub record StopsAtGate (fault : Fault) (old : Records) (input : List ℕ) (left : Option (List ℕ)) (new : Records) (before after : Option (List ℕ)) : Type 0 where
+  pub told : HasTold old input left before after
+  pub records : StopsAtLine fault (after_lines old told.served) told.line new
 
 -- The writer refused a line's text, or what was left of it: a part from its front is written, but not all, and the line
 -- has acted.
@@ -154,6 +158,16 @@ IsServed (Err TooMuch) old input left new before after = HasServed old (ended_li
 -- a delivery met a fault, or there was no memory for a line or its answer
 IsServed (Err (Gate fault)) old input left new before after = StopsAtGate fault old input left new before after
 IsServed (Err Write) old input left new before after = StopsAtWrite old input left new before after
+
+-- WHAT SERVING LEAVES OVER A BOOK THAT WAS SOUND, and is honest still. Only `Memory` and `Store` may have shut it, and the answers to
+-- the lines before are written then too. After anything else it is sound.
+abbrev pub Serves : (sound : Type 0) → Result ℕ HookFault → Records → List ℕ → Option (List ℕ) → Records → Option (List ℕ) → Option (List ℕ) → Type 0
+Serves sound (Ok count) old input left new before after = sound × IsServed (Ok count) old input left new before after
+Serves sound (Err Read) old input left new before after = sound × IsServed (Err Read) old input left new before after
+Serves sound (Err TooMuch) old input left new before after = sound × IsServed (Err TooMuch) old input left new before after
+Serves sound (Err Write) old input left new before after = sound × IsServed (Err Write) old input left new before after
+Serves sound (Err (Gate fault)) old input left new before after =
+    HasTold old input left before after × IsOpenAfter fault sound × (sound → IsServed (Err (Gate fault)) old input left new before after)
 
 -- how much of the input was consumed: never more than the limit, but for the one byte that shows that there is more
 abbrev pub IsWithinLimit : Result ℕ HookFault → List ℕ → Type 0

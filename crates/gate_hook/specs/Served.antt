@@ -7,7 +7,7 @@ use Rattle.gate_state.specs.declared.state.State.{State}
 use Rattle.gate_report.specs.Change.{change_text_of}
 use Rattle.gate_report.specs.Queue.{queue_text_of}
 use Rattle.gate_store.specs.Answers.{answer_text_of}
-use Rattle.gate_store.specs.Run.{Records, answer_to, after_delivery, meets_full}
+use Rattle.gate_store.specs.Run.{IsOpenAfter, Records, answer_to, after_delivery, meets_full}
 use Rattle.gate_store.specs.declared.delivery.Delivery.{Delivery}
 use Rattle.gate_hook.specs.Requests.{Asks}
 use Rattle.gate_hook.specs.Responses.{Response, response_text, answer_response, refusal_response, report_response, fault_response}
@@ -90,3 +90,8 @@ AnswersOne (Err TooMuch) input old new before after = ⊥
 -- the input asks for no delivery: it is refused, or asks for a report
 abbrev pub AsksNoDelivery : List ℕ → Type 0
 AsksNoDelivery input = (delivery : Delivery) → Asks input (Ok (DeliveryOf delivery)) → ⊥
+
+-- No fault but `Memory` and `Store` may have shut the book.
+abbrev pub IsSoundUnless : Option Fault → (sound : Type 0) → Type 0
+IsSoundUnless None sound = sound
+IsSoundUnless (Some fault) sound = IsOpenAfter fault sound

@@ -2,8 +2,8 @@
 use Rattle.std.specs.Prelude.{◌≡◌, ◌<◌, ℕ, false, ⊤, List, [], ◌∷◌, ◌++◌, length, take, Option, Result, Ok, Err}
 use Rattle.std.specs.Io.KnownBytes.{Appends}
 use Rattle.gate_queue.specs.declared.fault.Fault.{Fault}
-use Rattle.gate_store.specs.Run.{Records, IsOfKeepers}
-use Rattle.gate_hook.specs.Lines.{ended_lines, open_line, line_text, after_line, line_meets_full, text_for, after_lines, NoLineMeetsFull, StopsAtLine, max_kept}
+use Rattle.gate_store.specs.Run.{Records, IsOfKeepers, IsOpenAfter}
+use Rattle.gate_hook.specs.Lines.{HasTold, ended_lines, open_line, line_text, after_line, line_meets_full, text_for, after_lines, NoLineMeetsFull, StopsAtLine, max_kept}
 use Rattle.gate_hook.specs.declared.fault.HookFault.{HookFault}
 use Rattle.gate_hook.specs.declared.fault.HookFault.TheVariants.{Gate, Read, Write, TooMuch}
 
@@ -51,18 +51,50 @@ StopsBehind Write opened input new before after =
 StopsBehind Read opened input new before after = ⊥
 StopsBehind TooMuch opened input new before after = ⊥
 
--- one more byte
-abbrev pub TakesByte : (sound : Type 0) → Result (Unit {0}) HookFault → Records → List ℕ → ℕ → Records → List ℕ → ℕ → Option (List ℕ) → Option (List ℕ) → Type 0
-TakesByte sound (Ok _) opened input byte now line count before after = IsUpTo sound opened (input ++ byte ∷ []) now line count before after
-TakesByte sound (Err fault) opened input byte now line count before after = (byte ≡ 10) × (sound → StopsBehind fault opened input now before after)
+-- After a fault of the gate the answers to the lines before are written, and nothing besides.
+abbrev pub ToldBehind : HookFault → Records → List ℕ → Option (List ℕ) → Option (List ℕ) → Type 0
+ToldBehind (Gate fault) opened input before after =
+    Appends before after (text_for opened (ended_lines input)) × NoLineMeetsFull opened (ended_lines input)
+ToldBehind Read opened input before after = ⊤
+ToldBehind Write opened input before after = ⊤
+ToldBehind TooMuch opened input before after = ⊤
+
+abbrev pub IsOfGate : HookFault → Type 0
+IsOfGate fault = (of : Fault) × (fault ≡ Gate of)
+
+-- the same of all lines
+abbrev pub IsTold : {X : Type 0} → Result X HookFault → Records → List ℕ → Option (List ℕ) → Option (List ℕ) → Option (List ℕ) → Type 0
+IsTold (Ok _) old input left before after = ⊤
+IsTold (Err (Gate fault)) old input left before after = HasTold old input left before after
+IsTold (Err Read) old input left before after = ⊤
+IsTold (Err Write) old input left before after = ⊤
+IsTold (Err TooMuch) old input left before after = ⊤
+
+-- No fault of the reader or the writer shuts the book.
+abbrev pub IsSoundAfter : HookFault → (sound : Type 0) → Type 0
+IsSoundAfter (Gate fault) sound = IsOpenAfter fault sound
+IsSoundAfter Read sound = sound
+IsSoundAfter Write sound = sound
+IsSoundAfter TooMuch sound = sound
+
+abbrev pub StaysSound : {X : Type 0} → Result X HookFault → (sound : Type 0) → Type 0
+StaysSound (Ok _) sound = sound
+StaysSound (Err fault) sound = IsSoundAfter fault sound
+
+-- one more byte; what was told before a fault holds of a book that is honest
+abbrev pub TakesByte : (sound honest : Type 0) → Result (Unit {0}) HookFault → Records → List ℕ → ℕ → Records → List ℕ → ℕ → Option (List ℕ) → Option (List ℕ) → Type 0
+TakesByte sound honest (Ok _) opened input byte now line count before after = IsUpTo sound opened (input ++ byte ∷ []) now line count before after
+TakesByte sound honest (Err fault) opened input byte now line count before after =
+    (byte ≡ 10) × (sound → StopsBehind fault opened input now before after) × (honest → ToldBehind fault opened input before after)
 
 -- more bytes: the fault came at a line feed among them
-pub record StopsWithin (sound : Type 0) (fault : HookFault) (opened : Records) (input taken : List ℕ) (now : Records) (before after : Option (List ℕ)) : Type 0 where
+pub record StopsWithin (sound honest : Type 0) (fault : HookFault) (opened : Records) (input taken : List ℕ) (now : Records) (before after : Option (List ℕ)) : Type 0 where
   pub front : List ℕ
   pub others : List ℕ
   pub bytes : taken ≡ front ++ 10 ∷ others
   pub stops : sound → StopsBehind fault opened (input ++ front) now before after
+  pub told : honest → ToldBehind fault opened (input ++ front) before after
 
-abbrev pub TakesBytes : (sound : Type 0) → Result (Unit {0}) HookFault → Records → List ℕ → List ℕ → Records → List ℕ → ℕ → Option (List ℕ) → Option (List ℕ) → Type 0
-TakesBytes sound (Ok _) opened input bytes now line count before after = IsUpTo sound opened (input ++ bytes) now line count before after
-TakesBytes sound (Err fault) opened input bytes now line count before after = StopsWithin sound fault opened input bytes now before after
+abbrev pub TakesBytes : (sound honest : Type 0) → Result (Unit {0}) HookFault → Records → List ℕ → List ℕ → Records → List ℕ → ℕ → Option (List ℕ) → Option (List ℕ) → Type 0
+TakesBytes sound honest (Ok _) opened input bytes now line count before after = IsUpTo sound opened (input ++ bytes) now line count before after
+TakesBytes sound honest (Err fault) opened input bytes now line count before after = StopsWithin sound honest fault opened input bytes now before after

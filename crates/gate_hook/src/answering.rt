@@ -1,6 +1,6 @@
 ghost use Rattle.std.specs.Prelude.{◌≡◌, false, ◌++◌, ◌∷◌, [], IfOk, IfErr, OnOk, Ok, ◌⊎◌};
 ghost use Rattle.std.specs.String.{string_bytes};
-ghost use Rattle.gate_store.specs.Run.{AgreesOnFull, IsOfKeepers, meets_full};
+ghost use Rattle.gate_store.specs.Run.{AgreesOnFull, IsOfKeepers, StaysOpen, meets_full};
 ghost use Rattle.gate_hook.specs.Lines.{text_answered, after_reading};
 
 use gate_queue::Fault;
@@ -27,6 +27,8 @@ pub fn delivery_answer<B: Book>(
     ensures stops { B.is_sound keeper.new → IfErr result (λ fault. (B.shows keeper.new ≡ B.shows keeper.old) ⊎ ((fault ≡ Fault.Memory) × (B.shows keeper.new ≡ after_reading (B.shows keeper.old) (Ok delivery.now)) × (meets_full (B.shows keeper.old) delivery.now ≡ false))) }
     ensures full { B.is_sound keeper.new → AgreesOnFull result (meets_full (B.shows keeper.old) delivery.now) }
     ensures was { B.is_sound keeper.new → B.is_sound keeper.old }
+    ensures honest { B.is_honest keeper.new → B.is_honest keeper.old }
+    ensures stays { B.is_honest keeper.new → StaysOpen result (B.is_sound keeper.new) }
     ensures cause { IfErr result (IsOfKeepers B.may_answer) }
 {
     let text = keeper.deliver_text(alloc, delivery)?;

@@ -1,9 +1,9 @@
 ghost use Rattle.std.specs.Prelude.{◌≡◌, ◌+◌, ◌<◌, ◌≤◌, ◌^◌, ◌++◌, ◌∷◌, ℕ, false, [], List, Option, length, IfOk, IfErr, OnOk, Ok};
 ghost use Rattle.std.specs.String.{string_bytes};
 ghost use Rattle.std.specs.Io.KnownBytes.{Consumes, IsAtEnd};
-ghost use Rattle.gate_store.specs.Run.{Records, IsOfKeepers};
-ghost use Rattle.gate_hook.specs.Lines.{line_text, after_line, line_meets_full, MayEnd, StopsAtLine, IsServed, IsWithinLimit};
-ghost use Rattle.gate_hook.specs.Serving.{IsAnswered, IsUpTo, MayStop, TakesByte, TakesBytes};
+ghost use Rattle.gate_store.specs.Run.{Records, IsOfKeepers, StaysOpen};
+ghost use Rattle.gate_hook.specs.Lines.{line_text, after_line, line_meets_full, MayEnd, Serves, StopsAtLine, IsServed, IsWithinLimit};
+ghost use Rattle.gate_hook.specs.Serving.{IsAnswered, IsOfGate, IsTold, IsUpTo, MayStop, StaysSound, TakesByte, TakesBytes};
 
 use crate::answering::{delivery_answer, with_line_feed};
 use crate::errors::error_text;
@@ -33,6 +33,8 @@ fn line_answer<B: Book>(alloc: Global, keeper: &mut Keeper<B>, line: &Line) -> R
     ensures room { B.is_sound keeper.new → OnOk result (line_meets_full (B.shows keeper.old) line.now ≡ false) }
     ensures stops { B.is_sound keeper.new → IfErr result (λ fault. StopsAtLine fault (B.shows keeper.old) line.now (B.shows keeper.new)) }
     ensures was { B.is_sound keeper.new → B.is_sound keeper.old }
+    ensures honest { B.is_honest keeper.new → B.is_honest keeper.old }
+    ensures stays { (B.is_honest keeper.old → B.is_sound keeper.old) → B.is_honest keeper.new → StaysOpen result (B.is_sound keeper.new) }
     ensures cause { IfErr result (IsOfKeepers B.may_answer) }
 {
     if line.is_too_long() {
@@ -72,6 +74,9 @@ impl<B: Book, W: Write> Session<'_, '_, B, W> {
     fn answer_line(&mut self, alloc: Global) -> Result<(), HookFault>
         ensures answered { B.is_sound self.new.keeper.now → IsAnswered result (B.shows self.old.keeper.now) self.old.line (B.shows self.new.keeper.now) (W.contents self.old.writer.now) (W.contents self.new.writer.now) }
         ensures was { B.is_sound self.new.keeper.now → B.is_sound self.old.keeper.now }
+        ensures honest { B.is_honest self.new.keeper.now → B.is_honest self.old.keeper.now }
+        ensures stays { (B.is_honest self.old.keeper.now → B.is_sound self.old.keeper.now) → B.is_honest self.new.keeper.now → StaysSound result (B.is_sound self.new.keeper.now) }
+        ensures unwritten { IfErr result (λ fault. IsOfGate fault → W.contents self.new.writer.now ≡ W.contents self.old.writer.now) }
         ensures cause { IfErr result (MayStop B.may_answer) }
         ensures line { self.new.line ≡ self.old.line }
         ensures count { self.new.count ≡ self.old.count }
@@ -87,8 +92,10 @@ impl<B: Book, W: Write> Session<'_, '_, B, W> {
         requires { self.old.count < 2 ^ 32 }
         ensures taken { (opened : Records) (input : List ℕ) (before : Option (List ℕ))
             → IsUpTo (B.is_sound self.old.keeper.now) opened input (B.shows self.old.keeper.now) self.old.line self.old.count before (W.contents self.old.writer.now)
-            → TakesByte (B.is_sound self.new.keeper.now) result opened input byte (B.shows self.new.keeper.now) self.new.line self.new.count before (W.contents self.new.writer.now) }
+            → TakesByte (B.is_sound self.new.keeper.now) ((B.is_honest self.old.keeper.now → B.is_sound self.old.keeper.now) × B.is_honest self.new.keeper.now) result opened input byte (B.shows self.new.keeper.now) self.new.line self.new.count before (W.contents self.new.writer.now) }
         ensures was { B.is_sound self.new.keeper.now → B.is_sound self.old.keeper.now }
+        ensures honest { B.is_honest self.new.keeper.now → B.is_honest self.old.keeper.now }
+        ensures stays { (B.is_honest self.old.keeper.now → B.is_sound self.old.keeper.now) → B.is_honest self.new.keeper.now → StaysSound result (B.is_sound self.new.keeper.now) }
         ensures cause { IfErr result (MayStop B.may_answer) }
         ensures count { self.new.count ≤ self.old.count + 1 }
         ensures same_keeper { self.new.keeper.ghost_name ≡ self.old.keeper.ghost_name }
@@ -113,8 +120,10 @@ impl<B: Book, W: Write> Session<'_, '_, B, W> {
         requires { self.old.count + length bytes.now ≤ 2 ^ 32 }
         ensures taken { (opened : Records) (input : List ℕ) (before : Option (List ℕ))
             → IsUpTo (B.is_sound self.old.keeper.now) opened input (B.shows self.old.keeper.now) self.old.line self.old.count before (W.contents self.old.writer.now)
-            → TakesBytes (B.is_sound self.new.keeper.now) result opened input bytes.now (B.shows self.new.keeper.now) self.new.line self.new.count before (W.contents self.new.writer.now) }
+            → TakesBytes (B.is_sound self.new.keeper.now) ((B.is_honest self.old.keeper.now → B.is_sound self.old.keeper.now) × B.is_honest self.new.keeper.now) result opened input bytes.now (B.shows self.new.keeper.now) self.new.line self.new.count before (W.contents self.new.writer.now) }
         ensures was { B.is_sound self.new.keeper.now → B.is_sound self.old.keeper.now }
+        ensures honest { B.is_honest self.new.keeper.now → B.is_honest self.old.keeper.now }
+        ensures stays { (B.is_honest self.old.keeper.now → B.is_sound self.old.keeper.now) → B.is_honest self.new.keeper.now → StaysSound result (B.is_sound self.new.keeper.now) }
         ensures cause { IfErr result (MayStop B.may_answer) }
         ensures count { self.new.count ≤ self.old.count + length bytes.now }
         ensures same_keeper { self.new.keeper.ghost_name ≡ self.old.keeper.ghost_name }
@@ -137,7 +146,13 @@ impl<B: Book, W: Write> Session<'_, '_, B, W> {
             → IsUpTo (B.is_sound self.old.keeper.now) opened input (B.shows self.old.keeper.now) self.old.line self.old.count before (W.contents self.old.writer.now)
             → IsAtEnd left → B.is_sound self.new.keeper.now
             → IsServed result opened input left (B.shows self.new.keeper.now) before (W.contents self.new.writer.now) }
+        ensures told { (opened : Records) (input : List ℕ) (left before : Option (List ℕ))
+            → IsUpTo (B.is_sound self.old.keeper.now) opened input (B.shows self.old.keeper.now) self.old.line self.old.count before (W.contents self.old.writer.now)
+            → IsAtEnd left → (B.is_honest self.old.keeper.now → B.is_sound self.old.keeper.now) → B.is_honest self.new.keeper.now
+            → IsTold result opened input left before (W.contents self.new.writer.now) }
         ensures was { B.is_sound self.new.keeper.now → B.is_sound self.old.keeper.now }
+        ensures honest { B.is_honest self.new.keeper.now → B.is_honest self.old.keeper.now }
+        ensures stays { (B.is_honest self.old.keeper.now → B.is_sound self.old.keeper.now) → B.is_honest self.new.keeper.now → StaysSound result (B.is_sound self.new.keeper.now) }
         ensures cause { IfErr result (MayEnd B.may_answer) }
         ensures same_keeper { self.new.keeper.ghost_name ≡ self.old.keeper.ghost_name }
         ensures same_writer { self.new.writer.ghost_name ≡ self.old.writer.ghost_name }
@@ -152,14 +167,18 @@ impl<B: Book, W: Write> Session<'_, '_, B, W> {
     }
 
     // Takes the whole input of a reader, chunk by chunk.
-    fn serve<R: Read>(&mut self, alloc: Global, reader: &mut R) -> Result<u64, HookFault>
+    fn take_input<R: Read>(&mut self, alloc: Global, reader: &mut R) -> Result<u64, HookFault>
         requires { IsUpTo (B.is_sound self.old.keeper.now) (B.shows self.old.keeper.now) [] (B.shows self.old.keeper.now) self.old.line self.old.count (W.contents self.old.writer.now) (W.contents self.old.writer.now) }
         ensures served { (input : List ℕ) × Consumes (R.remaining reader.old) (R.remaining reader.new) input
             × IsWithinLimit result input
             × (B.is_sound self.new.keeper.now
-            → IsServed result (B.shows self.old.keeper.now) input (R.remaining reader.new) (B.shows self.new.keeper.now) (W.contents self.old.writer.now) (W.contents self.new.writer.now)) }
+            → IsServed result (B.shows self.old.keeper.now) input (R.remaining reader.new) (B.shows self.new.keeper.now) (W.contents self.old.writer.now) (W.contents self.new.writer.now))
+            × ((B.is_honest self.old.keeper.now → B.is_sound self.old.keeper.now) → B.is_honest self.new.keeper.now
+            → IsTold result (B.shows self.old.keeper.now) input (R.remaining reader.new) (W.contents self.old.writer.now) (W.contents self.new.writer.now)) }
         ensures end { OnOk result (IsAtEnd (R.remaining reader.new)) }
         ensures was { B.is_sound self.new.keeper.now → B.is_sound self.old.keeper.now }
+        ensures honest { B.is_honest self.new.keeper.now → B.is_honest self.old.keeper.now }
+        ensures stays { (B.is_honest self.old.keeper.now → B.is_sound self.old.keeper.now) → B.is_honest self.new.keeper.now → StaysSound result (B.is_sound self.new.keeper.now) }
         ensures cause { IfErr result (MayEnd B.may_answer) }
         ensures same_keeper { self.new.keeper.ghost_name ≡ self.old.keeper.ghost_name }
         ensures same_writer { self.new.writer.ghost_name ≡ self.old.writer.ghost_name }
@@ -179,6 +198,25 @@ impl<B: Book, W: Write> Session<'_, '_, B, W> {
                 Err(fault) => return Err(fault),
             }
         }
+    }
+
+    // The same, told as `serve_lines` tells it.
+    fn serve<R: Read>(&mut self, alloc: Global, reader: &mut R) -> Result<u64, HookFault>
+        requires { IsUpTo (B.is_sound self.old.keeper.now) (B.shows self.old.keeper.now) [] (B.shows self.old.keeper.now) self.old.line self.old.count (W.contents self.old.writer.now) (W.contents self.old.writer.now) }
+        ensures served { (input : List ℕ) × Consumes (R.remaining reader.old) (R.remaining reader.new) input
+            × IsWithinLimit result input
+            × (B.is_sound self.new.keeper.now
+            → IsServed result (B.shows self.old.keeper.now) input (R.remaining reader.new) (B.shows self.new.keeper.now) (W.contents self.old.writer.now) (W.contents self.new.writer.now))
+            × (B.is_sound self.old.keeper.now → B.is_honest self.new.keeper.now
+            → Serves (B.is_sound self.new.keeper.now) result (B.shows self.old.keeper.now) input (R.remaining reader.new) (B.shows self.new.keeper.now) (W.contents self.old.writer.now) (W.contents self.new.writer.now)) }
+        ensures end { OnOk result (IsAtEnd (R.remaining reader.new)) }
+        ensures was { B.is_sound self.new.keeper.now → B.is_sound self.old.keeper.now }
+        ensures honest { B.is_honest self.new.keeper.now → B.is_honest self.old.keeper.now }
+        ensures cause { IfErr result (MayEnd B.may_answer) }
+        ensures same_keeper { self.new.keeper.ghost_name ≡ self.old.keeper.ghost_name }
+        ensures same_writer { self.new.writer.ghost_name ≡ self.old.writer.ghost_name }
+    {
+        self.take_input(alloc, reader)
     }
 }
 
@@ -202,11 +240,14 @@ pub fn serve_lines<B: Book, R: Read, W: Write>(
     reader: &mut R,
     writer: &mut W,
 ) -> Result<u64, HookFault>
-    // Within the limit, input was consumed. If the book is sound, what is written is the text for its lines.
+    // Within the limit, input was consumed. If the book is sound, what is written is the text for its lines. If it was sound, and is
+    // honest still, so are the answers before a fault that has shut it.
     ensures served { (input : List ℕ) × Consumes (R.remaining reader.old) (R.remaining reader.new) input
         × IsWithinLimit result input
         × (B.is_sound keeper.new
-        → IsServed result (B.shows keeper.old) input (R.remaining reader.new) (B.shows keeper.new) (W.contents writer.old) (W.contents writer.new)) }
+        → IsServed result (B.shows keeper.old) input (R.remaining reader.new) (B.shows keeper.new) (W.contents writer.old) (W.contents writer.new))
+        × (B.is_sound keeper.old → B.is_honest keeper.new
+        → Serves (B.is_sound keeper.new) result (B.shows keeper.old) input (R.remaining reader.new) (B.shows keeper.new) (W.contents writer.old) (W.contents writer.new)) }
 
     // It succeeds at the end of the input alone.
     ensures end { OnOk result (IsAtEnd (R.remaining reader.new)) }
@@ -214,8 +255,9 @@ pub fn serve_lines<B: Book, R: Read, W: Write>(
     // A fault of the gate is one that the keeper may answer.
     ensures cause { IfErr result (MayEnd B.may_answer) }
 
-    // A book that is sound in the end was sound before.
+    // A book that is sound in the end was sound before, and one that is honest was so.
     ensures was { B.is_sound keeper.new → B.is_sound keeper.old }
+    ensures honest { B.is_honest keeper.new → B.is_honest keeper.old }
 {
     let mut session = Session {
         keeper,

@@ -1,14 +1,15 @@
 ghost use Rattle.std.specs.Prelude.{◌≡◌, ◌≤◌, ◌↔◌, ℕ, List, Ok, Some, IfSome, IsSome, length, drop, IfOk, IfErr, OnOk, ◌⊎◌, false};
 ghost use Rattle.std.specs.Option.{option_map};
 ghost use Rattle.std.specs.String.{string_bytes};
-ghost use Rattle.gate_store.specs.Run.{AgreesOnFull, IsOfBooks, IsOfKeepers, after_delivery, meets_full};
+ghost use Rattle.gate_store.specs.Run.{AgreesOnFull, IsOfBooks, IsOfKeepers, StaysOpen, after_delivery, meets_full};
 ghost use Rattle.gate_hook.specs.Deliveries.{delivery_of};
 ghost use Rattle.gate_hook.specs.Receiving.{HasAsked, IsInput};
 ghost use Rattle.gate_hook.specs.Requests.{asked_by, delivery_or_refusal};
 ghost use Rattle.gate_hook.specs.Responding.{Answers, HasSent, MayFail, Responds};
 ghost use Rattle.gate_hook.specs.Responses.{IsResponse};
 ghost use Rattle.gate_hook.specs.declared.requests.Request.TheVariants.{Delivery as DeliveryOf, Report as ReportOf};
-ghost use Rattle.gate_hook.specs.Served.{AnswersOne, AsksNoDelivery, report_in, response_to, response_to_report};
+ghost use Rattle.gate_hook.specs.Served.{AnswersOne, AsksNoDelivery, IsSoundUnless, report_in, response_to, response_to_report};
+ghost use Rattle.gate_hook.specs.Serving.{StaysSound};
 
 use crate::answering::delivery_answer;
 use crate::fault::HookFault;
@@ -106,6 +107,8 @@ fn answered<B: Book>(
     ensures stops { B.is_sound keeper.new → IfErr result (λ fault. (B.shows keeper.new ≡ B.shows keeper.old) ⊎ ((fault ≡ Fault.Memory) × (B.shows keeper.new ≡ after_delivery (B.shows keeper.old) delivery.now) × (meets_full (B.shows keeper.old) delivery.now ≡ false))) }
     ensures full { B.is_sound keeper.new → AgreesOnFull result (meets_full (B.shows keeper.old) delivery.now) }
     ensures was { B.is_sound keeper.new → B.is_sound keeper.old }
+    ensures honest { B.is_honest keeper.new → B.is_honest keeper.old }
+    ensures stays { B.is_honest keeper.new → StaysOpen result (B.is_sound keeper.new) }
     ensures cause { IfErr result (IsOfKeepers B.may_answer) }
 {
     let text = delivery_answer(alloc, keeper, delivery)?;
@@ -143,6 +146,8 @@ fn reported<B: Book>(
     ensures response { B.is_sound keeper.new → IfOk result (λ response. IsResponse response (response_to (B.shows keeper.old) (Ok (ReportOf report)))) }
     ensures same { B.is_sound keeper.new → B.shows keeper.new ≡ B.shows keeper.old }
     ensures was { B.is_sound keeper.new → B.is_sound keeper.old }
+    ensures honest { B.is_honest keeper.new → B.is_honest keeper.old }
+    ensures stays { (B.is_honest keeper.old → B.is_sound keeper.old) → B.is_honest keeper.new → StaysOpen result (B.is_sound keeper.new) }
     ensures cause { IfErr result (IsOfKeepers B.may_answer) }
     ensures fault { IfErr result IsOfBooks }
 {
@@ -160,6 +165,8 @@ fn respond<B: Book>(
 ) -> Result<Response, HookFault>
     ensures responds { B.is_sound keeper.new → Responds result (B.shows keeper.old) wish.now (B.shows keeper.new) }
     ensures was { B.is_sound keeper.new → B.is_sound keeper.old }
+    ensures honest { B.is_honest keeper.new → B.is_honest keeper.old }
+    ensures stays { (B.is_honest keeper.old → B.is_sound keeper.old) → B.is_honest keeper.new → StaysSound result (B.is_sound keeper.new) }
     ensures cause { IfErr result (MayFail B.may_answer) }
 {
     match wish {
@@ -178,6 +185,8 @@ fn answer<B: Book, R: Read>(
     ensures answered { (input : List ℕ) × IsInput (R.remaining reader.old) (R.remaining reader.new) input
         × (B.is_sound keeper.new → Answers result input (B.shows keeper.old) (B.shows keeper.new)) }
     ensures was { B.is_sound keeper.new → B.is_sound keeper.old }
+    ensures honest { B.is_honest keeper.new → B.is_honest keeper.old }
+    ensures stays { (B.is_honest keeper.old → B.is_sound keeper.old) → B.is_honest keeper.new → StaysSound result (B.is_sound keeper.new) }
     ensures cause { IfErr result (MayFail B.may_answer) }
 {
     let wish = match read_wish(alloc, reader) {
@@ -234,8 +243,13 @@ pub fn serve_one<B: Book, R: Read, W: Write>(
     // A fault is one that the keeper may answer.
     ensures cause { IfOk result (λ served. IfSome served.fault (IsOfKeepers B.may_answer)) }
 
-    // A book that is sound in the end was sound before.
+    // A book that is sound in the end was sound before, and one that is honest was so.
     ensures was { B.is_sound keeper.new → B.is_sound keeper.old }
+    ensures honest { B.is_honest keeper.new → B.is_honest keeper.old }
+
+    // Of a book that was sound and is honest, only `Memory` and `Store` may have shut it: after any other response it is still sound,
+    // so what is said above of that response holds, whatever comes later.
+    ensures stays { B.is_sound keeper.old → B.is_honest keeper.new → IfOk result (λ served. IsSoundUnless served.fault (B.is_sound keeper.new)) }
 {
     match answer(alloc, keeper, reader) {
         Ok(response) => {

@@ -12,8 +12,18 @@ use std::process::Abort;
 // A job in short.
 fn job_words(rt: &impl Abort, alloc: Global, job: &Job) -> String {
     match job {
-        Job::Run => format!(in alloc; "Run"),
-        Job::Serve { port, count } => format!(in alloc; "Serve {port} {count}"),
+        Job::Run { db: None } => format!(in alloc; "Run"),
+        Job::Run { db: Some(db) } => format!(in alloc; "Run {db}"),
+        Job::Serve {
+            port,
+            count,
+            db: None,
+        } => format!(in alloc; "Serve {port} {count}"),
+        Job::Serve {
+            port,
+            count,
+            db: Some(db),
+        } => format!(in alloc; "Serve {port} {count} {db}"),
         Job::Report { file } => format!(in alloc; "Report {file}"),
     }
     .expect(rt, "memory")
@@ -46,9 +56,13 @@ fn words_ask_for_jobs(rt: HostRuntime) {
     let table = "
          => Run
         run => Run
+        run --db q.db => Run q.db
+        run --db=q.db => Run q.db
         serve --port 8080 --count 2 => Serve 8080 2
         serve --count=1000000 --port=65535 => Serve 65535 1000000
         serve --port 1 --count 1 => Serve 1 1
+        serve --port 8080 --count 2 --db q.db => Serve 8080 2 q.db
+        serve --db q.db --count 2 --port 8080 => Serve 8080 2 q.db
         serve --port 0 --count 2 => Usage
         serve --port 65536 --count 2 => Usage
         serve --port 8080 --count 0 => Usage
@@ -60,6 +74,13 @@ fn words_ask_for_jobs(rt: HostRuntime) {
         report => Usage
         report q.jsonl r.jsonl => Usage
         dance => Usage
+        run --db => Usage
+        run --db q.db --db r.db => Usage
+        run q.db => Usage
+        serve --db q.db => Usage
+        report q.jsonl --db q.db => Usage
+        report --db q.db => Usage
+        --db q.db => Usage
         run now => Usage
         --version => Usage
         --help => Help

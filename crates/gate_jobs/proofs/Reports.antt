@@ -25,9 +25,9 @@ pub served_misses : (old : Records) (fault : HookFault) (input : List ℕ) (left
 served_misses old (Gate Memory) input left new before after within served = tt
 served_misses old (Gate Store) input left new before after within served = tt
 served_misses old (Gate Full) input left new before after within served = (
-  served.served,
-  served.line,
-  served.complete,
+  served.told.served,
+  served.told.line,
+  served.told.complete,
   elim served.records [
     | inl kept ↦ kept.1
     | inr acted ↦ absurd (full_is_not_memory acted.0)

@@ -1,5 +1,6 @@
 -- WHAT THE WORDS ASK FOR, in the terms of `clap`.
-use Rattle.std.specs.Prelude.{◌≡◌, ◌≢◌, ◌⊎◌, ◌≤◌, ℕ, pos, List, [], Option, Some, None, true, ⊤, codes}
+use Rattle.std.specs.Prelude.{◌≡◌, ◌≢◌, ◌⊎◌, ◌≤◌, ℕ, pos, List, [], Option, Some, None, String, true, ⊤, codes}
+use Rattle.std.specs.Option.{option_map}
 use Rattle.std.specs.String.{string_bytes}
 use Rattle.std.specs.Str.Parse.{digits_value, without_leading_plus}
 use Rattle.clap.specs.Words.{App, Row, Rule, Text, fault_of, first_of, new_app, new_rule, one_of, subcommand_of, with_rule, with_subcommand, IsAmong}
@@ -13,26 +14,36 @@ use Rattle.gate_jobs.specs.declared.words.WordsFault.{WordsFault}
 use Rattle.gate_jobs.specs.declared.words.WordsFault.TheVariants.{Help, Usage, Memory}
 
 -- a job whose port, and whose count of connections, keep their limits
+abbrev pub AreWithinLimits : ℕ → ℕ → Type 0
+AreWithinLimits port count = (1 ≤ port) × (port ≤ 65535) × (1 ≤ count) × (count ≤ 1000000)
+
 abbrev pub IsWithinLimits : Job → Type 0
-IsWithinLimits Run = ⊤
-IsWithinLimits (Serve port count) = (1 ≤ port) × (port ≤ 65535) × (1 ≤ count) × (count ≤ 1000000)
+IsWithinLimits (Run db) = ⊤
+IsWithinLimits (Serve port count db) = AreWithinLimits port count
 IsWithinLimits (Report file) = ⊤
 
--- THE COMMANDS: `run`, `serve --port N --count N` and `report FILE`. The program's name isn't among the words.
+-- THE COMMANDS: `run`, `serve --port N --count N` and `report FILE`, of which the first two may have `--db FILE`. The program's name
+-- isn't among the words.
 abbrev pub number_rule : Text → ValueParser → Rule
 number_rule name limits = record (new_rule name) { long = Some name; value_names = 1; required = true; parser = Some limits }
 
 abbrev pub file_rule : Rule
 file_rule = record (new_rule (codes "FILE")) { required = true }
 
-abbrev pub run_words : App
-run_words = new_app (codes "run")
+abbrev pub db_rule : Rule
+db_rule = record (new_rule (codes "db")) { long = Some (codes "db"); value_names = 1 }
 
-abbrev pub serve_words : App
-serve_words =
+abbrev pub run_words : App
+run_words = with_rule (new_app (codes "run")) db_rule
+
+abbrev pub numbered_words : App
+numbered_words =
     with_rule (with_rule (new_app (codes "serve"))
     (number_rule (codes "port") (Signed (pos 1) (pos 65535))))
     (number_rule (codes "count") (Signed (pos 1) (pos 1000000)))
+
+abbrev pub serve_words : App
+serve_words = with_rule numbered_words db_rule
 
 abbrev pub report_words : App
 report_words = with_rule (new_app (codes "report")) file_rule
@@ -48,20 +59,33 @@ abbrev pub IsNumber : ℕ → Option Text → Type 0
 IsNumber n None = ⊥
 IsNumber n (Some text) = n ≡ digits_value 10 (without_leading_plus text)
 
+abbrev pub AreNumbersIn : ℕ → ℕ → List Row → Type 0
+AreNumbersIn port count rows = IsNumber port (one_of (codes "port") rows) × IsNumber count (one_of (codes "count") rows)
+
+-- the file that `--db` names, or none if it isn't there
+abbrev pub IsDbIn : {A : Type 0} → Option (String A) → List Row → Type 0
+IsDbIn {A} db rows = first_of (codes "db") rows ≡ option_map string_bytes db
+
+abbrev pub IsRunIn : Job → List Row → Type 0
+IsRunIn (Run db) rows = IsDbIn db rows
+IsRunIn (Serve port count db) rows = ⊥
+IsRunIn (Report file) rows = ⊥
+
 abbrev pub IsServeIn : Job → List Row → Type 0
-IsServeIn Run rows = ⊥
-IsServeIn (Serve port count) rows = IsNumber port (one_of (codes "port") rows) × IsNumber count (one_of (codes "count") rows)
+IsServeIn (Run db) rows = ⊥
+IsServeIn (Serve port count db) rows = AreNumbersIn port count rows × IsDbIn db rows
 IsServeIn (Report file) rows = ⊥
 
 abbrev pub IsFileIn : Job → List Row → Type 0
-IsFileIn Run rows = ⊥
-IsFileIn (Serve port count) rows = ⊥
+IsFileIn (Run db) rows = ⊥
+IsFileIn (Serve port count db) rows = ⊥
 IsFileIn (Report file) rows = first_of (codes "FILE") rows ≡ Some (string_bytes file)
 
--- no command is the command `run`
+-- no command is the command `run` without its option
 abbrev pub IsJobIn : Job → Option (Text × List Row) → Type 0
-IsJobIn Run command = (command ≡ None) ⊎ ((rows : List Row) × (command ≡ Some (codes "run", rows)))
-IsJobIn (Serve port count) command = (rows : List Row) × (command ≡ Some (codes "serve", rows)) × IsServeIn (Serve port count) rows
+IsJobIn (Run db) command =
+    ((command ≡ None) × (db ≡ None)) ⊎ ((rows : List Row) × (command ≡ Some (codes "run", rows)) × IsRunIn (Run db) rows)
+IsJobIn (Serve port count db) command = (rows : List Row) × (command ≡ Some (codes "serve", rows)) × IsServeIn (Serve port count db) rows
 IsJobIn (Report file) command = (rows : List Row) × (command ≡ Some (codes "report", rows)) × IsFileIn (Report file) rows
 
 -- the words ask for this job, and have no mistake

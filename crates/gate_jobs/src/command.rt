@@ -2,7 +2,7 @@ ghost use Rattle.std.specs.Prelude.{◌≡◌, false, pos, map, IfOk};
 ghost use Rattle.clap.specs.Words.{FailsBy, app_of, fault_of, new_app, rule_of, subcommand_of, subcommand_rows_of, with_subcommand};
 ghost use Rattle.clap.specs.declared.builder.command.Command.TheViews.{out-Command as fields_of};
 ghost use Rattle.clap.specs.declared.builder.value_parser.ValueParser.TheVariants.{Signed};
-ghost use Rattle.gate_jobs.specs.Words.{bare_words, file_rule, gate_words, number_rule, report_words, run_words, serve_words};
+ghost use Rattle.gate_jobs.specs.Words.{bare_words, db_rule, file_rule, gate_words, number_rule, numbered_words, report_words, run_words, serve_words};
 
 use clap::builder::ValueParser;
 use clap::{Arg, ArgMatches, Command, Error, value_parser};
@@ -15,24 +15,25 @@ pub const MAX_COUNT: u32 = 1_000_000;
 const ABOUT: &str = "\
 gate 0.9.0
 A merge bot: it is told what happened to the changes of a project, and answers each delivery with what is to be done.
-It keeps its records in memory, so they are gone when it ends.";
+It keeps its records in a database file, or in memory, and then they are gone when it ends.";
 
 const USAGE: &str = "\
-gate [run]
-       gate serve --port <N> --count <N>
+gate [run [--db <FILE>]]
+       gate serve --port <N> --count <N> [--db <FILE>]
        gate report <FILE>";
 
 const MORE: &str = "\
 Examples:
   gate < deliveries.jsonl
-  gate serve --port 8080 --count 100
+  gate run --db gate.db < deliveries.jsonl
+  gate serve --port 8080 --count 100 --db gate.db
   gate report deliveries.jsonl
 
 docs/formats.md describes deliveries and their answers.";
 
 // What is told of each job.
 const RUN: &str =
-    "Answer the deliveries on standard input, one on each line; gate without words does the same";
+    "Answer the deliveries on standard input, one on each line; gate without words does it in memory";
 
 const SERVE: &str =
     "Answer deliveries over HTTP on 127.0.0.1, on so many connections one after the other";
@@ -43,6 +44,8 @@ const REPORT: &str = "Print the queue as it is after the deliveries of a file, o
 const PORT: &str = "The port to listen on, from 1 to 65535";
 
 const COUNT: &str = "How many connections to serve, from 1 to 1000000";
+
+const DB: &str = "The database file that keeps the records; it is made if it isn't there";
 
 const FILE: &str = "The file with the deliveries";
 
@@ -67,6 +70,14 @@ fn number<'a>(alloc: Global, name: &'a str, help: &'a str, limits: ValueParser<'
         .value_parser(limits)
 }
 
+// The option that names a database file. It may be left out.
+fn db<'a>(alloc: Global) -> Arg<'a>
+    ensures rule { rule_of result ≡ db_rule }
+    ensures local { result.global ≡ false }
+{
+    Arg::new(alloc, "db").long("db").value_name("FILE").help(DB)
+}
+
 fn ports<'a>() -> ValueParser<'a>
     ensures { result ≡ Signed (pos 1) (pos 65535) }
 {
@@ -79,13 +90,30 @@ fn counts<'a>() -> ValueParser<'a>
     value_parser!(u32).range(1..=i64::from(MAX_COUNT))
 }
 
+fn run_command<'a>(alloc: Global) -> Result<Command<'a>, AllocError>
+    ensures words { IfOk result (λ made. app_of made ≡ run_words) }
+    ensures local { IfOk result (λ made. (fields_of made).has_globals ≡ false) }
+{
+    command(alloc, "run", "gate run [--db <FILE>]", RUN).arg(db(alloc))
+}
+
+const SERVE_USAGE: &str = "gate serve --port <N> --count <N> [--db <FILE>]";
+
+// `serve` with its port and its count.
+fn numbered_command<'a>(alloc: Global) -> Result<Command<'a>, AllocError>
+    ensures words { IfOk result (λ made. app_of made ≡ numbered_words) }
+    ensures local { IfOk result (λ made. (fields_of made).has_globals ≡ false) }
+{
+    command(alloc, "serve", SERVE_USAGE, SERVE)
+        .arg(number(alloc, "port", PORT, ports()))?
+        .arg(number(alloc, "count", COUNT, counts()))
+}
+
 fn serve_command<'a>(alloc: Global) -> Result<Command<'a>, AllocError>
     ensures words { IfOk result (λ made. app_of made ≡ serve_words) }
     ensures local { IfOk result (λ made. (fields_of made).has_globals ≡ false) }
 {
-    command(alloc, "serve", "gate serve --port <N> --count <N>", SERVE)
-        .arg(number(alloc, "port", PORT, ports()))?
-        .arg(number(alloc, "count", COUNT, counts()))
+    numbered_command(alloc)?.arg(db(alloc))
 }
 
 // The file that is to be read.
@@ -116,7 +144,8 @@ fn bare_gate<'a>(alloc: Global) -> Command<'a>
 fn with_run<'a>(alloc: Global) -> Result<Command<'a>, AllocError>
     ensures { IfOk result (λ made. app_of made ≡ with_subcommand bare_words run_words.top) }
 {
-    bare_gate(alloc).subcommand(command(alloc, "run", "gate run", RUN))
+    let run = run_command(alloc)?;
+    bare_gate(alloc).subcommand(run)
 }
 
 fn with_serve<'a>(alloc: Global) -> Result<Command<'a>, AllocError>

@@ -1,6 +1,6 @@
 ghost use Rattle.std.specs.Prelude.{◌≡◌, map, IfOk, IfErr, IfSome};
 ghost use Rattle.clap.specs.Words.{found_of, kind_of, rows_of, subcommand_rows_of};
-ghost use Rattle.gate_jobs.specs.Words.{IsAskedFor, IsFileIn, IsJobIn, IsRefusedBy, IsServeIn, IsToldBy, IsUsage, IsWithinLimits};
+ghost use Rattle.gate_jobs.specs.Words.{AreNumbersIn, AreWithinLimits, IsAskedFor, IsDbIn, IsFileIn, IsJobIn, IsRefusedBy, IsRunIn, IsServeIn, IsToldBy, IsUsage, IsWithinLimits};
 
 use crate::command::{MAX_COUNT, matches_in};
 use clap::error::ErrorKind;
@@ -15,12 +15,20 @@ const NO_TEXT: &str = "error: a word isn't UTF-8\n";
 /// What the program is asked to do.
 #[derive(Debug, PartialEq, Eq, Drop)]
 pub enum Job {
-    /// To serve the lines of standard input.
-    Run,
-    /// To serve so many connections on a port of 127.0.0.1.
-    Serve { port: u16, count: u32 },
+    /// To serve the lines of standard input, over the records in a database file, or over new ones in memory.
+    Run {
+        db: Option<String>,
+    },
+    /// To serve so many connections on a port of 127.0.0.1, over the same.
+    Serve {
+        port: u16,
+        count: u32,
+        db: Option<String>,
+    },
     /// To report the queue after the lines of a file.
-    Report { file: String },
+    Report {
+        file: String,
+    },
 }
 
 /// Why words ask for no job.
@@ -45,18 +53,48 @@ impl From<AllocError> for WordsFault {
     }
 }
 
-// The job of `serve` with these options. The limits are those of the command; they are looked at again, so that what is said of
-// them doesn't rest on it.
-fn serve_job(options: &ArgMatches<'_>) -> Option<Job>
-    ensures limits { IfSome result IsWithinLimits }
-    ensures job { IfSome result (λ job. IsServeIn job (rows_of (found_of options.now))) }
+// The file that `--db` names, if it is among the options.
+fn db_in(alloc: Global, options: &ArgMatches<'_>) -> Result<Option<String>, AllocError>
+    ensures { IfOk result (λ db. IsDbIn db (rows_of (found_of options.now))) }
+{
+    match options.get_str("db") {
+        Some(file) => Ok(Some(String::from_str(alloc, file)?)),
+        None => Ok(None),
+    }
+}
+
+fn run_job(alloc: Global, options: &ArgMatches<'_>) -> Result<Job, AllocError>
+    ensures limits { IfOk result IsWithinLimits }
+    ensures job { IfOk result (λ job. IsRunIn job (rows_of (found_of options.now))) }
+{
+    Ok(Job::Run {
+        db: db_in(alloc, options)?,
+    })
+}
+
+// The port and the count of `serve`. The limits are those of the command; they are looked at again, so that what is said of them
+// doesn't rest on it.
+fn numbers_in(options: &ArgMatches<'_>) -> Option<(u16, u32)>
+    ensures limits { IfSome result (λ numbers. AreWithinLimits numbers.0 numbers.1) }
+    ensures numbers { IfSome result (λ numbers. AreNumbersIn numbers.0 numbers.1 (rows_of (found_of options.now))) }
 {
     let port = options.get_one::<u16>("port")?;
     let count = options.get_one::<u32>("count")?;
     if port == 0 || count == 0 || count > MAX_COUNT {
         return None;
     }
-    Some(Job::Serve { port, count })
+    Some((port, count))
+}
+
+fn serve_job(alloc: Global, options: &ArgMatches<'_>) -> Result<Option<Job>, AllocError>
+    ensures limits { IfOk result (λ job. IfSome job IsWithinLimits) }
+    ensures job { IfOk result (λ job. IfSome job (λ job. IsServeIn job (rows_of (found_of options.now)))) }
+{
+    let Some((port, count)) = numbers_in(options) else {
+        return Ok(None);
+    };
+    let db = db_in(alloc, options)?;
+    Ok(Some(Job::Serve { port, count, db }))
 }
 
 fn report_job(alloc: Global, options: &ArgMatches<'_>) -> Result<Option<Job>, AllocError>
@@ -75,8 +113,9 @@ fn job_in(alloc: Global, matches: &ArgMatches<'_>) -> Result<Option<Job>, AllocE
     ensures job { IfOk result (λ job. IfSome job (λ job. IsJobIn job (subcommand_rows_of matches.now))) }
 {
     match matches.subcommand() {
-        None | Some(("run", _)) => Ok(Some(Job::Run)),
-        Some(("serve", options)) => Ok(serve_job(options)),
+        None => Ok(Some(Job::Run { db: None })),
+        Some(("run", options)) => Ok(Some(run_job(alloc, options)?)),
+        Some(("serve", options)) => serve_job(alloc, options),
         Some(("report", options)) => report_job(alloc, options),
         Some(_) => Ok(None),
     }

@@ -1,8 +1,10 @@
 -- THE ROWS OF BOTH SCHEMA VERSIONS. In version 1 the lists of the settings stand among the marks, of no change.
-use Rattle.std.specs.Prelude.{◌≡◌, IsOk, ℕ, ℤ, pos, Bool, List, [], ◌++◌, map, if◌then◌else◌}
+use Rattle.std.specs.Prelude.{◌≡◌, ◌⊎◌, IsOk, ℕ, ℤ, pos, Bool, List, [], ◌++◌, map, if◌then◌else◌}
+use Rattle.std.specs.FinMap.{empty}
 use Rattle.std.specs.List.{AllByRecursion}
 use Rattle.std.specs.Ordering.{int_eq}
 use Rattle.gate_text.specs.SmallTexts.{delivery_id_of}
+use Rattle.gate_queue.specs.Machine.{empty_state}
 use Rattle.gate_state.specs.State.{IsState}
 use Rattle.gate_state.specs.declared.state.State.{State}
 use Rattle.gate_store.specs.Answers.{answer_text_of}
@@ -15,7 +17,8 @@ use Rattle.gate_tables.specs.Applied.{applied}
 use Rattle.gate_tables.specs.Contents.{AreSame, answers_at}
 use Rattle.gate_tables.specs.Differences.{HaveKeys}
 use Rattle.gate_tables.specs.Forms as forms
-use Rattle.gate_tables.specs.Schemas.{lacks_wanted, stored_rows}
+use Rattle.gate_tables.specs.Database.{schema_of}
+use Rattle.gate_tables.specs.Schemas.{HasTables, lacks_wanted, stored_rows}
 use Rattle.gate_tables.specs.declared.change.RowChange.{RowChange}
 use Rattle.gate_tables.specs.declared.row.DeskRow.{DeskRow}
 use Rattle.gate_tables.specs.declared.row.MarkRow.{MarkRow}
@@ -56,6 +59,11 @@ pub record StandsFor (db : Database) (records : Records) : Type 0 where
   pub rows_are : AreSame (stored_rows db) (rows_as (lacks_wanted db.schema) (rows_of records.state))
   pub identified : AllByRecursion (λ entry. IsOk (delivery_id_of entry.0)) (forms.rows_of forms.answers db.trees)
   pub texts_are : AreTextsOf records.kept (answers_at db.trees)
+
+-- WHAT A DATABASE IS OPENED AS: what it stands for, or, if it has no table, index or view, the empty state without answers
+abbrev pub OpensAs : Database → Records → Type 0
+OpensAs db records =
+    ((db.schema ≡ schema_of []) × (records ≡ record { state = empty_state 1; kept = empty })) ⊎ (HasTables db × StandsFor db records)
 
 -- For private clauses: texts of answers under identifiers of deliveries.
 abbrev pub IsKeptAnswer : List ℕ × List ℕ → Type 0

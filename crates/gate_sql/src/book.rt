@@ -10,9 +10,9 @@ ghost use Rattle.gate_tables.specs.Database.{schema_of};
 ghost use Rattle.gate_sql.specs.Encoding as encoding;
 ghost use Rattle.gate_sql.specs.Faults.{MayRefuse};
 ghost use Rattle.gate_sql.specs.Shown.{shown, Holds, IsHeld};
-ghost use Rattle.gate_sql.specs.Versions.{StandsFor};
+ghost use Rattle.gate_sql.specs.Versions.{OpensAs, StandsFor};
 ghost use Rattle.gate_tables.specs.Schemas.{HasTables, lacks_wanted};
-ghost use Rattle.gate_tables.specs.Tables.{is_sound, rows_in, answers_in, IsBook};
+ghost use Rattle.gate_tables.specs.Tables.{is_honest, is_sound, rows_in, answers_in, IsBook};
 ghost use Rattle.gate_store.specs.Answers.{answer_text_of};
 ghost use Rattle.gate_store.specs.Reading.{answer_of};
 ghost use Rattle.gate_store.specs.Run.{IsOfBooks, kept_under, with_answer};
@@ -80,6 +80,8 @@ impl<S: Alter> SqlBook<S> {
         ensures mode { IfErr result (λ refused. refused.connection.in_transaction ≡ false) }
         ensures fault { IfErr result (λ refused. IsOfBooks refused.fault) }
         ensures was { IfOk result (λ book. is_sound S.Store book → is_sound S.Store connection) }
+        ensures honest { IfOk result (λ book. is_honest S.Store book → is_honest S.Store connection) }
+        ensures stays { IfOk result (λ book. is_honest S.Store book → is_sound S.Store book) }
         ensures was_refused { IfErr result (λ refused. is_sound S.Store refused.connection → is_sound S.Store connection) }
     {
         if !is_blank(connection.schema()) {
@@ -121,14 +123,15 @@ impl<S: Alter> SqlBook<S> {
     /// the database fails. `Memory` if there is no memory for it.
     pub fn open(alloc: Global, connection: Connection<S>) -> Result<SqlBook<S>, Refused<S>>
         requires { connection.in_transaction ≡ false }
-        ensures blank { (state S.Store connection).now.schema ≡ schema_of [] → IfOk result (λ book. is_sound S.Store book → shown S.Store book ≡ record { state = empty_state 1; kept = empty }) }
-        ensures stands { HasTables (state S.Store connection).now → IfOk result (λ book. is_sound S.Store book → StandsFor (state S.Store connection).now (shown S.Store book)) }
+        ensures stands { IfOk result (λ book. is_sound S.Store book → OpensAs (state S.Store connection).now (shown S.Store book)) }
         ensures holds { IfOk result (λ book. is_sound S.Store book → Holds S.Store book) }
         ensures others { (state S.Store connection).now.schema ≢ schema_of [] → ¬ HasTables (state S.Store connection).now → IsErrAnd result (λ refused. IsOfBooks refused.fault) }
         ensures same { IfErr result (λ refused. is_sound S.Store refused.connection → (state S.Store refused.connection).now ≡ (state S.Store connection).now) }
         ensures mode { IfErr result (λ refused. refused.connection.in_transaction ≡ false) }
         ensures fault { IfErr result (λ refused. IsOfBooks refused.fault ⊎ ((refused.fault ≡ Fault.Foreign) × HasTables (state S.Store connection).now)) }
         ensures was { IfOk result (λ book. is_sound S.Store book → is_sound S.Store connection) }
+        ensures honest { IfOk result (λ book. is_honest S.Store book → is_honest S.Store connection) }
+        ensures stays { IfOk result (λ book. is_honest S.Store book → is_sound S.Store book) }
         ensures was_refused { IfErr result (λ refused. is_sound S.Store refused.connection → is_sound S.Store connection) }
     {
         match found_in(alloc, connection.schema()) {
@@ -156,12 +159,14 @@ impl<S: Alter> SqlBook<S> {
 impl<S: Alter> Book for SqlBook<S> {
     ghost use Rattle.gate_store.specs.Run.{IsOfBooks};
     ghost use Rattle.gate_sql.specs.Shown.{shown};
-    ghost use Rattle.gate_tables.specs.Tables.{is_sound};
+    ghost use Rattle.gate_tables.specs.Tables.{is_honest, is_sound};
 
     ghost shows = { λ book. shown S.Store book };
 
     // The disk has returned what was written, and no fault has shut the connection.
     ghost is_sound = { λ book. is_sound S.Store book };
+
+    ghost is_honest = { λ book. is_honest S.Store book };
 
     ghost may_answer = { IsOfBooks };
 
@@ -196,6 +201,8 @@ impl<S: Alter> Book for SqlBook<S> {
         ensures err { is_sound S.Store self.new → OnErr result (shown S.Store self.new ≡ shown S.Store self.old) }
         ensures holds { is_sound S.Store self.new → Holds S.Store self.new }
         ensures was { is_sound S.Store self.new → is_sound S.Store self.old }
+        ensures honest { is_honest S.Store self.new → is_honest S.Store self.old }
+        ensures stays { is_honest S.Store self.new → OnOk result (is_sound S.Store self.new) }
         ensures cause { IfErr result IsOfBooks }
         ensures fault { IfErr result IsOfBooks }
     {
@@ -236,6 +243,8 @@ impl<S: Alter> Book for SqlBook<S> {
         ensures err { is_sound S.Store self.new → OnErr result (shown S.Store self.new ≡ shown S.Store self.old) }
         ensures holds { is_sound S.Store self.new → Holds S.Store self.new }
         ensures was { is_sound S.Store self.new → is_sound S.Store self.old }
+        ensures honest { is_honest S.Store self.new → is_honest S.Store self.old }
+        ensures stays { is_honest S.Store self.new → OnOk result (is_sound S.Store self.new) }
         ensures cause { IfErr result IsOfBooks }
         ensures fault { IfErr result IsOfBooks }
     {
@@ -270,6 +279,8 @@ fn adopt<S: Alter>(
     ensures mode { IfErr result (λ refused. refused.connection.in_transaction ≡ false) }
     ensures fault { IfErr result (λ refused. MayRefuse refused.fault) }
     ensures was { IfOk result (λ book. is_sound S.Store book → is_sound S.Store connection) }
+    ensures honest { IfOk result (λ book. is_honest S.Store book → is_honest S.Store connection) }
+    ensures stays { IfOk result (λ book. is_honest S.Store book → is_sound S.Store book) }
     ensures was_refused { IfErr result (λ refused. is_sound S.Store refused.connection → is_sound S.Store connection) }
 {
     law_of_rows();
@@ -332,6 +343,7 @@ fn changes_to<S: Alter>(
         → IfOk result (λ changes. AreSame (applied changes.items (rows_in S.Store tables.old)) (encoding.rows_of gate.now)) }
     ensures same { is_sound S.Store tables.new → (rows_in S.Store tables.new ≡ rows_in S.Store tables.old) × (answers_in S.Store tables.new ≡ answers_in S.Store tables.old) }
     ensures was { is_sound S.Store tables.new → is_sound S.Store tables.old }
+    ensures honest { is_honest S.Store tables.new → is_honest S.Store tables.old }
     ensures book { is_sound S.Store tables.new → IsBook (state S.Store tables.new) }
 {
     law_of_changed_rows();

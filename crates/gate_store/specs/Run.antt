@@ -114,3 +114,14 @@ IsOfBooks fault = (fault ≡ Memory) ⊎ (fault ≡ Store)
 
 abbrev pub IsOfKeepers : (Fault → Type 0) → Fault → Type 0
 IsOfKeepers may_answer fault = IsOfActs fault ⊎ may_answer fault
+
+-- Only `Memory` and `Store` may have shut a book. After anything else it is still sound. (`Foreign` is never answered.)
+abbrev pub IsOpenAfter : Fault → (sound : Type 0) → Type 0
+IsOpenAfter Full sound = sound
+IsOpenAfter Memory sound = ⊤
+IsOpenAfter Store sound = ⊤
+IsOpenAfter Foreign sound = ⊤
+
+abbrev pub StaysOpen : {X : Type 0} → Result X Fault → (sound : Type 0) → Type 0
+StaysOpen (Ok _) sound = sound
+StaysOpen (Err fault) sound = IsOpenAfter fault sound

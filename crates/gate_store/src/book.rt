@@ -10,7 +10,8 @@ use gate_text::DeliveryId;
 use std::alloc::Global;
 
 /// Records: the state of the machine, and the answer that is kept under each identifier. The clauses are the laws of a book,
-/// under the book's premise; all that the keeper of a book promises rests on them alone.
+/// under the book's premise; all that the keeper of a book promises rests on them alone. A call that succeeds leaves a book that is
+/// still sound, if it is honest.
 ///
 /// A fault is `Memory` or `Store`, and changes nothing.
 pub trait Book {
@@ -22,6 +23,10 @@ pub trait Book {
     // The premise under which it shows that.
     ghost is_sound: { Self → Type 0 };
 
+    // The part of it that no call can see: what is beneath the book has given back what was handed to it. The other part is that no
+    // fault has shut the book.
+    ghost is_honest: { Self → Type 0 };
+
     // The faults that it may answer.
     ghost may_answer: { FaultOf → Type 0 };
 
@@ -30,6 +35,8 @@ pub trait Book {
         ensures gate { is_sound self.new → IfOk result (λ gate. gate ≡ (shows self.old).state) }
         ensures same { is_sound self.new → shows self.new ≡ shows self.old }
         ensures was { is_sound self.new → is_sound self.old }
+        ensures honest { is_honest self.new → is_honest self.old }
+        ensures stays { is_honest self.new → OnOk result (is_sound self.new) }
         ensures cause { IfErr result may_answer }
         ensures fault { IfErr result IsOfBooks };
 
@@ -38,6 +45,8 @@ pub trait Book {
         ensures answer { is_sound self.new → IfOk result (λ answer. answer ≡ kept_under (shows self.old) id.now) }
         ensures same { is_sound self.new → shows self.new ≡ shows self.old }
         ensures was { is_sound self.new → is_sound self.old }
+        ensures honest { is_honest self.new → is_honest self.old }
+        ensures stays { is_honest self.new → OnOk result (is_sound self.new) }
         ensures cause { IfErr result may_answer }
         ensures fault { IfErr result IsOfBooks };
 
@@ -53,6 +62,8 @@ pub trait Book {
         ensures ok { is_sound self.new → OnOk result (shows self.new ≡ with_answer (shows self.old) gate.now id.now answer.now) }
         ensures err { is_sound self.new → OnErr result (shows self.new ≡ shows self.old) }
         ensures was { is_sound self.new → is_sound self.old }
+        ensures honest { is_honest self.new → is_honest self.old }
+        ensures stays { is_honest self.new → OnOk result (is_sound self.new) }
         ensures cause { IfErr result may_answer }
         ensures fault { IfErr result IsOfBooks };
 
@@ -74,6 +85,8 @@ pub trait Book {
         ensures ok { is_sound self.new → OnOk result (shows self.new ≡ with_answer (shows self.old) gate.now id.now answer.now) }
         ensures err { is_sound self.new → OnErr result (shows self.new ≡ shows self.old) }
         ensures was { is_sound self.new → is_sound self.old }
+        ensures honest { is_honest self.new → is_honest self.old }
+        ensures stays { is_honest self.new → OnOk result (is_sound self.new) }
         ensures cause { IfErr result may_answer }
         ensures fault { IfErr result IsOfBooks }
     {

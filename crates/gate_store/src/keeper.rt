@@ -7,7 +7,7 @@ ghost use Rattle.gate_queue.specs.History.{Entry, Legal, StateTells};
 ghost use Rattle.gate_store.specs.Answers.{answer_text_of};
 ghost use Rattle.gate_store.specs.Reading.{answer_of};
 ghost use Rattle.gate_store.specs.Headline.{Each, Headline, HistoryTells, Tells, acts_of_all, first_in};
-ghost use Rattle.gate_store.specs.Run.{AgreesOnFull, IsFullBefore, IsOfBooks, IsOfKeepers, NoneMeetsFull, StopsBefore, acts_in, acts_meet_full, after_deliveries, after_delivery, answer_to, answers_to, kept_under, meets_full, new_acts, replies_to, stepped, with_answer};
+ghost use Rattle.gate_store.specs.Run.{AgreesOnFull, IsFullBefore, IsOfBooks, IsOfKeepers, NoneMeetsFull, StaysOpen, StopsBefore, acts_in, acts_meet_full, after_deliveries, after_delivery, answer_to, answers_to, kept_under, meets_full, new_acts, replies_to, stepped, with_answer};
 
 use crate::answers::{Answer, answer_text};
 use crate::book::Book;
@@ -68,6 +68,7 @@ impl<B: Book> Keeper<B> {
         // It changes nothing.
         ensures same { B.is_sound self.new → B.shows self.new ≡ B.shows self.old }
         ensures was { B.is_sound self.new → B.is_sound self.old }
+        ensures honest { B.is_honest self.new → B.is_honest self.old }
         ensures cause { IfErr result (λ fault. (fault ≡ Fault.Memory) ⊎ B.may_answer fault) }
         ensures fault { IfErr result IsOfBooks }
     {
@@ -78,7 +79,7 @@ impl<B: Book> Keeper<B> {
     /// The gate, lent. It changes nothing but that a gate is at hand then, so the book is asked for it once, and no copy is made. The
     /// faults are those of `gate`.
     pub fn look(&mut self, alloc: Global) -> Result<&Gate, Fault>
-        ensures* rests { sem 𝓛 (Rests (the_row B.row B.Book) self.entry (λ new. Looked B.shows B.is_sound self.old new result)) }
+        ensures* rests { sem 𝓛 (Rests (the_row B.row B.Book) self.entry (λ new. Looked B.shows B.is_sound B.is_honest self.old new result)) }
         ensures cause { IfErr result (λ fault. (fault ≡ Fault.Memory) ⊎ B.may_answer fault) }
         ensures fault { IfErr result IsOfBooks }
     {
@@ -95,6 +96,7 @@ impl<B: Book> Keeper<B> {
         ensures gate { B.is_sound self.new → IfOk result (λ gate. gate ≡ (B.shows self.old).state) }
         ensures same { B.is_sound self.new → B.shows self.new ≡ B.shows self.old }
         ensures was { B.is_sound self.new → B.is_sound self.old }
+        ensures honest { B.is_honest self.new → B.is_honest self.old }
         ensures cause { IfErr result (λ fault. (fault ≡ Fault.Memory) ⊎ B.may_answer fault) }
         ensures fault { IfErr result IsOfBooks }
     {
@@ -123,6 +125,8 @@ impl<B: Book> Keeper<B> {
         ensures full { B.is_sound self.new → AgreesOnFull result (meets_full (B.shows self.old) delivery.now) }
         ensures cause { IfErr result (IsOfKeepers B.may_answer) }
         ensures was { B.is_sound self.new → B.is_sound self.old }
+        ensures honest { B.is_honest self.new → B.is_honest self.old }
+        ensures stays { B.is_honest self.new → StaysOpen result (B.is_sound self.new) }
     {
         self.answer(alloc, delivery)
     }
@@ -143,6 +147,8 @@ impl<B: Book> Keeper<B> {
         ensures full { B.is_sound self.new → AgreesOnFull result (meets_full (B.shows self.old) delivery.now) }
         ensures cause { IfErr result (IsOfKeepers B.may_answer) }
         ensures was { B.is_sound self.new → B.is_sound self.old }
+        ensures honest { B.is_honest self.new → B.is_honest self.old }
+        ensures stays { B.is_honest self.new → StaysOpen result (B.is_sound self.new) }
     {
         self.text(alloc, delivery)
     }
@@ -150,35 +156,38 @@ impl<B: Book> Keeper<B> {
     /// Answers deliveries in order, and stops at the first fault. With the answers comes the fault, if there was one; then the
     /// answers are those of the deliveries before it, and the records are as these have left them.
     pub fn run(&mut self, alloc: Global, deliveries: &[Delivery]) -> (Vec<Answer>, Option<Fault>)
-        // The answers and the records are those of the run on the deliveries that were answered.
-        ensures answers { B.is_sound self.new → result.0.items ≡ answers_to (B.shows self.old) (take (length result.0.items) deliveries.now) }
+        // The answers are those of the run on the deliveries that were answered, also if a fault has shut the book after that. If it is
+        // still sound, so are the records.
+        ensures answers { B.is_honest self.new → result.0.items ≡ answers_to (B.shows self.old) (take (length result.0.items) deliveries.now) }
         ensures book { B.is_sound self.new → B.shows self.new ≡ after_deliveries (B.shows self.old) (take (length result.0.items) deliveries.now) }
 
         // The headline for these, and all that the history tells.
-        ensures headline { B.is_sound self.new → Headline (B.shows self.old) (take (length result.0.items) deliveries.now) result.0.items (B.shows self.new) }
-        ensures history { B.is_sound self.new → (history : List Entry) → Legal history (B.shows self.old).state → HistoryTells (B.shows self.old) (take (length result.0.items) deliveries.now) (B.shows self.new) history }
+        ensures headline { B.is_honest self.new → Headline (B.shows self.old) (take (length result.0.items) deliveries.now) result.0.items (after_deliveries (B.shows self.old) (take (length result.0.items) deliveries.now)) }
+        ensures history { B.is_honest self.new → (history : List Entry) → Legal history (B.shows self.old).state → HistoryTells (B.shows self.old) (take (length result.0.items) deliveries.now) (after_deliveries (B.shows self.old) (take (length result.0.items) deliveries.now)) history }
 
         // All are answered, or the fault came at the next one. No delivery that is answered met a full gate, and at `Full` the next
         // one does.
         ensures stops { StopsBefore result.1 (drop (length result.0.items) deliveries.now) }
-        ensures room { B.is_sound self.new → NoneMeetsFull (B.shows self.old) (take (length result.0.items) deliveries.now) }
+        ensures room { B.is_honest self.new → NoneMeetsFull (B.shows self.old) (take (length result.0.items) deliveries.now) }
         ensures full { B.is_sound self.new → IsFullBefore result.1 (B.shows self.new) (drop (length result.0.items) deliveries.now) }
         ensures cause { IfSome result.1 (IsOfKeepers B.may_answer) }
         ensures was { B.is_sound self.new → B.is_sound self.old }
+        ensures honest { B.is_honest self.new → B.is_honest self.old }
     {
         self.answer_all(alloc, deliveries)
     }
 
     // Answers deliveries in order, and stops at the first fault. It makes room for an answer before it answers.
     fn answer_all(&mut self, alloc: Global, deliveries: &[Delivery]) -> (Vec<Answer>, Option<Fault>)
-        ensures answers { B.is_sound self.new → result.0.items ≡ answers_to (B.shows self.old) (take (length result.0.items) deliveries.now) }
+        ensures answers { B.is_honest self.new → result.0.items ≡ answers_to (B.shows self.old) (take (length result.0.items) deliveries.now) }
         ensures book { B.is_sound self.new → B.shows self.new ≡ after_deliveries (B.shows self.old) (take (length result.0.items) deliveries.now) }
-        ensures history { B.is_sound self.new → (history : List Entry) → Legal history (B.shows self.old).state → Each Tells history (B.shows self.old).state (acts_of_all (first_in (B.shows self.old) (take (length result.0.items) deliveries.now))) }
+        ensures history { B.is_honest self.new → (history : List Entry) → Legal history (B.shows self.old).state → Each Tells history (B.shows self.old).state (acts_of_all (first_in (B.shows self.old) (take (length result.0.items) deliveries.now))) }
         ensures stops { StopsBefore result.1 (drop (length result.0.items) deliveries.now) }
-        ensures room { B.is_sound self.new → NoneMeetsFull (B.shows self.old) (take (length result.0.items) deliveries.now) }
+        ensures room { B.is_honest self.new → NoneMeetsFull (B.shows self.old) (take (length result.0.items) deliveries.now) }
         ensures full { B.is_sound self.new → IsFullBefore result.1 (B.shows self.new) (drop (length result.0.items) deliveries.now) }
         ensures cause { IfSome result.1 (IsOfKeepers B.may_answer) }
         ensures was { B.is_sound self.new → B.is_sound self.old }
+        ensures honest { B.is_honest self.new → B.is_honest self.old }
     {
         let mut answers = Vec::new(alloc);
         for delivery in deliveries {
@@ -202,6 +211,8 @@ impl<B: Book> Keeper<B> {
         ensures full { B.is_sound self.new → AgreesOnFull result (meets_full (B.shows self.old) delivery.now) }
         ensures cause { IfErr result (IsOfKeepers B.may_answer) }
         ensures was { B.is_sound self.new → B.is_sound self.old }
+        ensures honest { B.is_honest self.new → B.is_honest self.old }
+        ensures stays { B.is_honest self.new → StaysOpen result (B.is_sound self.new) }
     {
         if let Some(answer) = self.book.kept(alloc, &delivery.id)? {
             return Ok(answer);
@@ -219,6 +230,8 @@ impl<B: Book> Keeper<B> {
         ensures full { B.is_sound self.new → AgreesOnFull result (meets_full (B.shows self.old) delivery.now) }
         ensures cause { IfErr result (IsOfKeepers B.may_answer) }
         ensures was { B.is_sound self.new → B.is_sound self.old }
+        ensures honest { B.is_honest self.new → B.is_honest self.old }
+        ensures stays { B.is_honest self.new → StaysOpen result (B.is_sound self.new) }
     {
         if let Some(kept) = self.book.kept(alloc, &delivery.id)? {
             return Ok(answer_text(alloc, &kept)?);
@@ -230,6 +243,7 @@ impl<B: Book> Keeper<B> {
     // Lets a delivery act whose identifier has no kept answer. Once the gate is taken, a fault leaves none at hand.
     fn step(&mut self, alloc: Global, delivery: &Delivery) -> Result<Acted, Fault>
         requires free { B.is_sound self.old → kept_under (B.shows self.old) delivery.now.id ≡ None }
+        requires sound { B.is_honest self.old → B.is_sound self.old }
         ensures answer { B.is_sound self.new → IfOk result (λ acted. acted.answer ≡ replies_to (B.shows self.old).state (acts_in delivery.now)) }
         ensures text { IfOk result (λ acted. string_bytes acted.text ≡ answer_text_of acted.answer) }
         ensures book { B.is_sound self.new → OnOk result (B.shows self.new ≡ stepped (B.shows self.old) delivery.now) }
@@ -238,6 +252,8 @@ impl<B: Book> Keeper<B> {
         ensures full { B.is_sound self.new → AgreesOnFull result (acts_meet_full (B.shows self.old).state (acts_in delivery.now)) }
         ensures cause { IfErr result (IsOfKeepers B.may_answer) }
         ensures was { B.is_sound self.new → B.is_sound self.old }
+        ensures honest { B.is_honest self.new → B.is_honest self.old }
+        ensures stays { B.is_honest self.new → StaysOpen result (B.is_sound self.new) }
     {
         let acts = acts_of(alloc, delivery)?;
         let gate = take_gate(&mut self.gate, &mut self.book, alloc)?;
@@ -264,6 +280,8 @@ impl<B: Book> Keeper<B> {
         ensures ok { B.is_sound self.new → OnOk result (B.shows self.new ≡ with_answer (B.shows self.old) gate id.now acted.now.answer) }
         ensures err { B.is_sound self.new → OnErr result (B.shows self.new ≡ B.shows self.old) }
         ensures was { B.is_sound self.new → B.is_sound self.old }
+        ensures honest { B.is_honest self.new → B.is_honest self.old }
+        ensures stays { B.is_honest self.new → OnOk result (B.is_sound self.new) }
         ensures cause { IfErr result B.may_answer }
         ensures fault { IfErr result IsOfBooks }
     {
@@ -293,6 +311,8 @@ fn take_gate<B: Book>(
     ensures taken { at_hand.new ≡ None }
     ensures same { B.is_sound book.new → B.shows book.new ≡ B.shows book.old }
     ensures was { B.is_sound book.new → B.is_sound book.old }
+    ensures honest { B.is_honest book.new → B.is_honest book.old }
+    ensures stays { (B.is_honest book.old → B.is_sound book.old) → B.is_honest book.new → OnOk result (B.is_sound book.new) }
     ensures cause { IfErr result B.may_answer }
     ensures fault { IfErr result IsOfBooks }
 {

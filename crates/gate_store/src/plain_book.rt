@@ -69,6 +69,8 @@ impl Book for PlainBook {
     // Nothing but memory is needed.
     ghost is_sound = { λ book. Unit {0} };
 
+    ghost is_honest = { λ book. Unit {0} };
+
     ghost may_answer = { λ fault. fault ≡ Memory };
 
     fn load(&mut self, alloc: Global) -> Result<Gate, Fault> {

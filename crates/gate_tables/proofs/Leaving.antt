@@ -67,13 +67,15 @@ pub failed_keeps : (sql : List ℕ) (params : Row) (old new : State) (e : Error)
 failed_keeps sql params old new e (inl h) = ends_keep old new (failed_ends sql params old new e h)
 failed_keeps sql params old new e (inr h) = unchanged_keeps old new h.5
 
-shows_was_open : (old new : State) (sql : List ℕ) (c : Compiled) (params : Row) (rows : List Row) (r : Option Returning) → ShowsRows old new sql c params rows r → IsTrue old.is_open
-shows_was_open old new sql c params rows None h = h.3.0.was_open
-shows_was_open old new sql c params rows (Some what) h = h.1.shown.was_open
+-- rows are shown by a connection that was open, and is
+shows_open : (old new : State) (sql : List ℕ) (c : Compiled) (params : Row) (rows : List Row) (r : Option Returning) → ShowsRows old new sql c params rows r
+    → IsTrue old.is_open × IsTrue new.is_open
+shows_open old new sql c params rows None h = (h.3.0.was_open, h.3.0.is_open)
+shows_open old new sql c params rows (Some what) h = (h.1.shown.was_open, h.1.shown.is_open)
 
-pub shown_was_open : (sql : List ℕ) (params : Row) (old new : State) (rows : List Row) → Shown sql params old new rows → IsTrue old.is_open
+pub shown_open : (sql : List ℕ) (params : Row) (old new : State) (rows : List Row) → Shown sql params old new rows → IsTrue old.is_open × IsTrue new.is_open
 unfolding Shown
-shown_was_open sql params old new rows h = shows_was_open old new sql h.0 (timed params h.0.formats h.1.now) rows h.0.returning h.2
+shown_open sql params old new rows h = shows_open old new sql h.0 (timed params h.0.formats h.1.now) rows h.0.returning h.2
 
 -- an open and settled database of the tables stays so
 pub ready_after : (old new : State) → IsReady old → Leaves old new → IsTrue new.is_open → IsReady new × (new.now ≡ old.now) × (new.committed ≡ old.committed)

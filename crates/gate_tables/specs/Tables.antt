@@ -20,8 +20,13 @@ use Rattle.sqlite.specs.Tree.{Trees}
 use Rattle.sqlite.specs.declared.MemStore.{MemStore}
 
 module _ {S : Type 0} (g : Ghosts S) where
+  -- the disk has returned what was written
+  abbrev pub is_honest : Held S → Type 0
+  is_honest h = HasCleanDisk (state g h)
+
+  -- and no fault has shut the connection
   abbrev pub is_sound : Held S → Type 0
-  is_sound h = HasCleanDisk (state g h) × IsTrue (state g h).is_open
+  is_sound h = is_honest h × IsTrue (state g h).is_open
 
   abbrev pub rows_in : Held S → Rows
   rows_in h = rows_at (state g h).now.trees

@@ -73,6 +73,7 @@ fn ask<S: Alter>(conn: &mut Connection<S>, id: &str) -> Result<Vec<Row>, TablesF
     ensures left { HasCleanDisk (state S.Store conn.new) → IsReady (state S.Store conn.old) → Leaves (state S.Store conn.old) (state S.Store conn.new) }
     ensures was { HasCleanDisk (state S.Store conn.new) → IsTrue (state S.Store conn.new).is_open → IsTrue (state S.Store conn.old).is_open }
     ensures clean { HasCleanDisk (state S.Store conn.new) → HasCleanDisk (state S.Store conn.old) }
+    ensures stays { HasCleanDisk (state S.Store conn.new) → OnOk result (IsTrue (state S.Store conn.new).is_open) }
 {
     select(conn, "SELECT body FROM answers WHERE id = ?1", params![id])
 }
@@ -98,6 +99,7 @@ pub(crate) fn find_answer<S: Alter>(
     ensures left { HasCleanDisk (state S.Store conn.new) → IsReady (state S.Store conn.old) → Leaves (state S.Store conn.old) (state S.Store conn.new) }
     ensures was { HasCleanDisk (state S.Store conn.new) → IsTrue (state S.Store conn.new).is_open → IsTrue (state S.Store conn.old).is_open }
     ensures clean { HasCleanDisk (state S.Store conn.new) → HasCleanDisk (state S.Store conn.old) }
+    ensures stays { HasCleanDisk (state S.Store conn.new) → OnOk result (IsTrue (state S.Store conn.new).is_open) }
 {
     let rows = ask(conn, id)?;
     first_body(rows.as_slice())

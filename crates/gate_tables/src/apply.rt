@@ -138,6 +138,7 @@ pub(crate) fn apply_all<S: Alter>(
     ensures left { HasCleanDisk (state S.Store conn.new) → IsReady (state S.Store conn.old) → OnErr result (Leaves (state S.Store conn.old) (state S.Store conn.new)) }
     ensures was { HasCleanDisk (state S.Store conn.new) → IsTrue (state S.Store conn.new).is_open → IsTrue (state S.Store conn.old).is_open }
     ensures clean { HasCleanDisk (state S.Store conn.new) → HasCleanDisk (state S.Store conn.old) }
+    ensures stays { HasCleanDisk (state S.Store conn.new) → OnOk result (IsTrue (state S.Store conn.new).is_open) }
 {
     let mut tx = conn.transaction();
     change_all(&mut tx, changes)?;

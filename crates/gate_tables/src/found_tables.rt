@@ -3,7 +3,7 @@ ghost use Rattle.gate_tables.specs.Applied.{applied};
 ghost use Rattle.gate_tables.specs.Contents.{AreSame, answers_at};
 ghost use Rattle.gate_tables.specs.Forms.{answers, rows_of};
 ghost use Rattle.gate_tables.specs.Schemas.{HasTables, stored_rows};
-ghost use Rattle.gate_tables.specs.Tables.{is_sound, answers_in, rows_in};
+ghost use Rattle.gate_tables.specs.Tables.{is_honest, is_sound, answers_in, rows_in};
 ghost use Rattle.sqlite.specs.Held.{state};
 
 use crate::change::RowChange;
@@ -50,6 +50,7 @@ impl<S: Alter> FoundTables<S> {
         ensures same { IfErr result (λ refused. is_sound S.Store refused.connection → (state S.Store refused.connection).now ≡ (state S.Store connection).now) }
         ensures mode { IfErr result (λ refused. refused.connection.in_transaction ≡ false) }
         ensures was { IfOk result (λ found. is_sound S.Store found.0 → is_sound S.Store connection) }
+        ensures honest { IfOk result (λ found. is_honest S.Store found.0 → is_honest S.Store connection) }
         ensures was_refused { IfErr result (λ refused. is_sound S.Store refused.connection → is_sound S.Store connection) }
     {
         // That no transaction is open says that the database is as it was committed.
@@ -74,6 +75,8 @@ impl<S: Alter> FoundTables<S> {
         ensures same { IfErr result (λ refused. is_sound S.Store refused.connection → (state S.Store refused.connection).now ≡ (state S.Store self).now) }
         ensures mode { IfErr result (λ refused. refused.connection.in_transaction ≡ false) }
         ensures was { IfOk result (λ tables. is_sound S.Store tables → is_sound S.Store self) }
+        ensures honest { IfOk result (λ tables. is_honest S.Store tables → is_honest S.Store self) }
+        ensures stays { IfOk result (λ tables. is_honest S.Store tables → is_sound S.Store tables) }
         ensures was_refused { IfErr result (λ refused. is_sound S.Store refused.connection → is_sound S.Store self) }
     {
         let FoundTables { mut connection } = self;

@@ -3,7 +3,7 @@ ghost use Rattle.std.specs.FinMap.{empty, get, insert};
 ghost use Rattle.gate_tables.specs.Applied.{applied, no_rows};
 ghost use Rattle.gate_tables.specs.Contents.{AreSame};
 ghost use Rattle.gate_tables.specs.Database.{schema_of};
-ghost use Rattle.gate_tables.specs.Tables.{is_sound, rows_in, answers_in, IsBook, Stands};
+ghost use Rattle.gate_tables.specs.Tables.{is_honest, is_sound, rows_in, answers_in, IsBook, Stands};
 ghost use Rattle.sqlite.specs.Held.{state};
 
 use crate::answers::find_answer;
@@ -58,6 +58,8 @@ impl<S: Alter> Tables<S> {
         ensures same { IfErr result (λ refused. is_sound S.Store refused.connection → (state S.Store refused.connection).now ≡ (state S.Store connection).now) }
         ensures mode { IfErr result (λ refused. refused.connection.in_transaction ≡ false) }
         ensures was { IfOk result (λ tables. is_sound S.Store tables → is_sound S.Store connection) }
+        ensures honest { IfOk result (λ tables. is_honest S.Store tables → is_honest S.Store connection) }
+        ensures stays { IfOk result (λ tables. is_honest S.Store tables → is_sound S.Store tables) }
         ensures was_refused { IfErr result (λ refused. is_sound S.Store refused.connection → is_sound S.Store connection) }
     {
         // That no transaction is open says that the database is as it was committed.
@@ -106,6 +108,8 @@ impl<S: Alter> Tables<S> {
         ensures rows { is_sound S.Store self.new → IfOk result (AreSame (rows_in S.Store self.old)) }
         ensures same { is_sound S.Store self.new → (rows_in S.Store self.new ≡ rows_in S.Store self.old) × (answers_in S.Store self.new ≡ answers_in S.Store self.old) }
         ensures was { is_sound S.Store self.new → is_sound S.Store self.old }
+        ensures honest { is_honest S.Store self.new → is_honest S.Store self.old }
+        ensures stays { is_honest S.Store self.new → OnOk result (is_sound S.Store self.new) }
     {
         read(alloc, &mut self.connection)
     }
@@ -116,6 +120,8 @@ impl<S: Alter> Tables<S> {
         ensures answer { is_sound S.Store self.new → IfOk result (λ answer. answer ≡ get (answers_in S.Store self.old) id.now) }
         ensures same { is_sound S.Store self.new → (rows_in S.Store self.new ≡ rows_in S.Store self.old) × (answers_in S.Store self.new ≡ answers_in S.Store self.old) }
         ensures was { is_sound S.Store self.new → is_sound S.Store self.old }
+        ensures honest { is_honest S.Store self.new → is_honest S.Store self.old }
+        ensures stays { is_honest S.Store self.new → OnOk result (is_sound S.Store self.new) }
     {
         find_answer(&mut self.connection, id)
     }
@@ -129,6 +135,8 @@ impl<S: Alter> Tables<S> {
         ensures answers { is_sound S.Store self.new → OnOk result (answers_in S.Store self.new ≡ insert (answers_in S.Store self.old) id.now body.now) }
         ensures same { is_sound S.Store self.new → OnErr result ((rows_in S.Store self.new ≡ rows_in S.Store self.old) × (answers_in S.Store self.new ≡ answers_in S.Store self.old)) }
         ensures was { is_sound S.Store self.new → is_sound S.Store self.old }
+        ensures honest { is_honest S.Store self.new → is_honest S.Store self.old }
+        ensures stays { is_honest S.Store self.new → OnOk result (is_sound S.Store self.new) }
     {
         apply_all(&mut self.connection, changes, id, body)
     }

@@ -1,16 +1,10 @@
-use Rattle.std.proofs.Common.{◌∙◌, ◌||◌, ap, ap₂, codes}
+use Rattle.std.proofs.Common.{◌∙◌, ◌||◌, ap₂}
 use Rattle.std.proofs.lemmas.Result.{IfOk-weaker}
 use Rattle.clap.specs.Words.{with_rule}
-use Rattle.gate_jobs.specs.Words.{number_rule}
 use Rattle.gate_jobs.proofs.command.serve_command.Goals as goal
 
 pub returns-clause-words : goal.returns-clause-words
-returns-clause-words c =
-    let port = c.number.ensures.rule ∙ ap (number_rule (codes "port")) c.ports.ensures in
-    let count = c.number-2.ensures.rule ∙ ap (number_rule (codes "count")) c.counts.ensures in
-    let first = c.in_ok-arg.ensures.shape c.number.ensures.local ∙ ap₂ with_rule c.command.ensures.words port in
-    IfOk-weaker c.arg-2.result _ _ (λ made adds. adds.shape c.number-2.ensures.local ∙ ap₂ with_rule first count) c.arg-2.ensures
+returns-clause-words c = IfOk-weaker c.arg.result _ _ (λ made adds. adds.shape c.db.ensures.local ∙ ap₂ with_rule c.in_ok-numbered_command.ensures.words c.db.ensures.rule) c.arg.ensures
 
 pub returns-clause-local : goal.returns-clause-local
-returns-clause-local c = IfOk-weaker c.arg-2.result _ _ (λ made adds.
-    adds.globals ∙ ap₂ (◌||◌) (c.in_ok-arg.ensures.globals ∙ ap₂ (◌||◌) c.command.ensures.local c.number.ensures.local) c.number-2.ensures.local) c.arg-2.ensures
+returns-clause-local c = IfOk-weaker c.arg.result _ _ (λ made adds. adds.globals ∙ ap₂ (◌||◌) c.in_ok-numbered_command.ensures.local c.db.ensures.local) c.arg.ensures

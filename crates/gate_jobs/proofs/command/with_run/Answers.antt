@@ -5,4 +5,4 @@ use Rattle.gate_jobs.proofs.command.with_run.Goals as goal
 
 pub returns : goal.returns
 returns c = IfOk-weaker c.subcommand.result _ _ (λ made adds.
-    adds.shape c.command.ensures.local ∙ ap₂ (λ (a b : App). with_subcommand a b.top) c.bare_gate.ensures c.command.ensures.words) c.subcommand.ensures
+    adds.shape c.in_ok-run.ensures.local ∙ ap₂ (λ (a b : App). with_subcommand a b.top) c.bare_gate.ensures c.in_ok-run.ensures.words) c.subcommand.ensures

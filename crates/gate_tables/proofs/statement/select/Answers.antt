@@ -1,4 +1,4 @@
-use Rattle.gate_tables.proofs.Leaving.{shown_leaves, shown_was_open, failed_leaves}
+use Rattle.gate_tables.proofs.Leaving.{failed_leaves, shown_leaves, shown_open}
 use Rattle.sqlite.specs.Held.{state}
 use Rattle.sqlite.specs.Values.{bound}
 use Rattle.gate_tables.proofs.statement.select.Goals as goal
@@ -17,4 +17,8 @@ returns-in_err-query_all-clause-was g c clean =
 
 pub returns-clause-was : goal.returns-clause-was
 returns-clause-was g c clean is_open =
-    shown_was_open c.args.sql.now (bound c.args.params.now) (state g.S.Store c.args.conn.now) (state g.S.Store c.query_all.new.self) c.in_ok-query_all.field-0.items (c.in_ok-query_all.ensures.ok clean)
+    (shown_open c.args.sql.now (bound c.args.params.now) (state g.S.Store c.args.conn.now) (state g.S.Store c.query_all.new.self) c.in_ok-query_all.field-0.items (c.in_ok-query_all.ensures.ok clean)).0
+
+pub returns-clause-stays : goal.returns-clause-stays
+returns-clause-stays g c clean =
+    (shown_open c.args.sql.now (bound c.args.params.now) (state g.S.Store c.args.conn.now) (state g.S.Store c.query_all.new.self) c.in_ok-query_all.field-0.items (c.in_ok-query_all.ensures.ok clean)).1

@@ -1,5 +1,5 @@
 use Rattle.std.proofs.Common.{[]}
-use Rattle.gate_tables.proofs.Leaving.{failed_keeps, shown_unchanged, shown_was_open, unchanged_keeps}
+use Rattle.gate_tables.proofs.Leaving.{failed_keeps, shown_open, shown_unchanged, unchanged_keeps}
 use Rattle.sqlite.specs.Held.{state}
 use Rattle.gate_tables.proofs.statement.select_inside.Goals as goal
 
@@ -21,4 +21,4 @@ returns-in_err-query_all-clause-was g c clean =
 
 pub returns-clause-was : goal.returns-clause-was
 returns-clause-was g c clean is_open =
-    shown_was_open c.args.sql.now [] (state g.S.Store c.args.tx.now.conn.now) (state g.S.Store c.query_all.new.self.conn.now) c.in_ok-query_all.field-0.items (c.in_ok-query_all.ensures.ok clean)
+    (shown_open c.args.sql.now [] (state g.S.Store c.args.tx.now.conn.now) (state g.S.Store c.query_all.new.self.conn.now) c.in_ok-query_all.field-0.items (c.in_ok-query_all.ensures.ok clean)).0

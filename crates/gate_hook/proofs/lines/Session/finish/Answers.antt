@@ -1,5 +1,5 @@
 use Rattle.std.proofs.Common.{◌≡◌, ◌<◌, ◌≢◌, length, arith, rules}
-use Rattle.gate_hook.proofs.Ending.{ends_empty, ends_last, stops_last, stops_within, may_end}
+use Rattle.gate_hook.proofs.Ending.{ends_empty, ends_last, stops_last, stops_within, told_last, may_end}
 use Rattle.gate_hook.proofs.lines.Session.finish.Goals as goal
 
 pub returns-then-is_empty-clause-served : goal.returns-then-is_empty-clause-served
@@ -28,3 +28,10 @@ returns-in-Err-clause-within g c input within = stops_within g.B.Book.may_answer
 
 pub returns-in-Err-clause-cause : goal.returns-in-Err-clause-cause
 returns-in-Err-clause-cause g c = may_end g.B.Book.may_answer c.in-Err.fault c.in-Err.ensures.cause
+
+pub returns-in-Err-clause-told : goal.returns-in-Err-clause-told
+returns-in-Err-clause-told g c opened input left before so_far at_end begun honest =
+    let session = c.args.self.now in
+    let not_none : length session.line ≢ 0 = λ none. cc (c.if-is_empty.ensures.1 none) in
+    let some : 0 < length session.line = omega arith in
+    told_last _ opened input left _ session.line session.count before _ _ c.in-Err.fault some at_end so_far c.in-Err.ensures.unwritten (begun (c.in-Err.ensures.honest honest))

@@ -1,4 +1,4 @@
-use Rattle.gate_hook.proofs.Taking.{goes_on, ends, stops}
+use Rattle.gate_hook.proofs.Taking.{goes_on, ends, stops, tells}
 use Rattle.gate_hook.proofs.lines.Session.take_byte.Goals as goal
 
 pub returns-then-byte-ne10-clause-taken : goal.returns-then-byte-ne10-clause-taken
@@ -17,4 +17,5 @@ returns-in-Err-clause-taken g c opened input before so_far =
     let session = c.args.self.now in (
       c.if-byte-ne10.false,
       stops _ _ opened input _ _ session.line session.count before _ _ c.in-Err.fault c.in-Err.ensures.was so_far c.in-Err.ensures.answered,
+      λ honest. tells _ opened input _ session.line session.count before _ _ c.in-Err.fault so_far c.in-Err.ensures.unwritten (honest.0 (c.in-Err.ensures.honest honest.1)),
     )

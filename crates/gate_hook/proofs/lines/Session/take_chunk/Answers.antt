@@ -24,6 +24,8 @@ loop-byte-preserved g c =
       same_keeper = c.in-Ok.ensures.same_keeper ∙ so_far.same_keeper;
       same_writer = c.in-Ok.ensures.same_writer ∙ so_far.same_writer;
       was = λ premise. so_far.was (c.in-Ok.ensures.was premise);
+      honest = λ premise. so_far.honest (c.in-Ok.ensures.honest premise);
+      stays = λ begun premise. c.in-Ok.ensures.stays (so_far.stays begun) premise;
       taken = λ opened input before begun.
           rw (← one_more input bytes i c.loop-byte-test.true) (c.in-Ok.ensures.taken opened (input ++ take i bytes) before (so_far.taken opened input before begun));
     }
@@ -43,4 +45,8 @@ returns-in-Err-clause-taken g c opened input before so_far =
       others = drop (suc i) bytes;
       bytes = cut_at bytes i 10 c.loop-byte-test.true at.0;
       stops = at.1;
+      told = λ premise. at.2 (c.loop-byte.invariant.stays premise.0, premise.1);
     }
+
+pub returns-in-Err-clause-stays : goal.returns-in-Err-clause-stays
+returns-in-Err-clause-stays g c begun premise = c.in-Err.ensures.stays (c.loop-byte.invariant.stays begun) premise

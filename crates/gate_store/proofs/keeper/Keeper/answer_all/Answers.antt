@@ -13,18 +13,22 @@ loop-delivery-preserved g c =
     let at = c.delivery-item.is in
     let within = c.loop-delivery-test.true in
     let was = c.in-Ok.ensures.was in
+    let before = c.in-Ok.ensures.honest in
+    let stays = c.in-Ok.ensures.stays in
     let so_far = c.loop-delivery.invariant in
     let pushed : c.push_reserved.new.self.items ≡ c.loop-delivery.answers.items ++ c.in-Ok.answer ∷ [] =
     c.push_reserved.ensures.items ∙ ap (λ answers. answers ++ c.in-Ok.answer ∷ []) c.reserve.ensures.items in
     record {
-      answers = λ sound.
-          let led = so_far.book (was sound) in
-          rw pushed (answers_more old now deliveries place delivery at within led c.loop-delivery.answers.items c.in-Ok.answer (so_far.answers (was sound)) (c.in-Ok.ensures.answer sound));
+      answers = λ honest.
+          let led = so_far.book (was (stays honest)) in
+          rw pushed (answers_more old now deliveries place delivery at within led c.loop-delivery.answers.items c.in-Ok.answer (so_far.answers (before honest)) (c.in-Ok.ensures.answer (stays honest)));
       book = λ sound.
           led_more old now deliveries place delivery at within (so_far.book (was sound)) (g.B.Book.shows c.answer.new.self) (c.in-Ok.ensures.book sound);
-      history = λ sound.
-          tell_more old now deliveries place delivery at within (so_far.book (was sound)) (so_far.history (was sound)) (c.in-Ok.ensures.history sound);
-      room = λ sound. room_more old now deliveries place delivery at within (so_far.book (was sound)) (so_far.room (was sound)) (c.in-Ok.ensures.full sound);
+      history = λ honest.
+          tell_more old now deliveries place delivery at within (so_far.book (was (stays honest))) (so_far.history (before honest)) (c.in-Ok.ensures.history (stays honest));
+      room = λ honest.
+          room_more old now deliveries place delivery at within (so_far.book (was (stays honest))) (so_far.room (before honest)) (c.in-Ok.ensures.full (stays honest));
       count = omega (arith, ap length pushed, length_push c.loop-delivery.answers.items c.in-Ok.answer, so_far.count);
       was = λ sound. so_far.was (was sound);
+      honest = λ honest. so_far.honest (before honest);
     }

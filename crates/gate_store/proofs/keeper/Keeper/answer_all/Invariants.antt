@@ -6,11 +6,12 @@ use Rattle.gate_store.proofs.keeper.Keeper.answer_all.Given as goal
 
 abbrev pub invariant-loop-delivery : goal.invariant-loop-delivery
 invariant-loop-delivery g l = record {
-  answers : g.B.Book.is_sound l.self → l.answers.items ≡ answers_to (g.B.Book.shows l.fn.self) (take l.delivery-index l.deliveries);
+  answers : g.B.Book.is_honest l.self → l.answers.items ≡ answers_to (g.B.Book.shows l.fn.self) (take l.delivery-index l.deliveries);
   book : g.B.Book.is_sound l.self → g.B.Book.shows l.self ≡ after_deliveries (g.B.Book.shows l.fn.self) (take l.delivery-index l.deliveries);
-  history : g.B.Book.is_sound l.self → (history : List Entry) → Legal history (g.B.Book.shows l.fn.self).state
+  history : g.B.Book.is_honest l.self → (history : List Entry) → Legal history (g.B.Book.shows l.fn.self).state
       → Each Tells history (g.B.Book.shows l.fn.self).state (acts_of_all (first_in (g.B.Book.shows l.fn.self) (take l.delivery-index l.deliveries)));
-  room : g.B.Book.is_sound l.self → NoneMeetsFull (g.B.Book.shows l.fn.self) (take l.delivery-index l.deliveries);
+  room : g.B.Book.is_honest l.self → NoneMeetsFull (g.B.Book.shows l.fn.self) (take l.delivery-index l.deliveries);
   count : length l.answers.items ≡ l.delivery-index;
   was : g.B.Book.is_sound l.self → g.B.Book.is_sound l.fn.self;
+  honest : g.B.Book.is_honest l.self → g.B.Book.is_honest l.fn.self;
 }

@@ -1,14 +1,18 @@
-use Rattle.std.proofs.Common.{length, take}
+use Rattle.std.proofs.Common.{length, refl, take}
 use Rattle.gate_store.proofs.Runs.{headline_is, tells_is}
+use Rattle.gate_store.specs.Run.{after_deliveries}
 use Rattle.gate_store.proofs.keeper.Keeper.run.Goals as goal
 
 pub returns-clause-headline : goal.returns-clause-headline
-returns-clause-headline g c sound =
+returns-clause-headline g c honest =
     let answers = c.answer_all.result.0.items in
+    let old = g.B.Book.shows c.args.self.now in
+    let answered = take (length answers) c.args.deliveries.now in
     let did = c.answer_all.ensures in
-    headline_is (g.B.Book.shows c.args.self.now) (g.B.Book.shows c.answer_all.new.self) (take (length answers) c.args.deliveries.now) (did.book sound) (did.history sound) answers (did.answers sound)
+    headline_is old (after_deliveries old answered) answered refl (did.history honest) answers (did.answers honest)
 
 pub returns-clause-history : goal.returns-clause-history
-returns-clause-history g c sound =
-    let did = c.answer_all.ensures in
-    tells_is (g.B.Book.shows c.args.self.now) (g.B.Book.shows c.answer_all.new.self) (take (length c.answer_all.result.0.items) c.args.deliveries.now) (did.book sound) (did.history sound)
+returns-clause-history g c honest =
+    let old = g.B.Book.shows c.args.self.now in
+    let answered = take (length c.answer_all.result.0.items) c.args.deliveries.now in
+    tells_is old (after_deliveries old answered) answered refl (c.answer_all.ensures.history honest)

@@ -26,3 +26,8 @@ pub returns-in_err-text-clause-history : goal.returns-in_err-text-clause-history
 returns-in_err-text-clause-history g c sound =
     let told = err_from_is_err_and c.from_residual-in_err-text.result c.from_residual-in_err-text.ensures.1 in
     rw told.1 tt
+
+pub returns-in_err-text-clause-stays : goal.returns-in_err-text-clause-stays
+returns-in_err-text-clause-stays g c honest =
+    let told = err_from_is_err_and c.from_residual-in_err-text.result c.from_residual-in_err-text.ensures.1 in
+    rw (told.1, told.2) tt
