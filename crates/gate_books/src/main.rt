@@ -8,16 +8,21 @@
 //! `gate_books opened` begins with lines of SQL, which make the database that it opens, and prints the rows of the tables behind
 //! the answers.
 //!
+//! `gate_books stopped` begins with lines of SQL as well. It makes their database in two files in memory, and opens it with a stop
+//! at each call of either file.
+//!
 //! `gate_books refusals` prints what is answered to rows and to a database that no delivery makes, and what row changes leave.
 #![tactic(auto)]
 
 mod changed;
 mod fault;
+mod files;
 mod opened;
 mod refusals;
 mod reopened;
 mod row_changes;
 mod serving;
+mod stopped;
 mod tables;
 
 use crate::fault::BooksFault;
@@ -49,6 +54,7 @@ fn run(rt: &HostRuntime) -> Result<(), BooksFault> {
         "tables" => tables::print_tables(rt.alloc(), &mut reader, &mut writer),
         "changed" => changed::print_changed(rt.alloc(), &mut reader, &mut writer),
         "opened" => opened::print_opened(rt.alloc(), &mut reader, &mut writer),
+        "stopped" => stopped::print_stopped(rt.alloc(), &mut reader, &mut writer),
         "refusals" => refusals::print_refusals(rt.alloc(), &mut reader, &mut writer),
         _ => Err(BooksFault::Usage),
     }

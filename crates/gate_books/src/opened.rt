@@ -1,11 +1,11 @@
-ghost use Rattle.std.specs.Prelude.{◌≡◌, false, IfOk};
+ghost use Rattle.std.specs.Prelude.{◌≡◌, false, IfOk, OnOk};
 
 use crate::fault::BooksFault;
 use crate::serving::{MemoryBook, served_each};
 use crate::tables::{print_all, print_table};
 use gate_queue::Fault;
 use gate_sql::{Refused, SqlBook};
-use sqlite::{Connection, MemStore};
+use sqlite::{Alter, Connection, MemStore};
 use std::alloc::Global;
 use std::io::{BufRead, Write};
 
@@ -87,19 +87,17 @@ fn database_of<R: BufRead>(
 {
     let mut connection = Connection::open_in_memory(alloc)?;
     execute_lines(alloc, reader, &mut connection)?;
-    if connection.is_autocommit() {
-        Ok(connection)
-    } else {
-        Err(BooksFault::Rows)
-    }
+    Ok(connection)
 }
 
-// Executes each line up to the first empty one.
-fn execute_lines<R: BufRead>(
+/// Executes each line up to the first empty one. `Rows` if one of them fails, or if they leave a transaction open.
+pub(crate) fn execute_lines<S: Alter, R: BufRead>(
     alloc: Global,
     reader: &mut R,
-    connection: &mut Connection<MemStore>,
-) -> Result<(), BooksFault> {
+    connection: &mut Connection<S>,
+) -> Result<(), BooksFault>
+    ensures { OnOk result (connection.new.in_transaction ≡ false) }
+{
     for _ in 0..u64::MAX {
         let mut line = String::new(alloc);
         reader.read_line(&mut line)?;
@@ -109,5 +107,9 @@ fn execute_lines<R: BufRead>(
         }
         connection.execute(sql, &[])?;
     }
-    Ok(())
+    if connection.is_autocommit() {
+        Ok(())
+    } else {
+        Err(BooksFault::Rows)
+    }
 }

@@ -1,7 +1,7 @@
 use crate::fault::BooksFault;
 use crate::serving::{MemoryBook, memory_book, served};
 use sqlite::types::ValueRef;
-use sqlite::{Connection, MemStore, Row};
+use sqlite::{Alter, Connection, Row};
 use std::alloc::Global;
 use std::io::{self, Read, Write};
 
@@ -43,8 +43,8 @@ fn book_after<R: Read>(alloc: Global, reader: &mut R) -> Result<MemoryBook, Book
 }
 
 /// Prints the rows of all tables of a database.
-pub(crate) fn print_all<W: Write>(
-    connection: Connection<MemStore>,
+pub(crate) fn print_all<S: Alter + Drop, W: Write>(
+    connection: Connection<S>,
     writer: &mut W,
 ) -> Result<(), BooksFault> {
     let mut connection = connection;
@@ -53,8 +53,8 @@ pub(crate) fn print_all<W: Write>(
     printed
 }
 
-fn print_each<W: Write>(
-    connection: &mut Connection<MemStore>,
+fn print_each<S: Alter, W: Write>(
+    connection: &mut Connection<S>,
     writer: &mut W,
 ) -> Result<(), BooksFault> {
     for (table, sql) in TABLES {
@@ -64,8 +64,8 @@ fn print_each<W: Write>(
 }
 
 /// Prints the rows that a statement shows, behind this name each.
-pub(crate) fn print_table<W: Write>(
-    connection: &mut Connection<MemStore>,
+pub(crate) fn print_table<S: Alter, W: Write>(
+    connection: &mut Connection<S>,
     writer: &mut W,
     table: &str,
     sql: &str,

@@ -34,7 +34,7 @@ pub fn book_in_memory(alloc: Global) -> Result<MemoryBook, Fault>
 /// The book that a database file keeps. A file that isn't there is made, and one that is empty gets its tables and no records. Each
 /// page of a new file ends in a sum of it, by which a later open refuses a page that was changed. `File` if it can't be opened, or
 /// isn't a database, or is damaged, or another program has it open. `Gate(Foreign)` and `Gate(Store)` if its tables or what they
-/// hold are others. `Gate(Memory)` if there is no memory for it. A file that is refused keeps what it held.
+/// hold are others. `Gate(Memory)` if there is no memory for it. A file that is refused keeps the records that it held.
 pub fn book_in_file<S: Start>(
     rt: &HostRuntime,
     file: &str,

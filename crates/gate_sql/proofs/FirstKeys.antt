@@ -61,24 +61,29 @@ lists_apart (Some settings) is =
     joined_lists (pos 9) (status ++ labels) own two own_apart not_nine (of_wanted (pos 3) settings.pr_status (λ q. first_kind q.kind ≡ pos 9) (λ e. refl))
 
 -- THE MARKS: those of changes and those of the settings are apart by their kinds
-abbrev is_of_settings : ℤ → Bool
+abbrev pub is_of_settings : ℤ → Bool
 is_of_settings kind = int_eq kind (pos 6) || int_eq kind (pos 7) || int_eq kind (pos 9)
 
-abbrev IsOfChange : MarkRow → Type 0
+abbrev pub IsOfChange : MarkRow → Type 0
 IsOfChange r = is_of_settings r.kind ≡ false
 
-abbrev IsOfSettings : WantedRow → Type 0
+abbrev pub IsOfSettings : WantedRow → Type 0
 IsOfSettings r = is_of_settings (first_kind r.kind) ≡ true
 
 of_change : (e : ℕ × Change) → AllByRecursion IsOfChange (marks_of e)
 of_change e = all_joined IsOfChange _ (set_marks e.0 (pos 8) e.1.passed) (of_first IsOfChange e (λ m. refl) (λ m. refl) (λ m. refl) (λ m. refl) (λ m. refl)) (of_set IsOfChange e.0 (pos 8) (λ m. refl) e.1.passed)
 
-of_settings : (settings : Option SettingsView) → AllByRecursion IsOfSettings (wanted_of settings)
+pub of_settings : (settings : Option SettingsView) → AllByRecursion IsOfSettings (wanted_of settings)
 of_settings None = tt
 of_settings (Some settings) =
     all_joined IsOfSettings (list_wanted (pos 1) settings.status ++ list_wanted (pos 2) settings.block_labels) (list_wanted (pos 3) settings.pr_status)
     (all_joined IsOfSettings (list_wanted (pos 1) settings.status) (list_wanted (pos 2) settings.block_labels) (of_wanted (pos 1) settings.status IsOfSettings (λ e. refl)) (of_wanted (pos 2) settings.block_labels IsOfSettings (λ e. refl)))
     (of_wanted (pos 3) settings.pr_status IsOfSettings (λ e. refl))
+
+pub of_changes : (s : State) → AllByRecursion IsOfChange (rows_of s).marks
+of_changes s =
+    let entries = finite.entries s.desk.changes in
+    all_flat IsOfChange marks_of entries (all_of (λ e. AllByRecursion IsOfChange (marks_of e)) of_change entries)
 
 first_marks_apart : (s : State) → fits s ≡ true → KeepsLimits s.desk → AreApart forms.marks (in_first (rows_of s)).marks
 first_marks_apart s is limits =
@@ -87,7 +92,7 @@ first_marks_apart s is limits =
     joined_apart mark_key (flat_map marks_of entries) (map as_mark wanted) (marks_apart s is) (mapped_apart first_key mark_key as_mark (λ r q same. same) wanted (lists_apart s.desk.settings limits.settings))
     (across_of (λ r q. mark_key q ≢ mark_key r) IsOfChange (λ (q : MarkRow). is_of_settings q.kind ≡ true)
     (λ r q of_r of_q same. let e : true ≡ false = sym of_q ∙ ap is_of_settings (ap (number_at 1) same) ∙ of_r in cc e) (flat_map marks_of entries) (map as_mark wanted)
-    (all_flat IsOfChange marks_of entries (all_of (λ e. AllByRecursion IsOfChange (marks_of e)) of_change entries))
+    (of_changes s)
     (all_mapped (λ (q : MarkRow). is_of_settings q.kind ≡ true) as_mark wanted (of_settings s.desk.settings)))
 
 pub have_first_keys : (s : State) → fits s ≡ true → KeepsLimits s.desk → HaveKeys (in_first (rows_of s))

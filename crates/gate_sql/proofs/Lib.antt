@@ -8,6 +8,7 @@ pub mod Elements
 pub mod Entries
 pub mod FirstKeys
 pub mod FirstMarks
+pub mod FirstState
 pub mod Holding
 pub mod KeyOrders
 pub mod Keys

@@ -1,5 +1,5 @@
 -- The rows of a state are read as that state.
-use Rattle.std.proofs.Common.{◌≡◌, ◌⊎◌, inl, inr, ◌≤◌, ◌==◌, ℕ, pos, nat_abs, Bool, true, false, cond, not, ◌&&◌, ◌||◌, List, [], ◌∷◌, ◌++◌, map, Option, Some, None, Ok, is_some, IfSome, nat_le, nat_lt, leb-true, refl, sym, ◌∙◌, ap, subst, append-nil, arith}
+use Rattle.std.proofs.Common.{◌≡◌, ◌⊎◌, inl, inr, ◌≤◌, ◌==◌, ℕ, pos, nat_abs, Bool, true, false, cond, not, ◌&&◌, ◌||◌, List, [], ◌∷◌, ◌++◌, map, Option, Some, None, Ok, is_some, IfSome, nat_le, nat_lt, leb-true, refl, sym, ◌∙◌, ap, subst, append-nil, arith, IsPermutation}
 use Rattle.std.proofs.lemmas.List.{map-append}
 use Rattle.std.proofs.lemmas.List.Elements.{filter-append}
 use Rattle.std.specs.Cmp.{first_so, second_so, nat_cmp_total, unsigned_Decides}
@@ -285,31 +285,39 @@ settings_again (Some settings) rows same within =
       pr_status = pr_status_again settings rows.wanted same i;
     }))
 
+-- THE SAME ROWS in each table, in whatever order and however often
+pub record HoldSame (rows others : Rows) : Type 0 where
+  pub desk : HaveSame rows.desk others.desk
+  pub people : HaveSame rows.people others.people
+  pub changes : HaveSame rows.changes others.changes
+  pub marks : HaveSame rows.marks others.marks
+  pub batches : HaveSame rows.batches others.batches
+  pub members : HaveSame rows.members others.members
+  pub statuses : HaveSame rows.statuses others.statuses
+  pub wanted : HaveSame rows.wanted others.wanted
+
 -- THE STATE
-module _ (s : State) (rows : Rows) (fit : Fits s) (limits : KeepsLimits s.desk) (same : AreSame (rows_of s) rows) where
+module _ (s : State) (rows : Rows) (fit : Fits s) (limits : KeepsLimits s.desk) (same : HoldSame rows (rows_of s)) where
   people : HaveSame rows.people (map person_row (finite.entries s.desk.roles))
-  people = same-sym (map person_row (finite.entries s.desk.roles)) rows.people (same-permutation (map person_row (finite.entries s.desk.roles)) rows.people same.people)
+  people = same.people
 
   changes : HaveSame rows.changes (map change_row (finite.entries s.desk.changes))
-  changes = same-sym (map change_row (finite.entries s.desk.changes)) rows.changes (same-permutation (map change_row (finite.entries s.desk.changes)) rows.changes same.changes)
+  changes = same.changes
 
   marks : HaveSame rows.marks (flat_map marks_of (finite.entries s.desk.changes))
-  marks = same-sym (flat_map marks_of (finite.entries s.desk.changes)) rows.marks (same-permutation (flat_map marks_of (finite.entries s.desk.changes)) rows.marks same.marks)
+  marks = same.marks
 
   wanted : HaveSame rows.wanted (wanted_of s.desk.settings)
-  wanted = same-sym (wanted_of s.desk.settings) rows.wanted (same-permutation (wanted_of s.desk.settings) rows.wanted same.wanted)
+  wanted = same.wanted
 
   batches : HaveSame rows.batches (map batch_row (batches_of s.queue.staging ++ batches_of s.queue.trying))
-  batches = same-sym (map batch_row (batches_of s.queue.staging ++ batches_of s.queue.trying)) rows.batches
-      (same-permutation (map batch_row (batches_of s.queue.staging ++ batches_of s.queue.trying)) rows.batches same.batches)
+  batches = same.batches
 
   members : HaveSame rows.members (flat_map members_of (batches_of s.queue.staging ++ batches_of s.queue.trying))
-  members = same-sym (flat_map members_of (batches_of s.queue.staging ++ batches_of s.queue.trying)) rows.members
-      (same-permutation (flat_map members_of (batches_of s.queue.staging ++ batches_of s.queue.trying)) rows.members same.members)
+  members = same.members
 
   statuses : HaveSame rows.statuses (flat_map statuses_of (batches_of s.queue.staging ++ batches_of s.queue.trying))
-  statuses = same-sym (flat_map statuses_of (batches_of s.queue.staging ++ batches_of s.queue.trying)) rows.statuses
-      (same-permutation (flat_map statuses_of (batches_of s.queue.staging ++ batches_of s.queue.trying)) rows.statuses same.statuses)
+  statuses = same.statuses
 
   change_again : (n : ℕ) (c : Change) → Among (n, c) (finite.entries s.desk.changes) → change_in rows (change_row (n, c)) ≡ c
   change_again n c there = λ i. record {
@@ -397,7 +405,7 @@ module _ (s : State) (rows : Rows) (fit : Fits s) (limits : KeepsLimits s.desk) 
       fit.trying_service
 
   row_again : first rows.desk ≡ Some (desk_row s)
-  row_again = first_again rows.desk (Some (desk_row s)) (same-sym (desk_row s ∷ []) rows.desk (same-permutation (desk_row s ∷ []) rows.desk same.desk))
+  row_again = first_again rows.desk (Some (desk_row s)) same.desk
 
   pub state_again : state_in rows ≡ s
   state_again = ap (state_by rows) row_again ∙ (λ i. record {
@@ -405,5 +413,24 @@ module _ (s : State) (rows : Rows) (fit : Fits s) (limits : KeepsLimits s.desk) 
     queue = record { staging = staging_again i; trying = lane_of_tries_again i; next = s.queue.next };
   })
 
+-- the rows of the second table, as those of the first
+back : {R : Type 0} (rows others : List R) → IsPermutation rows others → HaveSame others rows
+back rows others same = same-sym rows others (same-permutation rows others same)
+
+pub hold_same : (rows others : Rows) → AreSame rows others → HoldSame others rows
+hold_same rows others same = record {
+  desk = back rows.desk others.desk same.desk;
+  people = back rows.people others.people same.people;
+  changes = back rows.changes others.changes same.changes;
+  marks = back rows.marks others.marks same.marks;
+  batches = back rows.batches others.batches same.batches;
+  members = back rows.members others.members same.members;
+  statuses = back rows.statuses others.statuses same.statuses;
+  wanted = back rows.wanted others.wanted same.wanted;
+}
+
+pub state_of_same : (s : State) (rows : Rows) → fits s ≡ true → KeepsLimits s.desk → HoldSame rows (rows_of s) → state_in rows ≡ s
+state_of_same s rows fit limits same = state_again s rows (facts s fit) limits same
+
 pub one_state : (s : State) (rows : Rows) → fits s ≡ true → KeepsLimits s.desk → AreSame (rows_of s) rows → state_in rows ≡ s
-one_state s rows fit limits same = state_again s rows (facts s fit) limits same
+one_state s rows fit limits same = state_of_same s rows fit limits (hold_same (rows_of s) rows same)

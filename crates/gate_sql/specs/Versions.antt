@@ -48,6 +48,10 @@ in_first rows = record rows {
 abbrev pub LawOfFirstKeys : Type 0
 LawOfFirstKeys = (s : State) → IsState s → KeepsLimits s.desk → HaveKeys (in_first (rows_of s))
 
+-- Rows of version 1, in any order, stand for one state at the most.
+abbrev pub LawOfFirstRows : Type 0
+LawOfFirstRows = (s t : State) → IsState s → IsState t → KeepsLimits s.desk → KeepsLimits t.desk → AreSame (in_first (rows_of s)) (in_first (rows_of t)) → s ≡ t
+
 -- WHAT A DATABASE OF EITHER VERSION STANDS FOR: a state of the machine, of which it has the rows, and answers under identifiers, of
 -- which it has the texts
 abbrev pub rows_as : Bool → Rows → Rows

@@ -118,7 +118,8 @@ impl<S: Alter> SqlBook<S> {
 
     /// Opens the book that a database of either schema version keeps, and brings one of version 1 to version 2, with the same state
     /// and the same answers, in one transaction. In a database that has no table, index or view it makes one, as `new` does. If it is
-    /// refused, the database is as it was, and the connection is handed back. `Foreign` if the tables are those of a version, but
+    /// refused, the database is as it was, and the connection is handed back. But if the disk fails at the end of that transaction, it
+    /// may be of version 2 already, with the same records; the next opening shows it. `Foreign` if the tables are those of a version, but
     /// what they hold stands for no state and answers of it. `Store` if the tables, their columns, keys or indexes are others, or if
     /// the database fails. `Memory` if there is no memory for it.
     pub fn open(alloc: Global, connection: Connection<S>) -> Result<SqlBook<S>, Refused<S>>

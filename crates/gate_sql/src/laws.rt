@@ -7,7 +7,7 @@ ghost use Rattle.gate_sql.specs.Decoding.{state_in};
 ghost use Rattle.gate_sql.specs.Encoding.{rows_of};
 ghost use Rattle.gate_sql.specs.Parts.{LawOfChangesSince, LawOfKeysSince};
 ghost use Rattle.gate_sql.specs.Standing.{KeepsLimits, LawOfKeys, LawOfRows};
-ghost use Rattle.gate_sql.specs.Versions.{LawOfFirstKeys, in_first};
+ghost use Rattle.gate_sql.specs.Versions.{LawOfFirstKeys, LawOfFirstRows, in_first};
 ghost use Rattle.gate_tables.specs.declared.row.Rows.{Rows};
 
 use gate_queue::Gate;
@@ -33,6 +33,14 @@ pub fn law_of_keys()
 /// one key.
 pub fn law_of_first_keys()
     ensures { LawOfFirstKeys }
+{
+    law_of_checks();
+}
+
+/// The law of rows in version 1: they stand for at most one state. Two states whose settings and bases keep their limits, and that have
+/// the same rows in that version, in any order, are one.
+pub fn law_of_first_rows()
+    ensures { LawOfFirstRows }
 {
     law_of_checks();
 }

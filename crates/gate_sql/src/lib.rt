@@ -17,8 +17,8 @@ pub use book::{Refused, SqlBook};
 pub use changed::{changed_rows, changes_since};
 pub use gate_tables::{Row, RowChange, RowKey};
 pub use laws::{
-    law_of_changed_rows, law_of_changes_since, law_of_first_keys, law_of_keys, law_of_keys_since,
-    law_of_rows,
+    law_of_changed_rows, law_of_changes_since, law_of_first_keys, law_of_first_rows, law_of_keys,
+    law_of_keys_since, law_of_rows,
 };
 pub use reading::gate_of;
 pub use rows::rows_of;
