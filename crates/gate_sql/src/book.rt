@@ -169,6 +169,8 @@ impl<S: Alter> Book for SqlBook<S> {
 
     ghost is_honest = { λ book. is_honest S.Store book };
 
+    ghost sound_is_honest = { λ book sound. sound.0 };
+
     ghost may_answer = { IsOfBooks };
 
     fn load(&mut self, alloc: Global) -> Result<Gate, Fault> {

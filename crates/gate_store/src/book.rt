@@ -94,4 +94,7 @@ pub trait Book {
         let _text = text;
         self.commit(alloc, gate, id, answer)
     }
+
+    // So what is said of an honest book is said of a sound one.
+    ghost sound_is_honest: { (book : Self) → is_sound book → is_honest book };
 }
