@@ -2,7 +2,7 @@ ghost use Rattle.std.specs.Prelude.{◌≡◌, IfErr, IfOk};
 ghost use Rattle.gate_bot.specs.Program.{IsOfFiles, StandIn, fault_of, no_records};
 ghost use Rattle.gate_sql.specs.Shown.{shown};
 ghost use Rattle.gate_store.specs.Run.{IsOfBooks};
-ghost use Rattle.gate_tables.specs.Tables.{is_honest, is_sound};
+ghost use Rattle.gate_tables.specs.Tables.{is_honest, is_shielded, is_sound};
 ghost use Rattle.sqlite.specs.Files.{over_files};
 ghost use Rattle.sqlite.specs.Steps.{over_memory};
 ghost use Rattle.sqlite.specs.WalFiles.{image_at};
@@ -44,6 +44,9 @@ pub fn book_in_file<S: Start>(
     // stands that the file held.
     ensures records { IfOk result (λ book. is_honest over_files book → StandIn (image_at S.Start) (shown over_files book)) }
     ensures stays { IfOk result (λ book. is_honest over_files book → is_sound over_files book) }
+
+    // If so far the disk has returned what was written, each later read is tested against a digest of what was.
+    ensures shield { IfOk result (λ book. is_honest over_files book → is_shielded over_files book) }
     ensures fault { IfErr result IsOfFiles }
 {
     match Connection::open_from(rt, file, true, start) {

@@ -4,12 +4,13 @@ use Rattle.std.specs.Io.KnownBytes.{Appends, Consumes}
 use Rattle.std.specs.String.{string_bytes}
 use Rattle.gate_queue.specs.declared.fault.Fault.{Fault}
 use Rattle.gate_queue.specs.declared.fault.Fault.TheVariants.{Memory, Store, Full, Foreign}
-use Rattle.gate_store.specs.Run.{Records}
+use Rattle.gate_store.specs.Run.{IsOpenAfter, Records}
 use Rattle.gate_hook.specs.Receiving.{IsInput, IsUnread}
 use Rattle.gate_hook.specs.Requests.{Asks}
 use Rattle.gate_hook.specs.Responding.{Answers, HasSent, Responds}
 use Rattle.gate_hook.specs.Responses.{Response, fault_response, response_text}
-use Rattle.gate_hook.specs.Served.{AnswersOne, AsksNoDelivery, Breaks, IsDue, after_wish, report_in, response_to, response_to_report}
+use Rattle.gate_hook.specs.Sending.{IsCutOff}
+use Rattle.gate_hook.specs.Served.{AnswersOne, AsksNoDelivery, Breaks, IsDue, StaysServing, after_wish, report_in, response_to, response_to_report}
 use Rattle.gate_hook.specs.declared.fault.HookFault.{HookFault}
 use Rattle.gate_hook.specs.declared.fault.HookFault.TheVariants.{Gate, Read, Write, TooMuch}
 use Rattle.gate_hook.specs.declared.refusal.Refusal.{Refusal}
@@ -77,6 +78,27 @@ sends-fault (Err Write) fault input old new before after text is breaks sent = (
 sends-fault (Err Read) fault input old new before after text is breaks sent = absurd sent
 sends-fault (Err (Gate other)) fault input old new before after text is breaks sent = absurd sent
 sends-fault (Err TooMuch) fault input old new before after text is breaks sent = absurd sent
+
+-- WHAT IS TOLD OF A BOOK THAT WAS SOUND AND IS HONEST
+pub stays-response : (result : Result Served HookFault) (made : Made) (sound : Type 0) (before after : Option (List ℕ))
+    → sound → HasSent result (record { status = made.status; fault = None }) (string_bytes made.text) before after → StaysServing result sound before after
+stays-response (Ok done) made sound before after is sent =
+    subst (λ (served : Served). StaysServing (Ok served) sound before after) (sym sent.0) is
+stays-response (Err Write) made sound before after is sent = (None, is)
+stays-response (Err Read) made sound before after is sent = absurd sent
+stays-response (Err (Gate fault)) made sound before after is sent = absurd sent
+stays-response (Err TooMuch) made sound before after is sent = absurd sent
+
+pub stays-fault : (result : Result Served HookFault) (fault : Fault) (sound : Type 0) (before after : Option (List ℕ)) (text : List ℕ)
+    → text ≡ response_text fault_response → IsOpenAfter fault sound → HasSent result (record { status = 503; fault = Some fault }) text before after
+    → StaysServing result sound before after
+stays-fault (Ok done) fault sound before after text is stays sent =
+    subst (λ (served : Served). StaysServing (Ok served) sound before after) (sym sent.0) (stays, (refl, subst (Appends before after) is sent.1))
+stays-fault (Err Write) fault sound before after text is stays sent =
+    (Some fault, (stays, subst (λ (text : List ℕ). IsCutOff text before after) is sent))
+stays-fault (Err Read) fault sound before after text is stays sent = absurd sent
+stays-fault (Err (Gate other)) fault sound before after text is stays sent = absurd sent
+stays-fault (Err TooMuch) fault sound before after text is stays sent = absurd sent
 
 -- INPUT THAT ASKS FOR NO DELIVERY
 known-input : (after : Option (List ℕ)) (whole input : List ℕ) → IsInput (Some whole) after input → input ≡ whole

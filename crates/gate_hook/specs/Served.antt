@@ -10,6 +10,7 @@ use Rattle.gate_store.specs.Answers.{answer_text_of}
 use Rattle.gate_store.specs.Run.{IsOpenAfter, Records, answer_to, after_delivery, meets_full}
 use Rattle.gate_store.specs.declared.delivery.Delivery.{Delivery}
 use Rattle.gate_hook.specs.Requests.{Asks}
+use Rattle.gate_hook.specs.Sending.{IsCutOff}
 use Rattle.gate_hook.specs.Responses.{Response, response_text, answer_response, refusal_response, report_response, fault_response}
 use Rattle.gate_hook.specs.declared.fault.HookFault.{HookFault}
 use Rattle.gate_hook.specs.declared.fault.HookFault.TheVariants.{Gate, Read, Write, TooMuch}
@@ -91,7 +92,18 @@ AnswersOne (Err TooMuch) input old new before after = ⊥
 abbrev pub AsksNoDelivery : List ℕ → Type 0
 AsksNoDelivery input = (delivery : Delivery) → Asks input (Ok (DeliveryOf delivery)) → ⊥
 
--- No fault but `Memory` and `Store` may have shut the book.
-abbrev pub IsSoundUnless : Option Fault → (sound : Type 0) → Type 0
-IsSoundUnless None sound = sound
-IsSoundUnless (Some fault) sound = IsOpenAfter fault sound
+-- No fault but `Memory` and `Store` may have shut the book, and after any fault this was sent.
+abbrev pub IsSoundUnless : Option Fault → (sound sent : Type 0) → Type 0
+IsSoundUnless None sound sent = sound
+IsSoundUnless (Some fault) sound sent = IsOpenAfter fault sound × sent
+
+-- What serving one request tells of a book that was sound and is honest: it is sound still, so what was sent is the response that was
+-- due. But if `Memory` or `Store` has shut it, the response after faults was sent, or a part from its front.
+abbrev pub StaysServing : Result Served HookFault → (sound : Type 0) → Option (List ℕ) → Option (List ℕ) → Type 0
+StaysServing (Ok served) sound before after =
+    IsSoundUnless served.fault sound ((served.status ≡ 503) × Appends before after (response_text fault_response))
+StaysServing (Err Write) sound before after =
+    (fault : Option Fault) × IsSoundUnless fault sound (IsCutOff (response_text fault_response) before after)
+StaysServing (Err Read) sound before after = sound
+StaysServing (Err (Gate fault)) sound before after = ⊥
+StaysServing (Err TooMuch) sound before after = ⊥

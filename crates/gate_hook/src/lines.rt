@@ -34,6 +34,7 @@ fn line_answer<B: Book>(alloc: Global, keeper: &mut Keeper<B>, line: &Line) -> R
     ensures stops { B.is_sound keeper.new → IfErr result (λ fault. StopsAtLine fault (B.shows keeper.old) line.now (B.shows keeper.new)) }
     ensures was { B.is_sound keeper.new → B.is_sound keeper.old }
     ensures honest { B.is_honest keeper.new → B.is_honest keeper.old }
+    ensures shield { B.is_shielded keeper.old → B.is_shielded keeper.new }
     ensures stays { (B.is_honest keeper.old → B.is_sound keeper.old) → B.is_honest keeper.new → StaysOpen result (B.is_sound keeper.new) }
     ensures cause { IfErr result (IsOfKeepers B.may_answer) }
 {
@@ -75,6 +76,7 @@ impl<B: Book, W: Write> Session<'_, '_, B, W> {
         ensures answered { B.is_sound self.new.keeper.now → IsAnswered result (B.shows self.old.keeper.now) self.old.line (B.shows self.new.keeper.now) (W.contents self.old.writer.now) (W.contents self.new.writer.now) }
         ensures was { B.is_sound self.new.keeper.now → B.is_sound self.old.keeper.now }
         ensures honest { B.is_honest self.new.keeper.now → B.is_honest self.old.keeper.now }
+        ensures shield { B.is_shielded self.old.keeper.now → B.is_shielded self.new.keeper.now }
         ensures stays { (B.is_honest self.old.keeper.now → B.is_sound self.old.keeper.now) → B.is_honest self.new.keeper.now → StaysSound result (B.is_sound self.new.keeper.now) }
         ensures unwritten { IfErr result (λ fault. IsOfGate fault → W.contents self.new.writer.now ≡ W.contents self.old.writer.now) }
         ensures cause { IfErr result (MayStop B.may_answer) }
@@ -95,6 +97,7 @@ impl<B: Book, W: Write> Session<'_, '_, B, W> {
             → TakesByte (B.is_sound self.new.keeper.now) ((B.is_honest self.old.keeper.now → B.is_sound self.old.keeper.now) × B.is_honest self.new.keeper.now) result opened input byte (B.shows self.new.keeper.now) self.new.line self.new.count before (W.contents self.new.writer.now) }
         ensures was { B.is_sound self.new.keeper.now → B.is_sound self.old.keeper.now }
         ensures honest { B.is_honest self.new.keeper.now → B.is_honest self.old.keeper.now }
+        ensures shield { B.is_shielded self.old.keeper.now → B.is_shielded self.new.keeper.now }
         ensures stays { (B.is_honest self.old.keeper.now → B.is_sound self.old.keeper.now) → B.is_honest self.new.keeper.now → StaysSound result (B.is_sound self.new.keeper.now) }
         ensures cause { IfErr result (MayStop B.may_answer) }
         ensures count { self.new.count ≤ self.old.count + 1 }
@@ -123,6 +126,7 @@ impl<B: Book, W: Write> Session<'_, '_, B, W> {
             → TakesBytes (B.is_sound self.new.keeper.now) ((B.is_honest self.old.keeper.now → B.is_sound self.old.keeper.now) × B.is_honest self.new.keeper.now) result opened input bytes.now (B.shows self.new.keeper.now) self.new.line self.new.count before (W.contents self.new.writer.now) }
         ensures was { B.is_sound self.new.keeper.now → B.is_sound self.old.keeper.now }
         ensures honest { B.is_honest self.new.keeper.now → B.is_honest self.old.keeper.now }
+        ensures shield { B.is_shielded self.old.keeper.now → B.is_shielded self.new.keeper.now }
         ensures stays { (B.is_honest self.old.keeper.now → B.is_sound self.old.keeper.now) → B.is_honest self.new.keeper.now → StaysSound result (B.is_sound self.new.keeper.now) }
         ensures cause { IfErr result (MayStop B.may_answer) }
         ensures count { self.new.count ≤ self.old.count + length bytes.now }
@@ -152,6 +156,7 @@ impl<B: Book, W: Write> Session<'_, '_, B, W> {
             → IsTold result opened input left before (W.contents self.new.writer.now) }
         ensures was { B.is_sound self.new.keeper.now → B.is_sound self.old.keeper.now }
         ensures honest { B.is_honest self.new.keeper.now → B.is_honest self.old.keeper.now }
+        ensures shield { B.is_shielded self.old.keeper.now → B.is_shielded self.new.keeper.now }
         ensures stays { (B.is_honest self.old.keeper.now → B.is_sound self.old.keeper.now) → B.is_honest self.new.keeper.now → StaysSound result (B.is_sound self.new.keeper.now) }
         ensures cause { IfErr result (MayEnd B.may_answer) }
         ensures same_keeper { self.new.keeper.ghost_name ≡ self.old.keeper.ghost_name }
@@ -178,6 +183,7 @@ impl<B: Book, W: Write> Session<'_, '_, B, W> {
         ensures end { OnOk result (IsAtEnd (R.remaining reader.new)) }
         ensures was { B.is_sound self.new.keeper.now → B.is_sound self.old.keeper.now }
         ensures honest { B.is_honest self.new.keeper.now → B.is_honest self.old.keeper.now }
+        ensures shield { B.is_shielded self.old.keeper.now → B.is_shielded self.new.keeper.now }
         ensures stays { (B.is_honest self.old.keeper.now → B.is_sound self.old.keeper.now) → B.is_honest self.new.keeper.now → StaysSound result (B.is_sound self.new.keeper.now) }
         ensures cause { IfErr result (MayEnd B.may_answer) }
         ensures same_keeper { self.new.keeper.ghost_name ≡ self.old.keeper.ghost_name }
@@ -212,6 +218,7 @@ impl<B: Book, W: Write> Session<'_, '_, B, W> {
         ensures end { OnOk result (IsAtEnd (R.remaining reader.new)) }
         ensures was { B.is_sound self.new.keeper.now → B.is_sound self.old.keeper.now }
         ensures honest { B.is_honest self.new.keeper.now → B.is_honest self.old.keeper.now }
+        ensures shield { B.is_shielded self.old.keeper.now → B.is_shielded self.new.keeper.now }
         ensures cause { IfErr result (MayEnd B.may_answer) }
         ensures same_keeper { self.new.keeper.ghost_name ≡ self.old.keeper.ghost_name }
         ensures same_writer { self.new.writer.ghost_name ≡ self.old.writer.ghost_name }
@@ -258,6 +265,7 @@ pub fn serve_lines<B: Book, R: Read, W: Write>(
     // A book that is sound in the end was sound before, and one that is honest was so.
     ensures was { B.is_sound keeper.new → B.is_sound keeper.old }
     ensures honest { B.is_honest keeper.new → B.is_honest keeper.old }
+    ensures shield { B.is_shielded keeper.old → B.is_shielded keeper.new }
 {
     let mut session = Session {
         keeper,

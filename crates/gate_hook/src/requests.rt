@@ -8,7 +8,7 @@ ghost use Rattle.gate_hook.specs.Requests.{asked_by, delivery_or_refusal};
 ghost use Rattle.gate_hook.specs.Responding.{Answers, HasSent, MayFail, Responds};
 ghost use Rattle.gate_hook.specs.Responses.{IsResponse};
 ghost use Rattle.gate_hook.specs.declared.requests.Request.TheVariants.{Delivery as DeliveryOf, Report as ReportOf};
-ghost use Rattle.gate_hook.specs.Served.{AnswersOne, AsksNoDelivery, IsSoundUnless, report_in, response_to, response_to_report};
+ghost use Rattle.gate_hook.specs.Served.{AnswersOne, AsksNoDelivery, StaysServing, report_in, response_to, response_to_report};
 ghost use Rattle.gate_hook.specs.Serving.{StaysSound};
 
 use crate::answering::delivery_answer;
@@ -108,6 +108,7 @@ fn answered<B: Book>(
     ensures full { B.is_sound keeper.new → AgreesOnFull result (meets_full (B.shows keeper.old) delivery.now) }
     ensures was { B.is_sound keeper.new → B.is_sound keeper.old }
     ensures honest { B.is_honest keeper.new → B.is_honest keeper.old }
+    ensures shield { B.is_shielded keeper.old → B.is_shielded keeper.new }
     ensures stays { B.is_honest keeper.new → StaysOpen result (B.is_sound keeper.new) }
     ensures cause { IfErr result (IsOfKeepers B.may_answer) }
 {
@@ -147,6 +148,7 @@ fn reported<B: Book>(
     ensures same { B.is_sound keeper.new → B.shows keeper.new ≡ B.shows keeper.old }
     ensures was { B.is_sound keeper.new → B.is_sound keeper.old }
     ensures honest { B.is_honest keeper.new → B.is_honest keeper.old }
+    ensures shield { B.is_shielded keeper.old → B.is_shielded keeper.new }
     ensures stays { (B.is_honest keeper.old → B.is_sound keeper.old) → B.is_honest keeper.new → StaysOpen result (B.is_sound keeper.new) }
     ensures cause { IfErr result (IsOfKeepers B.may_answer) }
     ensures fault { IfErr result IsOfBooks }
@@ -166,6 +168,7 @@ fn respond<B: Book>(
     ensures responds { B.is_sound keeper.new → Responds result (B.shows keeper.old) wish.now (B.shows keeper.new) }
     ensures was { B.is_sound keeper.new → B.is_sound keeper.old }
     ensures honest { B.is_honest keeper.new → B.is_honest keeper.old }
+    ensures shield { B.is_shielded keeper.old → B.is_shielded keeper.new }
     ensures stays { (B.is_honest keeper.old → B.is_sound keeper.old) → B.is_honest keeper.new → StaysSound result (B.is_sound keeper.new) }
     ensures cause { IfErr result (MayFail B.may_answer) }
 {
@@ -186,6 +189,7 @@ fn answer<B: Book, R: Read>(
         × (B.is_sound keeper.new → Answers result input (B.shows keeper.old) (B.shows keeper.new)) }
     ensures was { B.is_sound keeper.new → B.is_sound keeper.old }
     ensures honest { B.is_honest keeper.new → B.is_honest keeper.old }
+    ensures shield { B.is_shielded keeper.old → B.is_shielded keeper.new }
     ensures stays { (B.is_honest keeper.old → B.is_sound keeper.old) → B.is_honest keeper.new → StaysSound result (B.is_sound keeper.new) }
     ensures cause { IfErr result (MayFail B.may_answer) }
 {
@@ -246,10 +250,11 @@ pub fn serve_one<B: Book, R: Read, W: Write>(
     // A book that is sound in the end was sound before, and one that is honest was so.
     ensures was { B.is_sound keeper.new → B.is_sound keeper.old }
     ensures honest { B.is_honest keeper.new → B.is_honest keeper.old }
+    ensures shield { B.is_shielded keeper.old → B.is_shielded keeper.new }
 
-    // Of a book that was sound and is honest, only `Memory` and `Store` may have shut it: after any other response it is still sound,
-    // so what is said above of that response holds, whatever comes later.
-    ensures stays { B.is_sound keeper.old → B.is_honest keeper.new → IfOk result (λ served. IsSoundUnless served.fault (B.is_sound keeper.new)) }
+    // Of a book that was sound and is honest, only `Memory` and `Store` may have shut it, and then the response is 503. After any other
+    // response it is still sound, so what is said above of that response holds, whatever comes later.
+    ensures stays { B.is_sound keeper.old → B.is_honest keeper.new → StaysServing result (B.is_sound keeper.new) (W.contents writer.old) (W.contents writer.new) }
 {
     match answer(alloc, keeper, reader) {
         Ok(response) => {

@@ -30,10 +30,12 @@ pub fn serve_request<B: Book, R: Read, W: Write>(
     reader: &mut R,
     writer: &mut W,
 )
-    ensures served { IsServedOnce (B.is_sound keeper.new) (B.shows keeper.old) (B.shows keeper.new) (R.remaining reader.old) (R.remaining reader.new) (W.contents writer.old) (W.contents writer.new) }
+    ensures served { IsServedOnce (B.is_sound keeper.new) (B.is_sound keeper.old × B.is_honest keeper.new) (B.shows keeper.old) (B.shows keeper.new) (R.remaining reader.old) (R.remaining reader.new) (W.contents writer.old) (W.contents writer.new) }
 
-    // A book that is sound in the end was sound before.
+    // A book that is sound in the end was sound before, one that is honest was so, and one that was shielded still is.
     ensures was { B.is_sound keeper.new → B.is_sound keeper.old }
+    ensures honest { B.is_honest keeper.new → B.is_honest keeper.old }
+    ensures shield { B.is_shielded keeper.old → B.is_shielded keeper.new }
 {
     let _ = serve_one(alloc, keeper, reader, writer);
 }
@@ -42,6 +44,8 @@ pub fn serve_request<B: Book, R: Read, W: Write>(
 fn serve_stream<B: Book>(alloc: Global, keeper: &mut Keeper<B>, stream: &TcpStream)
     ensures served { (input : List ℕ) × (B.is_sound keeper.new → IsServedUnseen input (B.shows keeper.old) (B.shows keeper.new)) }
     ensures was { B.is_sound keeper.new → B.is_sound keeper.old }
+    ensures honest { B.is_honest keeper.new → B.is_honest keeper.old }
+    ensures shield { B.is_shielded keeper.old → B.is_shielded keeper.new }
 {
     serve_request(alloc, keeper, &mut &*stream, &mut &*stream);
     close(stream);
@@ -61,8 +65,10 @@ pub fn serve<B: Book>(
         × (B.is_sound keeper.new → AreServedInTurn inputs (B.shows keeper.old) (B.shows keeper.new)) }
     ensures cause { IfErr result (λ fault. fault ≡ JobFault.Accept) }
 
-    // A book that is sound in the end was sound before.
+    // A book that is sound in the end was sound before, one that is honest was so, and one that was shielded still is.
     ensures was { B.is_sound keeper.new → B.is_sound keeper.old }
+    ensures honest { B.is_honest keeper.new → B.is_honest keeper.old }
+    ensures shield { B.is_shielded keeper.old → B.is_shielded keeper.new }
 {
     for _ in 0..count {
         match listener.accept() {

@@ -12,7 +12,7 @@ ghost use Rattle.gate_sql.specs.Faults.{MayRefuse};
 ghost use Rattle.gate_sql.specs.Shown.{shown, Holds, IsHeld};
 ghost use Rattle.gate_sql.specs.Versions.{OpensAs, StandsFor};
 ghost use Rattle.gate_tables.specs.Schemas.{HasTables, lacks_wanted};
-ghost use Rattle.gate_tables.specs.Tables.{is_honest, is_sound, rows_in, answers_in, IsBook};
+ghost use Rattle.gate_tables.specs.Tables.{is_honest, is_shielded, is_sound, rows_in, answers_in, IsBook};
 ghost use Rattle.gate_store.specs.Answers.{answer_text_of};
 ghost use Rattle.gate_store.specs.Reading.{answer_of};
 ghost use Rattle.gate_store.specs.Run.{IsOfBooks, kept_under, with_answer};
@@ -81,6 +81,7 @@ impl<S: Alter> SqlBook<S> {
         ensures fault { IfErr result (λ refused. IsOfBooks refused.fault) }
         ensures was { IfOk result (λ book. is_sound S.Store book → is_sound S.Store connection) }
         ensures honest { IfOk result (λ book. is_honest S.Store book → is_honest S.Store connection) }
+        ensures shield { IfOk result (λ book. is_shielded S.Store connection → is_shielded S.Store book) }
         ensures stays { IfOk result (λ book. is_honest S.Store book → is_sound S.Store book) }
         ensures was_refused { IfErr result (λ refused. is_sound S.Store refused.connection → is_sound S.Store connection) }
     {
@@ -132,13 +133,14 @@ impl<S: Alter> SqlBook<S> {
         ensures fault { IfErr result (λ refused. IsOfBooks refused.fault ⊎ ((refused.fault ≡ Fault.Foreign) × HasTables (state S.Store connection).now)) }
         ensures was { IfOk result (λ book. is_sound S.Store book → is_sound S.Store connection) }
         ensures honest { IfOk result (λ book. is_honest S.Store book → is_honest S.Store connection) }
+        ensures shield { IfOk result (λ book. is_shielded S.Store connection → is_shielded S.Store book) }
         ensures stays { IfOk result (λ book. is_honest S.Store book → is_sound S.Store book) }
         ensures was_refused { IfErr result (λ refused. is_sound S.Store refused.connection → is_sound S.Store connection) }
     {
         match found_in(alloc, connection.schema()) {
             Ok(Found::Nothing) => SqlBook::new(alloc, connection),
-            Ok(Found::First) => adopt(alloc, connection, true),
-            Ok(Found::All) => adopt(alloc, connection, false),
+            Ok(Found::Version1) => adopt(alloc, connection, true),
+            Ok(Found::Version2) => adopt(alloc, connection, false),
             Ok(Found::Others) => Err(refusal(Fault::Store, connection)),
             Err(fault) => Err(refusal(told(fault), connection)),
         }
@@ -160,7 +162,7 @@ impl<S: Alter> SqlBook<S> {
 impl<S: Alter> Book for SqlBook<S> {
     ghost use Rattle.gate_store.specs.Run.{IsOfBooks};
     ghost use Rattle.gate_sql.specs.Shown.{shown};
-    ghost use Rattle.gate_tables.specs.Tables.{is_honest, is_sound};
+    ghost use Rattle.gate_tables.specs.Tables.{is_honest, is_shielded, is_sound};
 
     ghost shows = { λ book. shown S.Store book };
 
@@ -168,6 +170,8 @@ impl<S: Alter> Book for SqlBook<S> {
     ghost is_sound = { λ book. is_sound S.Store book };
 
     ghost is_honest = { λ book. is_honest S.Store book };
+
+    ghost is_shielded = { λ book. is_shielded S.Store book };
 
     ghost sound_is_honest = { λ book sound. sound.0 };
 
@@ -205,6 +209,7 @@ impl<S: Alter> Book for SqlBook<S> {
         ensures holds { is_sound S.Store self.new → Holds S.Store self.new }
         ensures was { is_sound S.Store self.new → is_sound S.Store self.old }
         ensures honest { is_honest S.Store self.new → is_honest S.Store self.old }
+        ensures shield { is_shielded S.Store self.old → is_shielded S.Store self.new }
         ensures stays { is_honest S.Store self.new → OnOk result (is_sound S.Store self.new) }
         ensures cause { IfErr result IsOfBooks }
         ensures fault { IfErr result IsOfBooks }
@@ -247,6 +252,7 @@ impl<S: Alter> Book for SqlBook<S> {
         ensures holds { is_sound S.Store self.new → Holds S.Store self.new }
         ensures was { is_sound S.Store self.new → is_sound S.Store self.old }
         ensures honest { is_honest S.Store self.new → is_honest S.Store self.old }
+        ensures shield { is_shielded S.Store self.old → is_shielded S.Store self.new }
         ensures stays { is_honest S.Store self.new → OnOk result (is_sound S.Store self.new) }
         ensures cause { IfErr result IsOfBooks }
         ensures fault { IfErr result IsOfBooks }
@@ -283,6 +289,7 @@ fn adopt<S: Alter>(
     ensures fault { IfErr result (λ refused. MayRefuse refused.fault) }
     ensures was { IfOk result (λ book. is_sound S.Store book → is_sound S.Store connection) }
     ensures honest { IfOk result (λ book. is_honest S.Store book → is_honest S.Store connection) }
+    ensures shield { IfOk result (λ book. is_shielded S.Store connection → is_shielded S.Store book) }
     ensures stays { IfOk result (λ book. is_honest S.Store book → is_sound S.Store book) }
     ensures was_refused { IfErr result (λ refused. is_sound S.Store refused.connection → is_sound S.Store connection) }
 {
@@ -347,6 +354,7 @@ fn changes_to<S: Alter>(
     ensures same { is_sound S.Store tables.new → (rows_in S.Store tables.new ≡ rows_in S.Store tables.old) × (answers_in S.Store tables.new ≡ answers_in S.Store tables.old) }
     ensures was { is_sound S.Store tables.new → is_sound S.Store tables.old }
     ensures honest { is_honest S.Store tables.new → is_honest S.Store tables.old }
+    ensures shield { is_shielded S.Store tables.old → is_shielded S.Store tables.new }
     ensures book { is_sound S.Store tables.new → IsBook (state S.Store tables.new) }
 {
     law_of_changed_rows();

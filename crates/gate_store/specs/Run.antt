@@ -122,6 +122,10 @@ IsOpenAfter Memory sound = ⊤
 IsOpenAfter Store sound = ⊤
 IsOpenAfter Foreign sound = ⊤
 
+abbrev pub IsOpenUnless : Option Fault → (sound : Type 0) → Type 0
+IsOpenUnless None sound = sound
+IsOpenUnless (Some fault) sound = IsOpenAfter fault sound
+
 abbrev pub StaysOpen : {X : Type 0} → Result X Fault → (sound : Type 0) → Type 0
 StaysOpen (Ok _) sound = sound
 StaysOpen (Err fault) sound = IsOpenAfter fault sound

@@ -27,6 +27,9 @@ pub trait Book {
     // fault has shut the book.
     ghost is_honest: { Self → Type 0 };
 
+    // Each later read beneath the book is tested, so that one which gives back something else is a fault, if the test can tell the two.
+    ghost is_shielded: { Self → Type 0 };
+
     // The faults that it may answer.
     ghost may_answer: { FaultOf → Type 0 };
 
@@ -36,6 +39,7 @@ pub trait Book {
         ensures same { is_sound self.new → shows self.new ≡ shows self.old }
         ensures was { is_sound self.new → is_sound self.old }
         ensures honest { is_honest self.new → is_honest self.old }
+        ensures shield { is_shielded self.old → is_shielded self.new }
         ensures stays { is_honest self.new → OnOk result (is_sound self.new) }
         ensures cause { IfErr result may_answer }
         ensures fault { IfErr result IsOfBooks };
@@ -46,6 +50,7 @@ pub trait Book {
         ensures same { is_sound self.new → shows self.new ≡ shows self.old }
         ensures was { is_sound self.new → is_sound self.old }
         ensures honest { is_honest self.new → is_honest self.old }
+        ensures shield { is_shielded self.old → is_shielded self.new }
         ensures stays { is_honest self.new → OnOk result (is_sound self.new) }
         ensures cause { IfErr result may_answer }
         ensures fault { IfErr result IsOfBooks };
@@ -63,6 +68,7 @@ pub trait Book {
         ensures err { is_sound self.new → OnErr result (shows self.new ≡ shows self.old) }
         ensures was { is_sound self.new → is_sound self.old }
         ensures honest { is_honest self.new → is_honest self.old }
+        ensures shield { is_shielded self.old → is_shielded self.new }
         ensures stays { is_honest self.new → OnOk result (is_sound self.new) }
         ensures cause { IfErr result may_answer }
         ensures fault { IfErr result IsOfBooks };
@@ -86,6 +92,7 @@ pub trait Book {
         ensures err { is_sound self.new → OnErr result (shows self.new ≡ shows self.old) }
         ensures was { is_sound self.new → is_sound self.old }
         ensures honest { is_honest self.new → is_honest self.old }
+        ensures shield { is_shielded self.old → is_shielded self.new }
         ensures stays { is_honest self.new → OnOk result (is_sound self.new) }
         ensures cause { IfErr result may_answer }
         ensures fault { IfErr result IsOfBooks }

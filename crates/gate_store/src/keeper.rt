@@ -7,7 +7,7 @@ ghost use Rattle.gate_queue.specs.History.{Entry, Legal, StateTells};
 ghost use Rattle.gate_store.specs.Answers.{answer_text_of};
 ghost use Rattle.gate_store.specs.Reading.{answer_of};
 ghost use Rattle.gate_store.specs.Headline.{Each, Headline, HistoryTells, Tells, acts_of_all, first_in};
-ghost use Rattle.gate_store.specs.Run.{AgreesOnFull, IsFullBefore, IsOfBooks, IsOfKeepers, NoneMeetsFull, StaysOpen, StopsBefore, acts_in, acts_meet_full, after_deliveries, after_delivery, answer_to, answers_to, kept_under, meets_full, new_acts, replies_to, stepped, with_answer};
+ghost use Rattle.gate_store.specs.Run.{AgreesOnFull, IsFullBefore, IsOfBooks, IsOfKeepers, IsOpenUnless, NoneMeetsFull, StaysOpen, StopsBefore, acts_in, acts_meet_full, after_deliveries, after_delivery, answer_to, answers_to, kept_under, meets_full, new_acts, replies_to, stepped, with_answer};
 
 use crate::answers::{Answer, answer_text};
 use crate::book::Book;
@@ -69,6 +69,8 @@ impl<B: Book> Keeper<B> {
         ensures same { B.is_sound self.new → B.shows self.new ≡ B.shows self.old }
         ensures was { B.is_sound self.new → B.is_sound self.old }
         ensures honest { B.is_honest self.new → B.is_honest self.old }
+        ensures shield { B.is_shielded self.old → B.is_shielded self.new }
+        ensures stays { (B.is_honest self.old → B.is_sound self.old) → B.is_honest self.new → OnOk result (B.is_sound self.new) }
         ensures cause { IfErr result (λ fault. (fault ≡ Fault.Memory) ⊎ B.may_answer fault) }
         ensures fault { IfErr result IsOfBooks }
     {
@@ -79,7 +81,7 @@ impl<B: Book> Keeper<B> {
     /// The gate, lent. It changes nothing but that a gate is at hand then, so the book is asked for it once, and no copy is made. The
     /// faults are those of `gate`.
     pub fn look(&mut self, alloc: Global) -> Result<&Gate, Fault>
-        ensures* rests { sem 𝓛 (Rests (the_row B.row B.Book) self.entry (λ new. Looked B.shows B.is_sound B.is_honest self.old new result)) }
+        ensures* rests { sem 𝓛 (Rests (the_row B.row B.Book) self.entry (λ new. Looked B.shows B.is_sound B.is_honest B.is_shielded self.old new result)) }
         ensures cause { IfErr result (λ fault. (fault ≡ Fault.Memory) ⊎ B.may_answer fault) }
         ensures fault { IfErr result IsOfBooks }
     {
@@ -97,6 +99,8 @@ impl<B: Book> Keeper<B> {
         ensures same { B.is_sound self.new → B.shows self.new ≡ B.shows self.old }
         ensures was { B.is_sound self.new → B.is_sound self.old }
         ensures honest { B.is_honest self.new → B.is_honest self.old }
+        ensures shield { B.is_shielded self.old → B.is_shielded self.new }
+        ensures stays { (B.is_honest self.old → B.is_sound self.old) → B.is_honest self.new → OnOk result (B.is_sound self.new) }
         ensures cause { IfErr result (λ fault. (fault ≡ Fault.Memory) ⊎ B.may_answer fault) }
         ensures fault { IfErr result IsOfBooks }
     {
@@ -126,6 +130,7 @@ impl<B: Book> Keeper<B> {
         ensures cause { IfErr result (IsOfKeepers B.may_answer) }
         ensures was { B.is_sound self.new → B.is_sound self.old }
         ensures honest { B.is_honest self.new → B.is_honest self.old }
+        ensures shield { B.is_shielded self.old → B.is_shielded self.new }
         ensures stays { B.is_honest self.new → StaysOpen result (B.is_sound self.new) }
     {
         self.answer(alloc, delivery)
@@ -148,6 +153,7 @@ impl<B: Book> Keeper<B> {
         ensures cause { IfErr result (IsOfKeepers B.may_answer) }
         ensures was { B.is_sound self.new → B.is_sound self.old }
         ensures honest { B.is_honest self.new → B.is_honest self.old }
+        ensures shield { B.is_shielded self.old → B.is_shielded self.new }
         ensures stays { B.is_honest self.new → StaysOpen result (B.is_sound self.new) }
     {
         self.text(alloc, delivery)
@@ -173,6 +179,10 @@ impl<B: Book> Keeper<B> {
         ensures cause { IfSome result.1 (IsOfKeepers B.may_answer) }
         ensures was { B.is_sound self.new → B.is_sound self.old }
         ensures honest { B.is_honest self.new → B.is_honest self.old }
+        ensures shield { B.is_shielded self.old → B.is_shielded self.new }
+
+        // Of a book that was sound and is honest, only `Memory` and `Store` may have shut it.
+        ensures stays { B.is_sound self.old → B.is_honest self.new → IsOpenUnless result.1 (B.is_sound self.new) }
     {
         self.answer_all(alloc, deliveries)
     }
@@ -188,6 +198,8 @@ impl<B: Book> Keeper<B> {
         ensures cause { IfSome result.1 (IsOfKeepers B.may_answer) }
         ensures was { B.is_sound self.new → B.is_sound self.old }
         ensures honest { B.is_honest self.new → B.is_honest self.old }
+        ensures shield { B.is_shielded self.old → B.is_shielded self.new }
+        ensures stays { B.is_sound self.old → B.is_honest self.new → IsOpenUnless result.1 (B.is_sound self.new) }
     {
         let mut answers = Vec::new(alloc);
         for delivery in deliveries {
@@ -212,6 +224,7 @@ impl<B: Book> Keeper<B> {
         ensures cause { IfErr result (IsOfKeepers B.may_answer) }
         ensures was { B.is_sound self.new → B.is_sound self.old }
         ensures honest { B.is_honest self.new → B.is_honest self.old }
+        ensures shield { B.is_shielded self.old → B.is_shielded self.new }
         ensures stays { B.is_honest self.new → StaysOpen result (B.is_sound self.new) }
     {
         if let Some(answer) = self.book.kept(alloc, &delivery.id)? {
@@ -231,6 +244,7 @@ impl<B: Book> Keeper<B> {
         ensures cause { IfErr result (IsOfKeepers B.may_answer) }
         ensures was { B.is_sound self.new → B.is_sound self.old }
         ensures honest { B.is_honest self.new → B.is_honest self.old }
+        ensures shield { B.is_shielded self.old → B.is_shielded self.new }
         ensures stays { B.is_honest self.new → StaysOpen result (B.is_sound self.new) }
     {
         if let Some(kept) = self.book.kept(alloc, &delivery.id)? {
@@ -253,6 +267,7 @@ impl<B: Book> Keeper<B> {
         ensures cause { IfErr result (IsOfKeepers B.may_answer) }
         ensures was { B.is_sound self.new → B.is_sound self.old }
         ensures honest { B.is_honest self.new → B.is_honest self.old }
+        ensures shield { B.is_shielded self.old → B.is_shielded self.new }
         ensures stays { B.is_honest self.new → StaysOpen result (B.is_sound self.new) }
     {
         let acts = acts_of(alloc, delivery)?;
@@ -281,6 +296,7 @@ impl<B: Book> Keeper<B> {
         ensures err { B.is_sound self.new → OnErr result (B.shows self.new ≡ B.shows self.old) }
         ensures was { B.is_sound self.new → B.is_sound self.old }
         ensures honest { B.is_honest self.new → B.is_honest self.old }
+        ensures shield { B.is_shielded self.old → B.is_shielded self.new }
         ensures stays { B.is_honest self.new → OnOk result (B.is_sound self.new) }
         ensures cause { IfErr result B.may_answer }
         ensures fault { IfErr result IsOfBooks }
@@ -312,6 +328,7 @@ fn take_gate<B: Book>(
     ensures same { B.is_sound book.new → B.shows book.new ≡ B.shows book.old }
     ensures was { B.is_sound book.new → B.is_sound book.old }
     ensures honest { B.is_honest book.new → B.is_honest book.old }
+    ensures shield { B.is_shielded book.old → B.is_shielded book.new }
     ensures stays { (B.is_honest book.old → B.is_sound book.old) → B.is_honest book.new → OnOk result (B.is_sound book.new) }
     ensures cause { IfErr result B.may_answer }
     ensures fault { IfErr result IsOfBooks }

@@ -71,6 +71,8 @@ impl Book for PlainBook {
 
     ghost is_honest = { λ book. Unit {0} };
 
+    ghost is_shielded = { λ book. Unit {0} };
+
     ghost sound_is_honest = { λ book sound. tt };
 
     ghost may_answer = { λ fault. fault ≡ Memory };

@@ -3,7 +3,7 @@ use Rattle.std.specs.Prelude.{◌≡◌, ◌≢◌, ◌==◌, Bool, [], length, 
 use Rattle.gate_tables.specs.Contents.{rows_at}
 use Rattle.gate_tables.specs.Database.{all_layouts, all_schema, schema_of}
 use Rattle.gate_tables.specs.declared.found.Found.{Found}
-use Rattle.gate_tables.specs.declared.found.Found.TheVariants.{Nothing, First, All, Others}
+use Rattle.gate_tables.specs.declared.found.Found.TheVariants.{Nothing, Version1, Version2, Others}
 use Rattle.gate_tables.specs.declared.row.Rows.{Rows}
 use Rattle.sqlite.specs.Effect.{Database}
 use Rattle.sqlite.specs.Schema.{Schema}
@@ -15,8 +15,8 @@ first_schema = schema_of (take 8 all_layouts)
 -- what was found is what the schema has
 abbrev pub IsFound : Found → Schema → Type 0
 IsFound Nothing schema = schema ≡ schema_of []
-IsFound First schema = schema ≡ first_schema
-IsFound All schema = schema ≡ all_schema
+IsFound Version1 schema = schema ≡ first_schema
+IsFound Version2 schema = schema ≡ all_schema
 IsFound Others schema = (schema ≢ schema_of []) × (schema ≢ first_schema) × (schema ≢ all_schema)
 
 -- the tables of a database that lacks the one, or doesn't

@@ -28,6 +28,10 @@ module _ {S : Type 0} (g : Ghosts S) where
   abbrev pub is_sound : Held S → Type 0
   is_sound h = is_honest h × IsTrue (state g h).is_open
 
+  -- each later read is tested, so that over a file one that isn't honest is a fault, or two contents have one digest
+  abbrev pub is_shielded : Held S → Type 0
+  is_shielded h = (state g h).IsShielded
+
   abbrev pub rows_in : Held S → Rows
   rows_in h = rows_at (state g h).now.trees
 

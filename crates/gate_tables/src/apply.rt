@@ -26,6 +26,7 @@ fn put<S: Alter, R: TableRow>(tx: &mut Transaction<'_, S>, row: &R) -> Result<()
         → IsInside all_schema (state S.Store tx.new.conn.now) × Puts R.form row.now (state S.Store tx.old.conn.now).now.trees (state S.Store tx.new.conn.now).now.trees) }
     ensures kept { HasCleanDisk (state S.Store tx.new.conn.now) → KeepsCommit (state S.Store tx.old.conn.now) (state S.Store tx.new.conn.now) }
     ensures clean { HasCleanDisk (state S.Store tx.new.conn.now) → HasCleanDisk (state S.Store tx.old.conn.now) }
+    ensures shield { (state S.Store tx.old.conn.now).IsShielded → (state S.Store tx.new.conn.now).IsShielded }
 {
     if row.update(tx)? > 0 {
         return Ok(());
@@ -44,6 +45,7 @@ fn delete<S: Alter, R: TableRow>(
         → IsInside all_schema (state S.Store tx.new.conn.now) × Drops R.form (bound key.now) (state S.Store tx.old.conn.now).now.trees (state S.Store tx.new.conn.now).now.trees) }
     ensures kept { HasCleanDisk (state S.Store tx.new.conn.now) → KeepsCommit (state S.Store tx.old.conn.now) (state S.Store tx.new.conn.now) }
     ensures clean { HasCleanDisk (state S.Store tx.new.conn.now) → HasCleanDisk (state S.Store tx.old.conn.now) }
+    ensures shield { (state S.Store tx.old.conn.now).IsShielded → (state S.Store tx.new.conn.now).IsShielded }
 {
     run(tx, R::delete_text(), key)
 }
@@ -55,6 +57,7 @@ fn delete_by<S: Alter>(tx: &mut Transaction<'_, S>, key: &RowKey) -> Result<(), 
         → IsInside all_schema (state S.Store tx.new.conn.now) × Changes (Delete key.now ∷ []) (state S.Store tx.old.conn.now).now.trees (state S.Store tx.new.conn.now).now.trees) }
     ensures kept { HasCleanDisk (state S.Store tx.new.conn.now) → KeepsCommit (state S.Store tx.old.conn.now) (state S.Store tx.new.conn.now) }
     ensures clean { HasCleanDisk (state S.Store tx.new.conn.now) → HasCleanDisk (state S.Store tx.old.conn.now) }
+    ensures shield { (state S.Store tx.old.conn.now).IsShielded → (state S.Store tx.new.conn.now).IsShielded }
 {
     match key {
         RowKey::Desk { one } => delete::<S, DeskRow>(tx, params![one]),
@@ -81,6 +84,7 @@ fn put_row<S: Alter>(tx: &mut Transaction<'_, S>, row: &Row) -> Result<(), Table
         → IsInside all_schema (state S.Store tx.new.conn.now) × Changes (Put row.now ∷ []) (state S.Store tx.old.conn.now).now.trees (state S.Store tx.new.conn.now).now.trees) }
     ensures kept { HasCleanDisk (state S.Store tx.new.conn.now) → KeepsCommit (state S.Store tx.old.conn.now) (state S.Store tx.new.conn.now) }
     ensures clean { HasCleanDisk (state S.Store tx.new.conn.now) → HasCleanDisk (state S.Store tx.old.conn.now) }
+    ensures shield { (state S.Store tx.old.conn.now).IsShielded → (state S.Store tx.new.conn.now).IsShielded }
 {
     match row {
         Row::Desk(row) => put(tx, row),
@@ -101,6 +105,7 @@ fn change_one<S: Alter>(tx: &mut Transaction<'_, S>, change: &RowChange) -> Resu
         → IsInside all_schema (state S.Store tx.new.conn.now) × Changes (change.now ∷ []) (state S.Store tx.old.conn.now).now.trees (state S.Store tx.new.conn.now).now.trees) }
     ensures kept { HasCleanDisk (state S.Store tx.new.conn.now) → KeepsCommit (state S.Store tx.old.conn.now) (state S.Store tx.new.conn.now) }
     ensures clean { HasCleanDisk (state S.Store tx.new.conn.now) → HasCleanDisk (state S.Store tx.old.conn.now) }
+    ensures shield { (state S.Store tx.old.conn.now).IsShielded → (state S.Store tx.new.conn.now).IsShielded }
 {
     match change {
         RowChange::Put(row) => put_row(tx, row),
@@ -118,6 +123,7 @@ pub(crate) fn change_all<S: Alter>(
         → IsInside all_schema (state S.Store tx.new.conn.now) × Changes changes.now (state S.Store tx.old.conn.now).now.trees (state S.Store tx.new.conn.now).now.trees) }
     ensures kept { HasCleanDisk (state S.Store tx.new.conn.now) → KeepsCommit (state S.Store tx.old.conn.now) (state S.Store tx.new.conn.now) }
     ensures clean { HasCleanDisk (state S.Store tx.new.conn.now) → HasCleanDisk (state S.Store tx.old.conn.now) }
+    ensures shield { (state S.Store tx.old.conn.now).IsShielded → (state S.Store tx.new.conn.now).IsShielded }
 {
     for change in changes {
         change_one(tx, change)?;
@@ -138,6 +144,7 @@ pub(crate) fn apply_all<S: Alter>(
     ensures left { HasCleanDisk (state S.Store conn.new) → IsReady (state S.Store conn.old) → OnErr result (Leaves (state S.Store conn.old) (state S.Store conn.new)) }
     ensures was { HasCleanDisk (state S.Store conn.new) → IsTrue (state S.Store conn.new).is_open → IsTrue (state S.Store conn.old).is_open }
     ensures clean { HasCleanDisk (state S.Store conn.new) → HasCleanDisk (state S.Store conn.old) }
+    ensures shield { (state S.Store conn.old).IsShielded → (state S.Store conn.new).IsShielded }
     ensures stays { HasCleanDisk (state S.Store conn.new) → OnOk result (IsTrue (state S.Store conn.new).is_open) }
 {
     let mut tx = conn.transaction();

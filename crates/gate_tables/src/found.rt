@@ -19,9 +19,9 @@ pub enum Found {
     /// No table, index or view.
     Nothing,
     /// The eight tables of schema version 1, and nothing besides.
-    First,
+    Version1,
     /// The nine tables of schema version 2, and nothing besides.
-    All,
+    Version2,
     /// Anything else.
     Others,
 }
@@ -37,11 +37,11 @@ pub fn found_in(alloc: Global, schema: &Schema) -> Result<Found, TablesFault>
     let mut model = Connection::open_in_memory(alloc)?;
     make_first(&mut model)?;
     if is_same(schema, model.schema()) {
-        return Ok(Found::First);
+        return Ok(Found::Version1);
     }
     make_wanted(&mut model)?;
     if is_same(schema, model.schema()) {
-        return Ok(Found::All);
+        return Ok(Found::Version2);
     }
     Ok(Found::Others)
 }

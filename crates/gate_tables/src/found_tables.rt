@@ -3,7 +3,7 @@ ghost use Rattle.gate_tables.specs.Applied.{applied};
 ghost use Rattle.gate_tables.specs.Contents.{AreSame, answers_at};
 ghost use Rattle.gate_tables.specs.Forms.{answers, rows_of};
 ghost use Rattle.gate_tables.specs.Schemas.{HasTables, stored_rows};
-ghost use Rattle.gate_tables.specs.Tables.{is_honest, is_sound, answers_in, rows_in};
+ghost use Rattle.gate_tables.specs.Tables.{is_honest, is_shielded, is_sound, answers_in, rows_in};
 ghost use Rattle.sqlite.specs.Held.{state};
 
 use crate::change::RowChange;
@@ -51,6 +51,7 @@ impl<S: Alter> FoundTables<S> {
         ensures mode { IfErr result (λ refused. refused.connection.in_transaction ≡ false) }
         ensures was { IfOk result (λ found. is_sound S.Store found.0 → is_sound S.Store connection) }
         ensures honest { IfOk result (λ found. is_honest S.Store found.0 → is_honest S.Store connection) }
+        ensures shield { IfOk result (λ found. is_shielded S.Store connection → is_shielded S.Store found.0) }
         ensures was_refused { IfErr result (λ refused. is_sound S.Store refused.connection → is_sound S.Store connection) }
     {
         // That no transaction is open says that the database is as it was committed.
@@ -76,6 +77,7 @@ impl<S: Alter> FoundTables<S> {
         ensures mode { IfErr result (λ refused. refused.connection.in_transaction ≡ false) }
         ensures was { IfOk result (λ tables. is_sound S.Store tables → is_sound S.Store self) }
         ensures honest { IfOk result (λ tables. is_honest S.Store tables → is_honest S.Store self) }
+        ensures shield { IfOk result (λ tables. is_shielded S.Store self → is_shielded S.Store tables) }
         ensures stays { IfOk result (λ tables. is_honest S.Store tables → is_sound S.Store tables) }
         ensures was_refused { IfErr result (λ refused. is_sound S.Store refused.connection → is_sound S.Store self) }
     {

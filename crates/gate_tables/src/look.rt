@@ -32,6 +32,7 @@ pub(crate) fn read<S: Alter>(alloc: Global, conn: &mut Connection<S>) -> Result<
     ensures left { HasCleanDisk (state S.Store conn.new) → IsReady (state S.Store conn.old) → Leaves (state S.Store conn.old) (state S.Store conn.new) }
     ensures was { HasCleanDisk (state S.Store conn.new) → IsTrue (state S.Store conn.new).is_open → IsTrue (state S.Store conn.old).is_open }
     ensures clean { HasCleanDisk (state S.Store conn.new) → HasCleanDisk (state S.Store conn.old) }
+    ensures shield { (state S.Store conn.old).IsShielded → (state S.Store conn.new).IsShielded }
     ensures stays { HasCleanDisk (state S.Store conn.new) → OnOk result (IsTrue (state S.Store conn.new).is_open) }
 {
     let mut tx = conn.transaction();
@@ -55,6 +56,7 @@ fn read_contents<S: Alter>(
         → KeepsCommit (state S.Store tx.old.conn.now) (state S.Store tx.new.conn.now) }
     ensures was { HasCleanDisk (state S.Store tx.new.conn.now) → IsTrue (state S.Store tx.new.conn.now).is_open → IsTrue (state S.Store tx.old.conn.now).is_open }
     ensures clean { HasCleanDisk (state S.Store tx.new.conn.now) → HasCleanDisk (state S.Store tx.old.conn.now) }
+    ensures shield { (state S.Store tx.old.conn.now).IsShielded → (state S.Store tx.new.conn.now).IsShielded }
 {
     let rows = read_rows(alloc, tx)?;
     let answers = read_answers(alloc, tx)?;
@@ -73,6 +75,7 @@ pub(crate) fn look<S: Alter>(
     ensures left { HasCleanDisk (state S.Store conn.new) → HasTables (state S.Store conn.old).now → Leaves (state S.Store conn.old) (state S.Store conn.new) }
     ensures was { HasCleanDisk (state S.Store conn.new) → HasTables (state S.Store conn.old).now → IsTrue (state S.Store conn.new).is_open → IsTrue (state S.Store conn.old).is_open }
     ensures clean { HasCleanDisk (state S.Store conn.new) → HasCleanDisk (state S.Store conn.old) }
+    ensures shield { (state S.Store conn.old).IsShielded → (state S.Store conn.new).IsShielded }
 {
     let missing = lacks_wanted(conn.schema());
     let mut tx = conn.transaction();

@@ -3,7 +3,7 @@ ghost use Rattle.std.specs.FinMap.{empty, get, insert};
 ghost use Rattle.gate_tables.specs.Applied.{applied, no_rows};
 ghost use Rattle.gate_tables.specs.Contents.{AreSame};
 ghost use Rattle.gate_tables.specs.Database.{schema_of};
-ghost use Rattle.gate_tables.specs.Tables.{is_honest, is_sound, rows_in, answers_in, IsBook, Stands};
+ghost use Rattle.gate_tables.specs.Tables.{is_honest, is_shielded, is_sound, rows_in, answers_in, IsBook, Stands};
 ghost use Rattle.sqlite.specs.Held.{state};
 
 use crate::answers::find_answer;
@@ -59,6 +59,7 @@ impl<S: Alter> Tables<S> {
         ensures mode { IfErr result (λ refused. refused.connection.in_transaction ≡ false) }
         ensures was { IfOk result (λ tables. is_sound S.Store tables → is_sound S.Store connection) }
         ensures honest { IfOk result (λ tables. is_honest S.Store tables → is_honest S.Store connection) }
+        ensures shield { IfOk result (λ tables. is_shielded S.Store connection → is_shielded S.Store tables) }
         ensures stays { IfOk result (λ tables. is_honest S.Store tables → is_sound S.Store tables) }
         ensures was_refused { IfErr result (λ refused. is_sound S.Store refused.connection → is_sound S.Store connection) }
     {
@@ -109,6 +110,7 @@ impl<S: Alter> Tables<S> {
         ensures same { is_sound S.Store self.new → (rows_in S.Store self.new ≡ rows_in S.Store self.old) × (answers_in S.Store self.new ≡ answers_in S.Store self.old) }
         ensures was { is_sound S.Store self.new → is_sound S.Store self.old }
         ensures honest { is_honest S.Store self.new → is_honest S.Store self.old }
+        ensures shield { is_shielded S.Store self.old → is_shielded S.Store self.new }
         ensures stays { is_honest S.Store self.new → OnOk result (is_sound S.Store self.new) }
     {
         read(alloc, &mut self.connection)
@@ -121,6 +123,7 @@ impl<S: Alter> Tables<S> {
         ensures same { is_sound S.Store self.new → (rows_in S.Store self.new ≡ rows_in S.Store self.old) × (answers_in S.Store self.new ≡ answers_in S.Store self.old) }
         ensures was { is_sound S.Store self.new → is_sound S.Store self.old }
         ensures honest { is_honest S.Store self.new → is_honest S.Store self.old }
+        ensures shield { is_shielded S.Store self.old → is_shielded S.Store self.new }
         ensures stays { is_honest S.Store self.new → OnOk result (is_sound S.Store self.new) }
     {
         find_answer(&mut self.connection, id)
@@ -136,6 +139,7 @@ impl<S: Alter> Tables<S> {
         ensures same { is_sound S.Store self.new → OnErr result ((rows_in S.Store self.new ≡ rows_in S.Store self.old) × (answers_in S.Store self.new ≡ answers_in S.Store self.old)) }
         ensures was { is_sound S.Store self.new → is_sound S.Store self.old }
         ensures honest { is_honest S.Store self.new → is_honest S.Store self.old }
+        ensures shield { is_shielded S.Store self.old → is_shielded S.Store self.new }
         ensures stays { is_honest S.Store self.new → OnOk result (is_sound S.Store self.new) }
     {
         apply_all(&mut self.connection, changes, id, body)

@@ -1,13 +1,17 @@
 use Rattle.std.proofs.Common.{Err, Ok, codes, refl, sym}
 use Rattle.std.specs.Fmt.{digits}
 use Rattle.gate_hook.specs.Responses.{response_text}
-use Rattle.gate_hook.proofs.Responding.{exact-one, sends-fault, sends-response, unchanged}
+use Rattle.gate_hook.proofs.Responding.{exact-one, sends-fault, sends-response, stays-fault, stays-response, unchanged}
 use Rattle.gate_hook.proofs.requests.serve_one.Goals as goal
 
 pub returns-in-Ok-clause-served : goal.returns-in-Ok-clause-served
 returns-in-Ok-clause-served g c =
     let answered = c.in-Ok.ensures.answered in
     (answered.0, answered.1, λ sound. sends-response _ c.in-Ok.response _ _ _ _ _ (answered.2 sound) (rw (sym c.as_str.ensures.value) c.send_as.ensures))
+
+pub returns-in-Ok-clause-stays : goal.returns-in-Ok-clause-stays
+returns-in-Ok-clause-stays g c begun honest =
+    stays-response _ c.in-Ok.response _ _ _ (c.in-Ok.ensures.stays (λ _. begun) honest) (rw (sym c.as_str.ensures.value) c.send_as.ensures)
 
 pub returns-in-Ok-clause-same : goal.returns-in-Ok-clause-same
 returns-in-Ok-clause-same g c sound input known none =
@@ -23,6 +27,12 @@ returns-in-Err-Gate-clause-served g c =
       λ sound. sends-fault _ c.in-Err-Gate.fault _ _ _ _ _ (codes "HTTP/1.1 503 Service Unavailable\r\nContent-Length: 0\r\nConnection: close\r\n\r\n") refl
           (rw c.in-Err-Gate.field-0-is at answered.2 sound) c.send_as-in-Err-Gate.ensures,
     )
+
+pub returns-in-Err-Gate-clause-stays : goal.returns-in-Err-Gate-clause-stays
+unfolding response_text digits
+returns-in-Err-Gate-clause-stays g c begun honest =
+    stays-fault _ c.in-Err-Gate.fault _ _ _ (codes "HTTP/1.1 503 Service Unavailable\r\nContent-Length: 0\r\nConnection: close\r\n\r\n") refl
+    (rw c.in-Err-Gate.field-0-is at c.in-Err-Gate.ensures.stays (λ _. begun) honest) c.send_as-in-Err-Gate.ensures
 
 pub returns-in-Err-Gate-clause-same : goal.returns-in-Err-Gate-clause-same
 returns-in-Err-Gate-clause-same g c sound input known none =

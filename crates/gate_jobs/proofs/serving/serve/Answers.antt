@@ -11,6 +11,8 @@ loop-preserved g c =
     let input = last.served.0 in
     record {
       was = λ sound. before.was (last.was sound);
+      honest = λ honest. before.honest (last.honest honest);
+      shield = λ shielded. last.shield (before.shield shielded);
       served = (
         inputs ++ input ∷ [],
         omega (arith, length-append inputs (input ∷ []), before.served.1),

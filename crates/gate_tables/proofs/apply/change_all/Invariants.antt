@@ -12,5 +12,6 @@ invariant-loop-change g l =
     let now = state g.S.Store l.tx.conn.now in
     (l.tx.conn.ghost_name ≡ l.initial.tx.conn.ghost_name)
     × (HasCleanDisk now → HasCleanDisk first)
+    × (first.IsShielded → now.IsShielded)
     × (HasCleanDisk now → KeepsCommit first now)
     × (HasCleanDisk now → IsInside all_schema first → IsInside all_schema now × Changes (take l.change-index l.changes) first.now.trees now.now.trees)

@@ -25,6 +25,7 @@ loop-byte-preserved g c =
       same_writer = c.in-Ok.ensures.same_writer ∙ so_far.same_writer;
       was = λ premise. so_far.was (c.in-Ok.ensures.was premise);
       honest = λ premise. so_far.honest (c.in-Ok.ensures.honest premise);
+      shield = λ premise. c.in-Ok.ensures.shield (so_far.shield premise);
       stays = λ begun premise. c.in-Ok.ensures.stays (so_far.stays begun) premise;
       taken = λ opened input before begun.
           rw (← one_more input bytes i c.loop-byte-test.true) (c.in-Ok.ensures.taken opened (input ++ take i bytes) before (so_far.taken opened input before begun));

@@ -10,6 +10,7 @@ invariant-loop-byte g l = record {
   same_writer : l.self.writer.ghost_name ≡ l.fn.self.writer.ghost_name;
   was : g.B.Book.is_sound l.self.keeper.now → g.B.Book.is_sound l.fn.self.keeper.now;
   honest : g.B.Book.is_honest l.self.keeper.now → g.B.Book.is_honest l.fn.self.keeper.now;
+  shield : g.B.Book.is_shielded l.fn.self.keeper.now → g.B.Book.is_shielded l.self.keeper.now;
   stays : (g.B.Book.is_honest l.fn.self.keeper.now → g.B.Book.is_sound l.fn.self.keeper.now) → g.B.Book.is_honest l.self.keeper.now → g.B.Book.is_sound l.self.keeper.now;
   taken : (opened : Records) (input : List ℕ) (before : Option (List ℕ))
       → IsUpTo (g.B.Book.is_sound l.fn.self.keeper.now) opened input (g.B.Book.shows l.fn.self.keeper.now)

@@ -61,6 +61,7 @@ chunks-preserved g c =
       same_writer = c.in-Ok.ensures.same_writer ∙ c.chunks.invariant.same_writer;
       was = λ premise. c.chunks.invariant.was (c.in-Ok.ensures.was premise);
       honest = λ premise. c.chunks.invariant.honest (c.in-Ok.ensures.honest premise);
+      shield = λ premise. c.in-Ok.ensures.shield (c.chunks.invariant.shield premise);
       stays = λ begun premise. c.in-Ok.ensures.stays (c.chunks.invariant.stays begun) premise;
       taken = (
         so_far.0 ++ chunk,

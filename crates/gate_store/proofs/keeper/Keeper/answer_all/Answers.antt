@@ -31,4 +31,6 @@ loop-delivery-preserved g c =
       count = omega (arith, ap length pushed, length_push c.loop-delivery.answers.items c.in-Ok.answer, so_far.count);
       was = λ sound. so_far.was (was sound);
       honest = λ honest. so_far.honest (before honest);
+      shield = λ shielded. c.in-Ok.ensures.shield (so_far.shield shielded);
+      stays = λ begun honest. stays honest;
     }

@@ -14,4 +14,6 @@ invariant-loop-delivery g l = record {
   count : length l.answers.items ≡ l.delivery-index;
   was : g.B.Book.is_sound l.self → g.B.Book.is_sound l.fn.self;
   honest : g.B.Book.is_honest l.self → g.B.Book.is_honest l.fn.self;
+  shield : g.B.Book.is_shielded l.fn.self → g.B.Book.is_shielded l.self;
+  stays : g.B.Book.is_sound l.fn.self → g.B.Book.is_honest l.self → g.B.Book.is_sound l.self;
 }
