@@ -26,7 +26,9 @@ pub(crate) type StoppedFile = Fuse<Memory>;
 /// What a file may hold after a stop.
 #[derive(Drop)]
 pub(crate) struct Outcome {
+    /// How it came about, in a word.
     pub(crate) how: &'static str,
+    /// All that the file has then.
     pub(crate) bytes: Vec<u8>,
 }
 

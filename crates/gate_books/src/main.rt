@@ -1,9 +1,9 @@
 //! A program for tests alone: it serves lines over other books than the program `gate` does, or tells what the book of that
 //! program holds at the end.
 //!
-//! `gate_books plain` serves them over a book without a database, `gate_books loaded` loads the state from the tables before
-//! each line, and `gate_books reopened` leaves its book after each line, and opens it again. `gate_books tables` prints the rows of
-//! the tables in place of the answers, and `gate_books changed` the row changes of each line. `.ci/test_rows` starts it so.
+//! `gate_books plain` serves them over a book without a database, and `gate_books reopened` leaves its book after each line, and
+//! opens it again. `gate_books tables` prints the rows of the tables in place of the answers, and `gate_books changed` the row
+//! changes of each line. `.ci/test_rows` starts it so.
 //!
 //! `gate_books opened` begins with lines of SQL, which make the database that it opens, and prints the rows of the tables behind
 //! the answers.
@@ -49,7 +49,6 @@ fn run(rt: &HostRuntime) -> Result<(), BooksFault> {
     let mut writer = io::writer(rt);
     match asked.as_str() {
         "plain" => serving::serve_plain(rt.alloc(), &mut reader, &mut writer),
-        "loaded" => serving::serve_loaded(rt.alloc(), &mut reader, &mut writer),
         "reopened" => reopened::serve_reopened(rt.alloc(), &mut reader, &mut writer),
         "tables" => tables::print_tables(rt.alloc(), &mut reader, &mut writer),
         "changed" => changed::print_changed(rt.alloc(), &mut reader, &mut writer),

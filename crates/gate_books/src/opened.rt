@@ -1,7 +1,7 @@
 ghost use Rattle.std.specs.Prelude.{◌≡◌, false, IfOk, OnOk};
 
 use crate::fault::BooksFault;
-use crate::serving::{MemoryBook, served_each};
+use crate::serving::{MemoryBook, served};
 use crate::tables::{print_all, print_table};
 use gate_queue::Fault;
 use gate_sql::{Refused, SqlBook};
@@ -10,8 +10,8 @@ use std::alloc::Global;
 use std::io::{BufRead, Write};
 
 /// Executes statements of SQL, one on a line and up to the first empty line, in a new database in memory, and opens a book over
-/// it. The lines behind that are served, each by a keeper of its own, and the rows of the tables are printed. If the database is
-/// refused, no line is served: it prints why, and then what the database holds.
+/// it. The lines behind that are served, and the rows of the tables are printed. If the database is refused, no line is served: it
+/// prints why, and then what the database holds.
 pub(crate) fn print_opened<R: BufRead, W: Write>(
     alloc: Global,
     reader: &mut R,
@@ -30,7 +30,7 @@ fn print_served<R: BufRead, W: Write>(
     reader: &mut R,
     writer: &mut W,
 ) -> Result<(), BooksFault> {
-    match served_each(alloc, book, reader, writer) {
+    match served(alloc, book, reader, writer) {
         Ok(book) => print_all(book.into_connection(), writer),
         Err(fault) => Err(fault),
     }

@@ -4,7 +4,8 @@ use gate_sql::SqlBook;
 use std::alloc::Global;
 use std::io::{BufRead, Write};
 
-/// Serves all lines over one database in memory. After each line the book is left, and opened again.
+/// Serves all lines over one database in memory. After each line the book is left, and opened again. Each line has a keeper of its
+/// own, which has no gate at hand, and so it loads the one of the book.
 pub(crate) fn serve_reopened<R: BufRead, W: Write>(
     alloc: Global,
     reader: &mut R,

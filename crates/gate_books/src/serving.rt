@@ -5,7 +5,7 @@ use gate_sql::SqlBook;
 use gate_store::{Book, Keeper, PlainBook};
 use sqlite::{Connection, MemStore};
 use std::alloc::Global;
-use std::io::{BufRead, Read, Write};
+use std::io::{Read, Write};
 
 /// The book that the program `gate` has.
 pub(crate) type MemoryBook = SqlBook<MemStore>;
@@ -59,46 +59,4 @@ fn serve_over<B: Book + Drop, R: Read, W: Write>(
 ) -> Result<(), BooksFault> {
     drop(served(alloc, book, reader, writer)?);
     Ok(())
-}
-
-/// Serves all lines over one book in a database, each by a keeper of its own. A keeper that is new has no gate at hand, and so
-/// it loads the one of the book.
-pub(crate) fn serve_loaded<R: BufRead, W: Write>(
-    alloc: Global,
-    reader: &mut R,
-    writer: &mut W,
-) -> Result<(), BooksFault> {
-    match memory_book(alloc) {
-        Ok(book) => serve_each(alloc, book, reader, writer),
-        Err(fault) => Err(fault),
-    }
-}
-
-// The same over any book.
-fn serve_each<B: Book + Drop, R: BufRead, W: Write>(
-    alloc: Global,
-    book: B,
-    reader: &mut R,
-    writer: &mut W,
-) -> Result<(), BooksFault> {
-    drop(served_each(alloc, book, reader, writer)?);
-    Ok(())
-}
-
-/// Serves all lines over a book, each by a keeper of its own, and gives the book back.
-pub(crate) fn served_each<B: Book + Drop, R: BufRead, W: Write>(
-    alloc: Global,
-    book: B,
-    reader: &mut R,
-    writer: &mut W,
-) -> Result<B, BooksFault> {
-    let mut book = book;
-    for _ in 0..u64::MAX {
-        let mut line = Vec::new(alloc);
-        if reader.read_until(b'\n', &mut line)? == 0 {
-            break;
-        }
-        book = served(alloc, book, &mut line.as_slice(), writer)?;
-    }
-    Ok(book)
 }
