@@ -6,7 +6,7 @@ use Rattle.gate_queue.specs.declared.fault.Fault.TheVariants.{Memory, Store, Ful
 use Rattle.gate_state.specs.declared.state.State.{State}
 use Rattle.gate_report.specs.Change.{change_text_of}
 use Rattle.gate_report.specs.Queue.{queue_text_of}
-use Rattle.gate_store.specs.Answers.{answer_text_of}
+use Rattle.gate_answers.specs.Answers.{answer_text_of}
 use Rattle.gate_store.specs.Run.{IsOpenAfter, Records, answer_to, after_delivery, meets_full}
 use Rattle.gate_store.specs.declared.delivery.Delivery.{Delivery}
 use Rattle.gate_hook.specs.Requests.{Asks}

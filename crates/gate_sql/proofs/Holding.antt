@@ -8,8 +8,8 @@ use Rattle.std.specs.Ordering.{eq_by_cmp, nat_cmp}
 use Rattle.gate_state.specs.State.{IsState}
 use Rattle.gate_state.specs.declared.reply.Reply.{Reply}
 use Rattle.gate_state.specs.declared.state.State.{State}
-use Rattle.gate_store.specs.Answers.{answer_text_of}
-use Rattle.gate_store.specs.Reading.{answer_of}
+use Rattle.gate_answers.specs.Answers.{answer_text_of}
+use Rattle.gate_answers.specs.Reading.{answer_of}
 use Rattle.gate_sql.proofs.Alike.{same_back, same_then}
 use Rattle.gate_sql.proofs.Shown.{none_of_none, one_more}
 use Rattle.gate_sql.specs.Decoding.{state_in}

@@ -10,8 +10,8 @@ use Rattle.std.proofs.lemmas.List.Elements.{All-from_recursion, recursion_from_A
 use Rattle.std.proofs.lemmas.List.Sorted.{All-permutation, IsPermutation-sym}
 use Rattle.gate_text.specs.SmallTexts.{delivery_id_of}
 use Rattle.gate_state.specs.declared.state.State.{State}
-use Rattle.gate_store.specs.Answers.{answer_text_of}
-use Rattle.gate_store.specs.Reading.{answer_of}
+use Rattle.gate_answers.specs.Answers.{answer_text_of}
+use Rattle.gate_answers.specs.Reading.{answer_of}
 use Rattle.gate_sql.proofs.Alike.{same_back, same_then}
 use Rattle.gate_sql.proofs.Each.{all_weaker}
 use Rattle.gate_sql.proofs.Holding.{AreTexts, is_held}

@@ -6,7 +6,7 @@ use Rattle.std.specs.FinMap.{FinMap, find}
 use Rattle.std.specs.FinSet.{slice_cmp-IsAntisymmetric, nat_cmp-IsAntisymmetric}
 use Rattle.std.specs.Option.{option_map}
 use Rattle.std.specs.Ordering.{eq_by_cmp, nat_cmp}
-use Rattle.gate_store.specs.Reading.{answer_of}
+use Rattle.gate_answers.specs.Reading.{answer_of}
 use Rattle.gate_sql.specs.Shown.{read_entry, answers_of}
 
 map_cond : (b : Bool) (text : List ℕ) (other : Option (List ℕ)) → option_map answer_of (cond b (Some text) other) ≡ cond b (Some (answer_of text)) (option_map answer_of other)

@@ -8,8 +8,8 @@ use Rattle.std.specs.Option.{option_map}
 use Rattle.std.specs.Ordering.{nat_cmp}
 use Rattle.gate_state.specs.State.{IsState}
 use Rattle.gate_state.specs.declared.reply.Reply.{Reply}
-use Rattle.gate_store.specs.Answers.{answer_text_of}
-use Rattle.gate_store.specs.Reading.{answer_of}
+use Rattle.gate_answers.specs.Answers.{answer_text_of}
+use Rattle.gate_answers.specs.Reading.{answer_of}
 use Rattle.gate_store.specs.Run.{Records}
 use Rattle.gate_sql.specs.Decoding.{state_in}
 use Rattle.gate_sql.specs.Encoding.{rows_of}

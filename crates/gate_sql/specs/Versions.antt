@@ -7,8 +7,8 @@ use Rattle.gate_text.specs.SmallTexts.{delivery_id_of}
 use Rattle.gate_queue.specs.Machine.{empty_state}
 use Rattle.gate_state.specs.State.{IsState}
 use Rattle.gate_state.specs.declared.state.State.{State}
-use Rattle.gate_store.specs.Answers.{answer_text_of}
-use Rattle.gate_store.specs.Reading.{answer_of}
+use Rattle.gate_answers.specs.Answers.{answer_text_of}
+use Rattle.gate_answers.specs.Reading.{answer_of}
 use Rattle.gate_store.specs.Run.{Records}
 use Rattle.gate_sql.specs.Encoding.{rows_of}
 use Rattle.gate_sql.specs.Shown.{AreTextsOf}

@@ -13,8 +13,8 @@ ghost use Rattle.gate_sql.specs.Shown.{shown, Holds, IsHeld};
 ghost use Rattle.gate_sql.specs.Versions.{OpensAs, StandsFor};
 ghost use Rattle.gate_tables.specs.Schemas.{HasTables, lacks_wanted};
 ghost use Rattle.gate_tables.specs.Tables.{is_honest, is_shielded, is_sound, rows_in, answers_in, IsBook};
-ghost use Rattle.gate_store.specs.Answers.{answer_text_of};
-ghost use Rattle.gate_store.specs.Reading.{answer_of};
+ghost use Rattle.gate_answers.specs.Answers.{answer_text_of};
+ghost use Rattle.gate_answers.specs.Reading.{answer_of};
 ghost use Rattle.gate_store.specs.Run.{IsOfBooks, kept_under, with_answer};
 ghost use Rattle.sqlite.specs.Held.{state};
 

@@ -1,11 +1,5 @@
 pub mod ActLimits
-pub mod Again
 pub mod Deliveries
-pub mod Depths
 pub mod Firsts
-pub mod Items
-pub mod Places
 pub mod Runs
-pub mod SmallTexts
 pub mod Telling
-pub mod Whole

@@ -16,7 +16,7 @@ use Rattle.gate_store.specs.Headline.{ActsByRule, Each, Headline, HistoryTells, 
 use Rattle.gate_store.specs.Run.{NoneMeetsFull, Records, after_all, after_deliveries, after_delivery, answer_to, answers_to, meets_full, new_acts}
 use Rattle.gate_store.specs.declared.delivery.Delivery.{Delivery}
 use Rattle.gate_store.proofs.Firsts.{acts_of_one, acts_push, answered_kept, kept_after, run_kept, state_after}
-use Rattle.gate_store.proofs.Places.{up_to}
+use Rattle.gate_answers.proofs.Places.{up_to}
 use Rattle.gate_store.proofs.Telling.{still_legal}
 
 pub each_append : (P : List Entry → State → Act → Type 0) (history : List Entry) (s : State) (acts others : List Act)

@@ -7,7 +7,7 @@ use Rattle.gate_queue.specs.Machine.{reply_to, after}
 use Rattle.gate_state.specs.declared.state.State.{State}
 use Rattle.gate_store.specs.Headline.{Each, Tells, entry_for, history_after}
 use Rattle.gate_store.specs.Run.{replies_to, after_all, is_full, acts_meet_full}
-use Rattle.gate_store.proofs.Places.{here, up_to}
+use Rattle.gate_answers.proofs.Places.{here, up_to}
 
 pub full_met : (s : State) (acts : List Act) → is_full s ≡ true → 0 < length acts → acts_meet_full s acts ≡ true
 full_met s [] full some = absurd (omega (arith, some))

@@ -1,10 +1,10 @@
 ghost use Rattle.std.specs.Prelude.{◌≡◌, None, IfOk, IfErr, OnOk, OnErr};
 ghost use Rattle.gate_queue.specs.Before.{IsBefore};
-ghost use Rattle.gate_store.specs.Answers.{answer_text_of};
-ghost use Rattle.gate_store.specs.Reading.{answer_of};
+ghost use Rattle.gate_answers.specs.Answers.{answer_text_of};
+ghost use Rattle.gate_answers.specs.Reading.{answer_of};
 ghost use Rattle.gate_store.specs.Run.{Records, IsOfBooks, kept_under, with_answer};
 
-use crate::answers::Answer;
+use gate_answers::Answer;
 use gate_queue::{Before, Fault, Gate};
 use gate_text::DeliveryId;
 use std::alloc::Global;

@@ -4,15 +4,15 @@ ghost use Rattle.std.specs.Io.BufRead.{Rests};
 ghost use Rattle.std.specs.String.{string_bytes};
 ghost use Rattle.gate_queue.specs.Before.{IsBefore};
 ghost use Rattle.gate_queue.specs.History.{Entry, Legal, StateTells};
-ghost use Rattle.gate_store.specs.Answers.{answer_text_of};
-ghost use Rattle.gate_store.specs.Reading.{answer_of};
+ghost use Rattle.gate_answers.specs.Answers.{answer_text_of};
+ghost use Rattle.gate_answers.specs.Reading.{answer_of};
 ghost use Rattle.gate_store.specs.Headline.{Each, Headline, HistoryTells, Tells, acts_of_all, first_in};
 ghost use Rattle.gate_store.specs.Run.{AgreesOnFull, IsFullBefore, IsOfBooks, IsOfKeepers, IsOpenUnless, NoneMeetsFull, StaysOpen, StopsBefore, acts_in, acts_meet_full, after_deliveries, after_delivery, answer_to, answers_to, kept_under, meets_full, new_acts, replies_to, stepped, with_answer};
 
-use crate::answers::{Answer, answer_text};
 use crate::book::Book;
 use crate::delivery::{Delivery, acts_of};
 use crate::stepping::step_all;
+use gate_answers::{Answer, answer_text};
 use gate_queue::{Before, Fault, Gate, law_of_histories};
 use gate_text::DeliveryId;
 use std::alloc::Global;

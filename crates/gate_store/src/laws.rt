@@ -1,13 +1,7 @@
 ghost use Rattle.gate_store.specs.Headline.{LawOfHeadlines, LawOfTelling};
-ghost use Rattle.gate_store.specs.Reading.{LawOfTexts};
 
 use gate_queue::law_of_entries;
 use gate_text::one_reading;
-
-/// The law of texts: a text whose value is written for an answer is that answer. So at most one answer has it.
-pub fn law_of_texts()
-    ensures { LawOfTexts }
-{}
 
 /// The law of deliveries: the headline, and all that the history tells, hold of `answers_to` and `after_deliveries` on every list
 /// of deliveries, if none meets a full gate and each reading of the clock is within its limit. So they hold of whatever is told

@@ -2,22 +2,18 @@
 //! the headline of the merge bot.
 #![tactic(auto)]
 
-mod answers;
 mod book;
 mod delivery;
-mod finding;
 mod keeper;
 mod laws;
 mod moment;
 mod plain_book;
-mod reading;
 mod stepping;
 
-pub use answers::{Answer, answer_text};
 pub use book::Book;
 pub use delivery::{Delivery, Event, acts_of};
+pub use gate_answers::{Answer, AnswerFault, answer_text, law_of_texts, read_answer, reread};
 pub use keeper::Keeper;
-pub use laws::{law_of_deliveries, law_of_texts};
+pub use laws::law_of_deliveries;
 pub use moment::Moment;
 pub use plain_book::PlainBook;
-pub use reading::{AnswerFault, read_answer, reread};

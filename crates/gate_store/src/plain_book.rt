@@ -3,8 +3,8 @@ ghost use Rattle.std.specs.FinMap.{empty};
 ghost use Rattle.std.specs.Option.{option_copied};
 ghost use Rattle.gate_store.specs.Run.{kept_under, with_answer};
 
-use crate::answers::Answer;
 use crate::book::Book;
+use gate_answers::Answer;
 use gate_queue::{Fault, Gate};
 use gate_text::DeliveryId;
 use std::alloc::{AllocError, Global};

@@ -6,7 +6,7 @@ ghost use Rattle.gate_queue.specs.History.{Entry, Legal};
 ghost use Rattle.gate_store.specs.Headline.{Each, Tells};
 ghost use Rattle.gate_store.specs.Run.{AgreesOnFull, IsOfActs, acts_meet_full, is_full, replies_to, after_all};
 
-use crate::answers::Answer;
+use gate_answers::Answer;
 use gate_queue::{Act, Before, Fault, Gate};
 use std::alloc::Global;
 

@@ -1,6 +1,6 @@
 use Rattle.std.proofs.Common.{◌∙◌, ap}
 use Rattle.std.specs.FinMap.{insert}
-use Rattle.gate_store.specs.Reading.{answer_of}
+use Rattle.gate_answers.specs.Reading.{answer_of}
 use Rattle.gate_sql.proofs.Holding.{Leaves, holds_of, leaves, led_to}
 use Rattle.gate_sql.proofs.book.SqlBookBook.commit.Given.{Over}
 use Rattle.gate_sql.proofs.book.SqlBookBook.commit.Goals as goal

@@ -1,7 +1,7 @@
 use Rattle.std.proofs.Common.{sym, ◌∙◌, ap}
 use Rattle.std.specs.FinMap.{get}
 use Rattle.std.specs.Option.{option_map}
-use Rattle.gate_store.specs.Reading.{answer_of}
+use Rattle.gate_answers.specs.Reading.{answer_of}
 use Rattle.gate_tables.specs.Tables.{answers_in}
 use Rattle.std.proofs.lemmas.Result.{IfOk-weaker}
 use Rattle.gate_sql.proofs.Shown.{get-answers}

@@ -1,9 +1,0 @@
-use Rattle.std.proofs.Common.{◌≡◌, map, take}
-use Rattle.std.specs.List.{All}
-use Rattle.serde_json.specs.View.{view}
-use Rattle.gate_store.specs.Answers.{reply_data}
-use Rattle.gate_store.specs.Limits.{IsReply}
-use Rattle.gate_store.proofs.answers.answer_value.Given as goal
-
-abbrev pub invariant-loop-reply : goal.invariant-loop-reply
-invariant-loop-reply l = (map view l.replies.items ≡ map reply_data (take l.reply-index l.answer)) × All IsReply (take l.reply-index l.answer)

@@ -1,5 +1,0 @@
-use Rattle.gate_store.proofs.SmallTexts.{commit_kept}
-use Rattle.gate_store.proofs.finding.commit_in.Goals as goal
-
-pub returns-clause-good : goal.returns-clause-good
-returns-clause-good c = rw c.small.ensures (commit_kept _ _ c.read.ensures.value)

@@ -1,5 +1,0 @@
-use Rattle.gate_store.proofs.Again.{texts_law}
-use Rattle.gate_store.proofs.laws.law_of_texts.Goals as goal
-
-pub returns : goal.returns
-returns c = texts_law
