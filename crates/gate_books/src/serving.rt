@@ -19,8 +19,8 @@ pub(crate) fn memory_book(alloc: Global) -> Result<MemoryBook, BooksFault> {
     }
 }
 
-/// Serves all lines over a book, and gives the book back. This function, and those that call it, know no more of the book than
-/// that it is one: a keeper whose book is known is dear to prove where it is let go.
+/// Serves all lines over a book, and gives the book back. It knows no more of the book than that it is one: a keeper whose book is
+/// known is dear to prove where it is let go.
 pub(crate) fn served<B: Book + Drop, R: Read, W: Write>(
     alloc: Global,
     book: B,

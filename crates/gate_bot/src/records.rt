@@ -45,7 +45,8 @@ pub fn book_in_file<S: Start>(
     ensures records { IfOk result (λ book. is_honest over_files book → StandIn (image_at S.Start) (shown over_files book)) }
     ensures stays { IfOk result (λ book. is_honest over_files book → is_sound over_files book) }
 
-    // If so far the disk has returned what was written, each later read is tested against a digest of what was.
+    // If so far nobody else has written the file, and the disk has returned what was written, each later read is compared with a
+    // digest of what was written.
     ensures shield { IfOk result (λ book. is_honest over_files book → is_shielded over_files book) }
     ensures fault { IfErr result IsOfFiles }
 {

@@ -30,7 +30,6 @@ fn run_over<B: Book, R: Read, W: Write>(
     ensures end { OnOk result.0 (IsAtEnd (R.remaining reader.new)) }
     ensures cause { IfErr result.0 (MayEnd B.may_answer) }
     ensures honest { B.is_honest result.1 → B.is_honest book }
-    ensures shield { B.is_shielded book → B.is_shielded result.1 }
 {
     let mut keeper = Keeper::new(book);
     let served = serve_lines(alloc, &mut keeper, reader, writer);

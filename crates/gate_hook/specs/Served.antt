@@ -92,13 +92,13 @@ AnswersOne (Err TooMuch) input old new before after = ⊥
 abbrev pub AsksNoDelivery : List ℕ → Type 0
 AsksNoDelivery input = (delivery : Delivery) → Asks input (Ok (DeliveryOf delivery)) → ⊥
 
--- No fault but `Memory` and `Store` may have shut the book, and after any fault this was sent.
+-- No fault but `Memory` and `Store` may have shut the book, and after any fault this was sent. (`Foreign` never comes here.)
 abbrev pub IsSoundUnless : Option Fault → (sound sent : Type 0) → Type 0
 IsSoundUnless None sound sent = sound
 IsSoundUnless (Some fault) sound sent = IsOpenAfter fault sound × sent
 
--- What serving one request tells of a book that was sound and is honest: it is sound still, so what was sent is the response that was
--- due. But if `Memory` or `Store` has shut it, the response after faults was sent, or a part from its front.
+-- What serving one request tells of a book that was sound and is honest. Either it is sound still, and then `AnswersOne` says what was
+-- sent; or a fault may have shut it, and the response after faults was sent, or a part from its front.
 abbrev pub StaysServing : Result Served HookFault → (sound : Type 0) → Option (List ℕ) → Option (List ℕ) → Type 0
 StaysServing (Ok served) sound before after =
     IsSoundUnless served.fault sound ((served.status ≡ 503) × Appends before after (response_text fault_response))

@@ -262,7 +262,7 @@ pub fn serve_lines<B: Book, R: Read, W: Write>(
     // A fault of the gate is one that the keeper may answer.
     ensures cause { IfErr result (MayEnd B.may_answer) }
 
-    // A book that is sound in the end was sound before, and one that is honest was so.
+    // A book that is sound in the end was sound before, one that is honest was so, and one that was shielded still is.
     ensures was { B.is_sound keeper.new → B.is_sound keeper.old }
     ensures honest { B.is_honest keeper.new → B.is_honest keeper.old }
     ensures shield { B.is_shielded keeper.old → B.is_shielded keeper.new }

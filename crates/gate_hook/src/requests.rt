@@ -222,8 +222,8 @@ fn send_as<W: Write>(writer: &mut W, text: &str, served: Served) -> Result<Serve
 /// The two errors are `Read`, after which nothing is written and nothing has changed, and `Write`, after which a part of the
 /// response, but not all, is written, and a delivery that acted stays. The writer isn't flushed.
 ///
-/// What is said of responses and of the book holds if the book's premise does; which errors and which faults may come, holds without
-/// it.
+/// What is said of responses and of the book holds if the book's premise does, and `stays` says what holds once a fault has shut it;
+/// which errors and which faults may come, holds without it.
 pub fn serve_one<B: Book, R: Read, W: Write>(
     alloc: Global,
     keeper: &mut Keeper<B>,
@@ -247,13 +247,13 @@ pub fn serve_one<B: Book, R: Read, W: Write>(
     // A fault is one that the keeper may answer.
     ensures cause { IfOk result (λ served. IfSome served.fault (IsOfKeepers B.may_answer)) }
 
-    // A book that is sound in the end was sound before, and one that is honest was so.
+    // A book that is sound in the end was sound before, one that is honest was so, and one that was shielded still is.
     ensures was { B.is_sound keeper.new → B.is_sound keeper.old }
     ensures honest { B.is_honest keeper.new → B.is_honest keeper.old }
     ensures shield { B.is_shielded keeper.old → B.is_shielded keeper.new }
 
-    // Of a book that was sound and is honest, only `Memory` and `Store` may have shut it, and then the response is 503. After any other
-    // response it is still sound, so what is said above of that response holds, whatever comes later.
+    // Of a book that was sound and is honest, only `Memory` and `Store` may have shut it, and then the response is 503, or after `Write`
+    // a part of it. After any other response it is still sound, so what is said above of that response holds, whatever comes later.
     ensures stays { B.is_sound keeper.old → B.is_honest keeper.new → StaysServing result (B.is_sound keeper.new) (W.contents writer.old) (W.contents writer.new) }
 {
     match answer(alloc, keeper, reader) {

@@ -13,13 +13,13 @@ use Rattle.gate_store.specs.Run.{Records}
 abbrev pub greeting : ℕ → List ℕ
 greeting port = codes "listening on 127.0.0.1:" ++ (decimal port ++ 10 ∷ [])
 
--- One request is answered as `serve_one` does it, and nobody is told how that ended. A book that was sound at first and is honest still
--- says the last.
-abbrev pub IsServedOnce : (sound honest : Type 0) → Records → Records → Option (List ℕ) → Option (List ℕ) → Option (List ℕ) → Option (List ℕ) → Type 0
-IsServedOnce sound honest old new unread left before after =
+-- One request is answered as `serve_one` does it, and nobody is told how that ended. The last part holds of a book that was sound at
+-- first and is honest still.
+abbrev pub IsServedOnce : (sound stood : Type 0) → Records → Records → Option (List ℕ) → Option (List ℕ) → Option (List ℕ) → Option (List ℕ) → Type 0
+IsServedOnce sound stood old new unread left before after =
     (served : Result Served HookFault) × (input : List ℕ) × IsInput unread left input
     × (sound → AnswersOne served input old new before after)
-    × (honest → StaysServing served sound before after)
+    × (stood → StaysServing served sound before after)
 
 -- One request is answered on a connection. No contract knows the bytes that it gives and takes, so the input is some input, and of
 -- what is written nothing is said (`None`); but the records after it are what `serve_one` makes of that input.

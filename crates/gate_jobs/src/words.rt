@@ -17,7 +17,7 @@ const NO_TEXT: &str = "error: a word isn't UTF-8\n";
 pub enum Job {
     /// To serve the lines of standard input, over the records in a database file, or over new ones in memory.
     Run {
-        /// The database file, if there is one.
+        /// The path of the database file. Without one the records are in memory.
         db: Option<String>,
     },
     /// To serve so many connections on a port of 127.0.0.1, over the same.
@@ -26,7 +26,7 @@ pub enum Job {
         port: u16,
         /// From 1 to 1,000,000.
         count: u32,
-        /// The database file, if there is one.
+        /// The path of the database file. Without one the records are in memory.
         db: Option<String>,
     },
     /// To report the queue after the lines of a file.
