@@ -43,8 +43,11 @@ impl From<AllocError> for BooksFault {
 }
 
 impl From<io::Error> for BooksFault {
-    fn from(_: io::Error) -> BooksFault {
-        BooksFault::Device
+    fn from(error: io::Error) -> BooksFault {
+        match error.kind() {
+            io::ErrorKind::OutOfMemory => BooksFault::from(Fault::Memory),
+            _ => BooksFault::Device,
+        }
     }
 }
 

@@ -24,6 +24,7 @@ mod row_changes;
 mod serving;
 mod stopped;
 mod tables;
+mod twice;
 
 use crate::fault::BooksFault;
 use std::env;
@@ -54,6 +55,8 @@ fn run(rt: &HostRuntime) -> Result<(), BooksFault> {
         "changed" => changed::print_changed(rt.alloc(), &mut reader, &mut writer),
         "opened" => opened::print_opened(rt.alloc(), &mut reader, &mut writer),
         "stopped" => stopped::print_stopped(rt.alloc(), &mut reader, &mut writer),
+        "twice" => twice::run_twice_plain(rt.alloc(), &mut reader, &mut writer),
+        "twice_in_tables" => twice::run_twice_in_tables(rt.alloc(), &mut reader, &mut writer),
         "refusals" => refusals::print_refusals(rt.alloc(), &mut reader, &mut writer),
         _ => Err(BooksFault::Usage),
     }

@@ -1,0 +1,241 @@
+/*
+ * Is loaded before the C library, and has one call of a program fail that otherwise succeeds. The environment tells which:
+ *
+ *   FAULTS_KIND   which calls count. memory: the requests for memory. input, output: reads and writes of standard input, standard
+ *                 output and connections. disk: all calls on files that the program opens by their names
+ *   FAULTS_AT     which of these calls fails, counted from 1 on. With 0 none does
+ *   FAULTS_HOW    error: it fails with an error. end: it takes no byte, and doesn't say why
+ *   FAULTS_BYTES  how many bytes a read or a write of the counted kind takes at the most. With 0 there is no limit
+ *   FAULTS_SAYS   the file that gets the number of calls that counted, at the end of the program
+ *
+ * The program has a single thread, so nothing is locked.
+ */
+#define _GNU_SOURCE
+#include <dlfcn.h>
+#include <errno.h>
+#include <fcntl.h>
+#include <stdarg.h>
+#include <stdio.h>
+#include <stdlib.h>
+#include <string.h>
+#include <sys/file.h>
+#include <sys/socket.h>
+#include <sys/stat.h>
+#include <sys/uio.h>
+#include <unistd.h>
+
+enum kind { NONE, MEMORY, INPUT, OUTPUT, DISK };
+
+static const char *const kinds[] = {"", "memory", "input", "output", "disk"};
+
+static enum kind counted = NONE;
+static unsigned long at, count, most;
+static int ends;
+
+/* The descriptors of files that were opened by their names. */
+static char is_file[1024];
+
+static unsigned long number(const char *name) {
+    const char *text = getenv(name);
+    return text ? strtoul(text, NULL, 10) : 0;
+}
+
+__attribute__((constructor)) static void begin(void) {
+    const char *kind = getenv("FAULTS_KIND"), *how = getenv("FAULTS_HOW");
+    at = number("FAULTS_AT");
+    most = number("FAULTS_BYTES");
+    ends = how && !strcmp(how, "end");
+    for (int it = MEMORY; kind && it <= DISK; it++)
+        if (!strcmp(kind, kinds[it]))
+            counted = it;
+}
+
+__attribute__((destructor)) static void end(void) {
+    const char *file = getenv("FAULTS_SAYS");
+    FILE *said;
+    unsigned long found = count;
+    counted = NONE;
+    if (file && (said = fopen(file, "w"))) {
+        fprintf(said, "%lu\n", found);
+        fclose(said);
+    }
+}
+
+/* Counts a call, and tells whether it is the one that fails. */
+static int fails(enum kind kind) {
+    return kind == counted && ++count == at;
+}
+
+/* What the call that fails returns, for the calls that return -1 with an error. */
+static long failure(enum kind kind) {
+    if (ends && kind != DISK)
+        return 0;
+    errno = EIO;
+    return -1;
+}
+
+static enum kind kind_of(int file, enum kind otherwise) {
+    if (file >= 0 && file < (int)sizeof is_file && is_file[file])
+        return DISK;
+    return file == STDERR_FILENO ? NONE : otherwise;
+}
+
+static size_t taken(enum kind kind, size_t length) {
+    return kind == counted && kind != DISK && most && length > most ? most : length;
+}
+
+#define NEXT(name) ((__typeof__(&name))dlsym(RTLD_NEXT, #name))
+
+/* --- Memory. The C library has these names too, since `dlsym` asks for memory. */
+
+extern void *__libc_malloc(size_t), *__libc_calloc(size_t, size_t), *__libc_realloc(void *, size_t);
+
+static void *no_memory(void) {
+    errno = ENOMEM;
+    return NULL;
+}
+
+void *malloc(size_t size) {
+    return fails(MEMORY) ? no_memory() : __libc_malloc(size);
+}
+
+void *calloc(size_t items, size_t size) {
+    return fails(MEMORY) ? no_memory() : __libc_calloc(items, size);
+}
+
+void *realloc(void *old, size_t size) {
+    return fails(MEMORY) ? no_memory() : __libc_realloc(old, size);
+}
+
+/* --- Reads and writes */
+
+ssize_t read(int file, void *into, size_t length) {
+    enum kind kind = kind_of(file, INPUT);
+    return fails(kind) ? failure(kind) : NEXT(read)(file, into, taken(kind, length));
+}
+
+ssize_t recv(int file, void *into, size_t length, int flags) {
+    return fails(INPUT) ? failure(INPUT) : NEXT(recv)(file, into, taken(INPUT, length), flags);
+}
+
+ssize_t write(int file, const void *from, size_t length) {
+    enum kind kind = kind_of(file, OUTPUT);
+    return fails(kind) ? failure(kind) : NEXT(write)(file, from, taken(kind, length));
+}
+
+ssize_t send(int file, const void *from, size_t length, int flags) {
+    return fails(OUTPUT) ? failure(OUTPUT) : NEXT(send)(file, from, taken(OUTPUT, length), flags);
+}
+
+ssize_t writev(int file, const struct iovec *parts, int many) {
+    enum kind kind = kind_of(file, OUTPUT);
+    if (fails(kind))
+        return failure(kind);
+    if (kind == counted && kind != DISK && most && many > 0)
+        return NEXT(write)(file, parts[0].iov_base, taken(kind, parts[0].iov_len));
+    return NEXT(writev)(file, parts, many);
+}
+
+ssize_t sendmsg(int file, const struct msghdr *message, int flags) {
+    struct msghdr one = *message;
+    struct iovec part;
+    if (fails(OUTPUT))
+        return failure(OUTPUT);
+    if (counted == OUTPUT && most && one.msg_iovlen > 0) {
+        part = one.msg_iov[0];
+        part.iov_len = taken(OUTPUT, part.iov_len);
+        one.msg_iov = &part;
+        one.msg_iovlen = 1;
+    }
+    return NEXT(sendmsg)(file, &one, flags);
+}
+
+/* --- Files */
+
+static int opened(int file) {
+    if (file >= 0 && file < (int)sizeof is_file)
+        is_file[file] = 1;
+    return file;
+}
+
+int open(const char *name, int flags, ...) {
+    va_list rest;
+    va_start(rest, flags);
+    mode_t mode = va_arg(rest, mode_t);
+    va_end(rest);
+    return fails(DISK) ? (int)failure(DISK) : opened(NEXT(open)(name, flags, mode));
+}
+
+int openat(int folder, const char *name, int flags, ...) {
+    va_list rest;
+    va_start(rest, flags);
+    mode_t mode = va_arg(rest, mode_t);
+    va_end(rest);
+    return fails(DISK) ? (int)failure(DISK) : opened(NEXT(openat)(folder, name, flags, mode));
+}
+
+int close(int file) {
+    if (file >= 0 && file < (int)sizeof is_file)
+        is_file[file] = 0;
+    return NEXT(close)(file);
+}
+
+int fcntl(int file, int what, ...) {
+    va_list rest;
+    va_start(rest, what);
+    void *more = va_arg(rest, void *);
+    va_end(rest);
+    return fails(kind_of(file, NONE)) ? (int)failure(DISK) : NEXT(fcntl)(file, what, more);
+}
+
+ssize_t pread(int file, void *into, size_t length, off_t from) {
+    return fails(DISK) ? failure(DISK) : NEXT(pread)(file, into, length, from);
+}
+
+ssize_t pwrite(int file, const void *from, size_t length, off_t to) {
+    return fails(DISK) ? failure(DISK) : NEXT(pwrite)(file, from, length, to);
+}
+
+int fsync(int file) {
+    return fails(DISK) ? (int)failure(DISK) : NEXT(fsync)(file);
+}
+
+int fdatasync(int file) {
+    return fails(DISK) ? (int)failure(DISK) : NEXT(fdatasync)(file);
+}
+
+int ftruncate(int file, off_t length) {
+    return fails(DISK) ? (int)failure(DISK) : NEXT(ftruncate)(file, length);
+}
+
+off_t lseek(int file, off_t to, int from) {
+    return fails(kind_of(file, NONE)) ? failure(DISK) : NEXT(lseek)(file, to, from);
+}
+
+int statx(int folder, const char *restrict name, int flags, unsigned what, struct statx *restrict found) {
+    return fails(DISK) ? (int)failure(DISK) : NEXT(statx)(folder, name, flags, what, found);
+}
+
+int flock(int file, int what) {
+    return fails(DISK) ? (int)failure(DISK) : NEXT(flock)(file, what);
+}
+
+int unlink(const char *name) {
+    return fails(DISK) ? (int)failure(DISK) : NEXT(unlink)(name);
+}
+
+int rename(const char *old, const char *new) {
+    return fails(DISK) ? (int)failure(DISK) : NEXT(rename)(old, new);
+}
+
+int fchmod(int file, mode_t mode) {
+    return fails(DISK) ? (int)failure(DISK) : NEXT(fchmod)(file, mode);
+}
+
+char *realpath(const char *restrict name, char *restrict into) {
+    return fails(DISK) ? (failure(DISK), NULL) : NEXT(realpath)(name, into);
+}
+
+ssize_t readlink(const char *restrict name, char *restrict into, size_t length) {
+    return fails(DISK) ? failure(DISK) : NEXT(readlink)(name, into, length);
+}
