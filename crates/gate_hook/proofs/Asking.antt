@@ -6,8 +6,8 @@ use Rattle.std.proofs.lemmas.List.{append-nil, drop-append-le, take-append-le}
 use Rattle.std.specs.Io.KnownBytes.{IsAtEnd}
 use Rattle.httparse.specs.Grammar.{print_request}
 use Rattle.gate_hook.specs.Heads.{BeginsWith, max_head}
-use Rattle.gate_hook.specs.Receiving.{HasAsked, HasReadBody, HasReadHead, IsHeadOf, needed_by}
-use Rattle.gate_hook.specs.Requests.{asked_by, body_in}
+use Rattle.gate_hook.specs.Receiving.{HasReadBody, HasReadHead, IsHeadOf, IsInput}
+use Rattle.gate_hook.specs.Requests.{Asks, asked_by, body_in, needed_by}
 use Rattle.gate_hook.specs.declared.head.Ask.{Ask}
 use Rattle.gate_hook.specs.declared.head.Ask.TheVariants.{Delivery, Report}
 use Rattle.gate_hook.specs.declared.head.Head.{Head}
@@ -36,7 +36,7 @@ asked-whole ask rest after (inl fits) = asked-same ask rest (left_of after) fits
 asked-whole ask rest after (inr end) = ap (asked_by ask) (ap (λ (more : List ℕ). rest ++ more) (left-none after end) ∙ append-nil rest)
 
 -- a head stands at the front of all that was read and is left
-begins : (first more others : List ℕ) (told : Head) (is : IsHeadOf told first) → told.len ≤ max_head → BeginsWith ((first ++ more) ++ others) is.head (drop told.len first ++ (more ++ others))
+pub begins : (first more others : List ℕ) (told : Head) (is : IsHeadOf told first) → told.len ≤ max_head → BeginsWith ((first ++ more) ++ others) is.head (drop told.len first ++ (more ++ others))
 begins first more others told is fits = record {
   reads = (
     is.reads.0,
@@ -56,7 +56,7 @@ pub asks-whole : (old mid new : Option (List ℕ)) (told : Head) (first bytes : 
     → HasReadHead (Ok (Some told)) old mid first
     → HasReadBody (Ok tt) mid new first bytes told.len (needed_by told.ask)
     → wish ≡ asked_by told.ask (drop told.len bytes)
-    → HasAsked (Ok wish) old new
+    → (input : List ℕ) × IsInput old new input × Asks input wish
 asks-whole old mid new told first bytes wish found read asks =
     let more = read.0 in
     let is = found.1 in

@@ -3,6 +3,7 @@ pub mod ChangeNumbers
 pub mod Ending
 pub mod Fields
 pub mod Kept
+pub mod Needing
 pub mod NoHead
 pub mod Numerals
 pub mod OnLines

@@ -25,7 +25,7 @@ none-ever after bytes overflows =
     (left_of after, is-left after, λ head rest begins. absurd (omega (arith, overflows (left_of after) head rest begins.reads, begins.fields)))
 
 -- A front of these bytes stands in as many of them as it has.
-within : (front rest bytes more : List ℕ) → front ++ rest ≡ bytes ++ more → length front ≤ length bytes → bytes ≡ front ++ drop (length front) bytes
+pub within : (front rest bytes more : List ℕ) → front ++ rest ≡ bytes ++ more → length front ≤ length bytes → bytes ≡ front ++ drop (length front) bytes
 within front rest bytes more same fits =
     let taken : take (length front) bytes ≡ front = sym (take-append-le _ bytes more fits) ∙ ap (take (length front)) (sym same) ∙ take-append_seam front rest in
     sym (take-append-drop (length front) bytes) ∙ ap (λ (first : List ℕ). first ++ drop (length front) bytes) taken

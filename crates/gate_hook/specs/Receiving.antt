@@ -1,18 +1,16 @@
 -- What was read of a request, for the contracts of the functions that read it.
-use Rattle.std.specs.Prelude.{◌≡◌, ◌⊎◌, ℕ, ◌-◌, ◌≤◌, ⊤, List, [], ◌∷◌, ◌++◌, length, take, drop, Option, Some, None, Result, Ok, Err}
+use Rattle.std.specs.Prelude.{◌≡◌, ◌⊎◌, ℕ, ◌+◌, ◌-◌, ◌<◌, ◌≤◌, ⊤, List, [], ◌∷◌, ◌++◌, length, take, drop, Option, Some, None, Result, Ok, Err}
 use Rattle.std.specs.Io.KnownBytes.{Consumes, Keeps, IsAtEnd}
 use Rattle.httparse.specs.Grammar.{RequestHead, ReadsRequest, HasNoRequest, print_request}
 use Rattle.httparse.specs.Spans.{RequestOverflows}
 use Rattle.gate_queue.specs.declared.fault.Fault.TheVariants.{Memory}
-use Rattle.gate_hook.specs.Requests.{Asks}
+use Rattle.gate_hook.specs.Requests.{Asks, TakesAsNeeded}
 use Rattle.gate_hook.specs.declared.refusal.Refusal.{Refusal}
 use Rattle.gate_hook.specs.Heads.{max_fields, max_head, ask_in, HasNoHead}
 use Rattle.gate_hook.specs.declared.fault.HookFault.{HookFault}
 use Rattle.gate_hook.specs.declared.fault.HookFault.TheVariants.{Gate, Read, Write, TooMuch}
 use Rattle.gate_hook.specs.declared.head.Found.{Found}
 use Rattle.gate_hook.specs.declared.head.Found.TheVariants.{Whole, Unfinished, Never}
-use Rattle.gate_hook.specs.declared.head.Ask.{Ask}
-use Rattle.gate_hook.specs.declared.head.Ask.TheVariants.{Delivery, Report}
 use Rattle.gate_hook.specs.declared.head.Head.{Head}
 use Rattle.gate_hook.specs.declared.requests.Request.{Request}
 
@@ -20,12 +18,6 @@ use Rattle.gate_hook.specs.declared.requests.Request.{Request}
 abbrev pub first_value : List (List ℕ) → Option (List ℕ)
 first_value [] = None
 first_value (value ∷ others) = Some value
-
--- how many bytes of a body the answer needs
-abbrev pub needed_by : Result Ask Refusal → ℕ
-needed_by (Ok (Delivery size)) = size
-needed_by (Ok (Report report)) = 0
-needed_by (Err refusal) = 0
 
 -- these bytes begin with a head, of which this is told
 pub record IsHeadOf (told : Head) (bytes : List ℕ) : Type 0 where
@@ -57,27 +49,44 @@ IsRead (Err TooMuch) before after buffer room = ⊥
 abbrev pub IsUnread : HookFault → Type 0
 IsUnread fault = (fault ≡ Read) ⊎ (fault ≡ Gate Memory)
 
--- The request wasn't read, whatever was taken of it.
-abbrev pub Fails : HookFault → Option (List ℕ) → Option (List ℕ) → Type 0
-Fails fault before after = IsUnread fault × ((taken : List ℕ) × Consumes before after taken)
+-- so many bytes are read at once
+abbrev pub piece : ℕ
+piece = 1024
 
--- Some bytes more were read, none at the end alone.
+-- Some bytes more were read, at most `room`, and none at the end alone; or reading failed, whatever was taken within these limits.
 abbrev pub IsMore : Result ℕ HookFault → Option (List ℕ) → Option (List ℕ) → List ℕ → List ℕ → ℕ → Type 0
 IsMore (Ok n) before after old new room =
-    (more : List ℕ) × Consumes before after more × (new ≡ old ++ more) × (length more ≡ n) × (n ≤ room) × (n ≡ 0 → IsAtEnd after)
-IsMore (Err fault) before after old new room = Fails fault before after
+    (more : List ℕ) × Consumes before after more × (new ≡ old ++ more) × (length more ≡ n) × (n ≤ room) × (n ≤ piece) × (n ≡ 0 → IsAtEnd after)
+IsMore (Err fault) before after old new room =
+    IsUnread fault × ((taken : List ℕ) × Consumes before after taken × (length taken ≤ room) × (length taken ≤ piece))
 
--- The bytes that were read begin with a head within the limit; or with what is left of the input they have none.
+-- no more of the input was taken than its answer needs
+abbrev pub HasTaken : Option (List ℕ) → Option (List ℕ) → Type 0
+HasTaken before after = (taken : List ℕ) × Consumes before after taken × TakesAsNeeded taken
+
+-- the request wasn't read
+abbrev pub Fails : HookFault → Option (List ℕ) → Option (List ℕ) → Type 0
+Fails fault before after = IsUnread fault × HasTaken before after
+
+-- The bytes that were read begin with a head within the limit, and fewer than a piece stand behind it; or with what is left of the
+-- input they have no head.
 abbrev pub HasReadHead : Result (Option Head) HookFault → Option (List ℕ) → Option (List ℕ) → List ℕ → Type 0
-HasReadHead (Ok (Some told)) before after bytes = Consumes before after bytes × IsHeadOf told bytes × (told.len ≤ max_head)
-HasReadHead (Ok None) before after bytes = Consumes before after bytes × ((rest : List ℕ) × IsLeft after rest × HasNoHead (bytes ++ rest))
+HasReadHead (Ok (Some told)) before after bytes =
+    Consumes before after bytes × IsHeadOf told bytes × (told.len ≤ max_head) × (length bytes < told.len + piece)
+HasReadHead (Ok None) before after bytes =
+    Consumes before after bytes × ((rest : List ℕ) × IsLeft after rest × HasNoHead (bytes ++ rest)) × (length bytes ≤ max_head)
 HasReadHead (Err fault) before after bytes = Fails fault before after
 
--- Behind the first `front` bytes there are so many, or the input is at its end.
+-- There are no more bytes, or they end within so many behind the first `front`.
+abbrev pub EndsWithin : (old more : List ℕ) (front size : ℕ) → Type 0
+EndsWithin old more front size = (more ≡ []) ⊎ (length (old ++ more) ≤ front + size)
+
+-- Behind the first `front` bytes there are so many, or the input is at its end. No more were taken for that.
 abbrev pub HasReadBody : Result (Unit {0}) HookFault → Option (List ℕ) → Option (List ℕ) → List ℕ → List ℕ → ℕ → ℕ → Type 0
 HasReadBody (Ok _) before after old new front size =
-    (more : List ℕ) × Consumes before after more × (new ≡ old ++ more) × ((size ≤ length new - front) ⊎ IsAtEnd after)
-HasReadBody (Err fault) before after old new front size = Fails fault before after
+    (more : List ℕ) × Consumes before after more × (new ≡ old ++ more) × ((size ≤ length new - front) ⊎ IsAtEnd after) × EndsWithin old more front size
+HasReadBody (Err fault) before after old new front size =
+    IsUnread fault × ((taken : List ℕ) × Consumes before after taken × EndsWithin old taken front size)
 
 -- what the input was: the bytes that were taken, and those that are left
 abbrev pub IsInput : Option (List ℕ) → Option (List ℕ) → List ℕ → Type 0
@@ -85,5 +94,5 @@ IsInput before after input = (taken : List ℕ) × (rest : List ℕ) × Consumes
 
 -- The request was read, as far as its answer needs.
 abbrev pub HasAsked : Result (Result Request Refusal) HookFault → Option (List ℕ) → Option (List ℕ) → Type 0
-HasAsked (Ok wish) before after = (input : List ℕ) × IsInput before after input × Asks input wish
+HasAsked (Ok wish) before after = ((input : List ℕ) × IsInput before after input × Asks input wish) × HasTaken before after
 HasAsked (Err fault) before after = Fails fault before after

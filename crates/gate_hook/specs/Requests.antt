@@ -1,10 +1,10 @@
 -- REQUESTS: what a request asks for, or why it is refused, in the order of the checks.
-use Rattle.std.specs.Prelude.{◌≡◌, ◌⊎◌, ℕ, nat_le, List, length, take, Result, Ok, Err, if◌then◌else◌}
+use Rattle.std.specs.Prelude.{◌≡◌, ◌⊎◌, ℕ, ◌≤◌, nat_le, List, length, take, Result, Ok, Err, if◌then◌else◌}
 use Rattle.httparse.specs.Grammar.{RequestHead}
 use Rattle.gate_text.specs.Steps.{◌>>=◌}
 use Rattle.gate_store.specs.declared.delivery.Delivery.{Delivery}
 use Rattle.gate_hook.specs.Deliveries.{delivery_of}
-use Rattle.gate_hook.specs.Heads.{BeginsWith, HasNoHead, ask_in}
+use Rattle.gate_hook.specs.Heads.{BeginsWith, HasNoHead, ask_in, max_head}
 use Rattle.gate_hook.specs.declared.head.Ask.{Ask}
 use Rattle.gate_hook.specs.declared.head.Ask.TheVariants.{Delivery as TheDelivery, Report as TheReport}
 use Rattle.gate_hook.specs.declared.reading.DeliveryFault.{DeliveryFault}
@@ -42,3 +42,15 @@ abbrev pub Asks : List ℕ → Result Request Refusal → Type 0
 Asks input wish =
     ((head : RequestHead) × (rest : List ℕ) × BeginsWith input head rest × (wish ≡ asked head rest))
     ⊎ (HasNoHead input × (wish ≡ Err BadRequest))
+
+-- how many bytes of a body the answer needs
+abbrev pub needed_by : Result Ask Refusal → ℕ
+needed_by (Ok (TheDelivery size)) = size
+needed_by (Ok (TheReport report)) = 0
+needed_by (Err refusal) = 0
+
+-- HOW MUCH IS TAKEN. Behind a head as many bytes of the input as the answer needs, or the few that came with the last byte of the head.
+-- Of input that shows no head, as many as a head may have.
+pub record TakesAsNeeded (taken : List ℕ) : Type 0 where
+  pub behind : (head : RequestHead) (rest : List ℕ) → BeginsWith taken head rest → (length rest ≤ 1023) ⊎ (length rest ≤ needed_by (ask_in head))
+  pub before : HasNoHead taken → length taken ≤ max_head

@@ -4,7 +4,8 @@ ghost use Rattle.std.specs.Char.{is_ascii_digit};
 ghost use Rattle.httparse.specs.Grammar.{RequestHead};
 ghost use Rattle.httparse.specs.Spans.{IsHeaderWithin, IsRequestAt, IsRequestWithin, header_bytes, name_and_value};
 ghost use Rattle.gate_hook.specs.Heads as heads;
-ghost use Rattle.gate_hook.specs.Receiving.{IsFound, first_value, needed_by};
+ghost use Rattle.gate_hook.specs.Receiving.{IsFound, first_value};
+ghost use Rattle.gate_hook.specs.Requests.{needed_by};
 
 use crate::refusal::Refusal;
 use crate::target::{Report, Target, target_of};

@@ -3,7 +3,7 @@ ghost use Rattle.std.specs.Option.{option_map};
 ghost use Rattle.std.specs.String.{string_bytes};
 ghost use Rattle.gate_store.specs.Run.{AgreesOnFull, IsOfBooks, IsOfKeepers, StaysOpen, after_delivery, meets_full};
 ghost use Rattle.gate_hook.specs.Deliveries.{delivery_of};
-ghost use Rattle.gate_hook.specs.Receiving.{HasAsked, IsInput};
+ghost use Rattle.gate_hook.specs.Receiving.{HasAsked, HasTaken, IsInput};
 ghost use Rattle.gate_hook.specs.Requests.{asked_by, delivery_or_refusal};
 ghost use Rattle.gate_hook.specs.Responding.{Answers, HasSent, MayFail, Responds};
 ghost use Rattle.gate_hook.specs.Responses.{IsResponse};
@@ -187,6 +187,7 @@ fn answer<B: Book, R: Read>(
 ) -> Result<Response, HookFault>
     ensures answered { (input : List ℕ) × IsInput (R.remaining reader.old) (R.remaining reader.new) input
         × (B.is_sound keeper.new → Answers result input (B.shows keeper.old) (B.shows keeper.new)) }
+    ensures taken { HasTaken (R.remaining reader.old) (R.remaining reader.new) }
     ensures was { B.is_sound keeper.new → B.is_sound keeper.old }
     ensures honest { B.is_honest keeper.new → B.is_honest keeper.old }
     ensures shield { B.is_shielded keeper.old → B.is_shielded keeper.new }
@@ -234,6 +235,9 @@ pub fn serve_one<B: Book, R: Read, W: Write>(
     ensures served { (input : List ℕ) × IsInput (R.remaining reader.old) (R.remaining reader.new) input
         × (B.is_sound keeper.new
         → AnswersOne result input (B.shows keeper.old) (B.shows keeper.new) (W.contents writer.old) (W.contents writer.new)) }
+
+    // Of the input no more is taken than the answer needs, whatever comes of it.
+    ensures taken { HasTaken (R.remaining reader.old) (R.remaining reader.new) }
 
     // Input that asks for no delivery leaves the records as they were.
     ensures same { B.is_sound keeper.new → (input : List ℕ) → R.remaining reader.old ≡ Some input → AsksNoDelivery input → B.shows keeper.new ≡ B.shows keeper.old }

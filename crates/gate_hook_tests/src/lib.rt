@@ -7,6 +7,8 @@
 #[cfg(test)]
 mod answers;
 #[cfg(test)]
+mod broken;
+#[cfg(test)]
 mod checks;
 #[cfg(test)]
 mod failing;

@@ -1,3 +1,4 @@
 mod Numbers
 mod Reports
 mod Turns
+mod Wrong

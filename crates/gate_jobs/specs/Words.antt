@@ -8,6 +8,8 @@ use Rattle.clap.specs.declared.builder.value_parser.ValueParser.{ValueParser}
 use Rattle.clap.specs.declared.builder.value_parser.ValueParser.TheVariants.{Signed}
 use Rattle.clap.specs.declared.error.kind.ErrorKind.{ErrorKind}
 use Rattle.clap.specs.declared.error.kind.ErrorKind.TheVariants.{DisplayHelp, DisplayVersion, OutOfMemory}
+use Rattle.std.specs.declared.io.ErrorKind.{ErrorKind as IoKind}
+use Rattle.std.specs.declared.io.ErrorKind.TheVariants.{OutOfMemory as NoMemory}
 use Rattle.gate_jobs.specs.declared.words.Job.{Job}
 use Rattle.gate_jobs.specs.declared.words.Job.TheVariants.{Run, Serve, Report}
 use Rattle.gate_jobs.specs.declared.words.WordsFault.{WordsFault}
@@ -96,19 +98,38 @@ IsAskedFor job words = IsJobIn job (subcommand_of gate_words words) × (fault_of
 abbrev pub AsksForHelp : ErrorKind → Type 0
 AsksForHelp kind = (kind ≡ DisplayHelp) ⊎ (kind ≡ DisplayVersion)
 
+-- a kind of error that is a mistake in the words
+abbrev pub IsMistake : ErrorKind → Type 0
+IsMistake kind = (kind ≢ DisplayHelp) × (kind ≢ DisplayVersion) × (kind ≢ OutOfMemory)
+
 -- what is told of an error of `clap`: for want of memory its text may be lost, whatever the error
 abbrev pub IsToldBy : WordsFault → ErrorKind → Type 0
 IsToldBy (Help text) kind = AsksForHelp kind
-IsToldBy (Usage text) kind = (kind ≢ DisplayHelp) × (kind ≢ DisplayVersion) × (kind ≢ OutOfMemory)
+IsToldBy (Usage text) kind = IsMistake kind
 IsToldBy Memory kind = ⊤
 
--- Help is told only if the words ask for it.
+-- what is told of words in which `clap` finds no mistake, and by which it gives no job
+abbrev pub no_job : List ℕ
+no_job = codes "error: these words ask for nothing that gate does\n"
+
+-- Help is told only if the words ask for it, and that they are wrong only if they have a mistake, or give no job.
 abbrev pub IsRefusedBy : WordsFault → List Text → Type 0
 IsRefusedBy (Help text) words = (kind : ErrorKind) × AsksForHelp kind × IsAmong kind (fault_of gate_words words)
-IsRefusedBy (Usage text) words = ⊤
+IsRefusedBy (Usage text) words = ((kind : ErrorKind) × IsMistake kind × IsAmong kind (fault_of gate_words words)) ⊎ (string_bytes text ≡ no_job)
 IsRefusedBy Memory words = ⊤
 
-abbrev pub IsUsage : WordsFault → Type 0
-IsUsage (Help text) = ⊥
-IsUsage (Usage text) = ⊤
-IsUsage Memory = ⊤
+-- Words of which one is no text are wrong, and told so.
+abbrev pub not_text : List ℕ
+not_text = codes "error: a word isn't UTF-8\n"
+
+-- why words couldn't be had, by the kind of the error: if memory was refused, that is told
+abbrev pub IsWithoutWords : WordsFault → IoKind → Type 0
+IsWithoutWords (Help text) kind = ⊥
+IsWithoutWords (Usage text) kind = (kind ≢ NoMemory) × (string_bytes text ≡ not_text)
+IsWithoutWords Memory kind = ⊤
+
+-- a text of our own, or no memory for it
+abbrev pub IsToldAs : List ℕ → WordsFault → Type 0
+IsToldAs due (Help text) = ⊥
+IsToldAs due (Usage text) = string_bytes text ≡ due
+IsToldAs due Memory = ⊤

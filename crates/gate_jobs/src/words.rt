@@ -1,6 +1,7 @@
 ghost use Rattle.std.specs.Prelude.{◌≡◌, map, IfOk, IfErr, IfSome};
+ghost use Rattle.std.specs.IoError.{error_kind};
 ghost use Rattle.clap.specs.Words.{found_of, kind_of, rows_of, subcommand_rows_of};
-ghost use Rattle.gate_jobs.specs.Words.{AreNumbersIn, AreWithinLimits, IsAskedFor, IsDbIn, IsFileIn, IsJobIn, IsRefusedBy, IsRunIn, IsServeIn, IsToldBy, IsUsage, IsWithinLimits};
+ghost use Rattle.gate_jobs.specs.Words.{AreNumbersIn, AreWithinLimits, IsAskedFor, IsDbIn, IsFileIn, IsJobIn, IsRefusedBy, IsRunIn, IsServeIn, IsToldAs, IsToldBy, IsWithinLimits, IsWithoutWords};
 
 use crate::command::{MAX_COUNT, matches_in};
 use clap::error::ErrorKind;
@@ -142,7 +143,7 @@ fn fault_of(alloc: Global, error: &Error) -> WordsFault
 
 // A fault of words that `clap` doesn't see.
 fn misuse(alloc: Global, text: &str) -> WordsFault
-    ensures { IsUsage result }
+    ensures { IsToldAs text.now result }
 {
     match String::from_str(alloc, text) {
         Ok(text) => WordsFault::Usage(text),
@@ -150,9 +151,10 @@ fn misuse(alloc: Global, text: &str) -> WordsFault
     }
 }
 
-/// Why the words couldn't be had as texts.
+/// Why the words couldn't be had as texts. It is `Usage` if one of them is no text, with a line that says so. It is `Memory` if the
+/// error is one of memory, or if there is none for that line.
 pub fn no_text(alloc: Global, error: &io::Error) -> WordsFault
-    ensures { IsUsage result }
+    ensures { IsWithoutWords result (error_kind error.now) }
 {
     if error.kind() == io::ErrorKind::OutOfMemory {
         return WordsFault::Memory;
@@ -168,7 +170,7 @@ pub fn read_words(alloc: Global, words: &[&str]) -> Result<Job, WordsFault>
     // The words have no mistake, and ask for this job.
     ensures job { IfOk result (λ job. IsAskedFor job (map (λ word. word.now) words.now)) }
 
-    // Help is told only if the words ask for it.
+    // Help is told only if the words ask for it, and that they are wrong only if they have a mistake, or give no job.
     ensures help { IfErr result (λ fault. IsRefusedBy fault (map (λ word. word.now) words.now)) }
 {
     let matches = match matches_in(alloc, words) {

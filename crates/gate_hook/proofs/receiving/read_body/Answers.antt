@@ -1,7 +1,26 @@
+use Rattle.std.proofs.Common.{◌++◌, inr, ap, length, length-append, arith}
 use Rattle.std.proofs.KnownBytes.{Consumes-trans}
 use Rattle.gate_hook.proofs.receiving.read_body.Goals as goal
 
 pub returns-in-Err : goal.returns-in-Err
 returns-in-Err g c =
     let failed = c.in-Err.ensures in
-    (failed.0, (_, Consumes-trans _ _ _ _ _ c.loop-bytes.invariant.0.1 failed.1.1))
+    let read = c.loop-bytes.invariant.0 in (
+      failed.0,
+      (
+        _,
+        Consumes-trans _ _ _ _ _ read.1 failed.1.1,
+        inr (omega (
+          arith,
+          failed.1.2,
+          c.len.ensures,
+          c.len-in-loop-bytes.ensures,
+          c.loop-bytes.invariant.1,
+          c.loop-bytes-test.true,
+          ap length read.2,
+          length-append c.args.bytes.now.items read.0,
+          length-append read.0 failed.1.0,
+          length-append c.args.bytes.now.items (read.0 ++ failed.1.0),
+        )),
+      ),
+    )
