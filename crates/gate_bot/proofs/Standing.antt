@@ -1,5 +1,5 @@
 -- A connection that was opened over files shows the database that they held. And what is told of files in which no book was opened.
-use Rattle.std.proofs.Common.{◌≡◌, ◌⊎◌, ap, inl, inr, subst, sym, ◌∙◌}
+use Rattle.std.proofs.Common.{◌≡◌, ◌⊎◌, Result, Ok, Err, IfOk, ap, inl, inr, subst, sym, ◌∙◌}
 use Rattle.gate_hook.specs.declared.fault.HookFault.TheVariants.{Gate}
 use Rattle.gate_jobs.specs.declared.fault.JobFault.{JobFault}
 use Rattle.gate_jobs.specs.declared.fault.JobFault.TheVariants.{Hook}
@@ -22,6 +22,11 @@ stand_in files s records finds opens live stands = record {
   sound = (live opens.is_open).0;
   opens = stands;
 }
+
+-- what holds of a value if it came, by three facts on it
+pub if-ok : {X E : Type 0} {P Q R S : X → Type 0} (result : Result X E) → IfOk result P → IfOk result Q → IfOk result R → ((x : X) → P x → Q x → R x → S x) → IfOk result S
+if-ok (Ok x) first second third all = all x first second third
+if-ok (Err e) first second third all = tt
 
 told_of : Fault → JobFault
 told_of fault = Hook (Gate fault)

@@ -1,16 +1,20 @@
-ghost use Rattle.std.specs.Prelude.{◌≡◌, IfErr, IfOk};
+ghost use Rattle.std.specs.Prelude.{◌≡◌, IfErr, IfOk, false};
 ghost use Rattle.gate_bot.specs.Program.{IsOfFiles, StandIn, fault_of, no_records};
 ghost use Rattle.gate_sql.specs.Shown.{shown};
+ghost use Rattle.gate_sql.specs.Versions.{OpensAs};
 ghost use Rattle.gate_store.specs.Run.{IsOfBooks};
 ghost use Rattle.gate_tables.specs.Tables.{is_honest, is_shielded, is_sound};
-ghost use Rattle.sqlite.specs.Files.{over_files};
+ghost use Rattle.sqlite.specs.Files.{IsOpened, file_state, over_files};
+ghost use Rattle.sqlite.specs.Held.{state};
+ghost use Rattle.sqlite.specs.Start.{FindsIn};
+ghost use Rattle.sqlite.specs.State.{HasCleanDisk};
 ghost use Rattle.sqlite.specs.Steps.{over_memory};
 ghost use Rattle.sqlite.specs.WalFiles.{image_at};
 
 use gate_jobs::JobFault;
 use gate_queue::Fault;
 use gate_sql::SqlBook;
-use sqlite::{Connection, Error, ErrorCode, FileFrom, FileStore, MemStore, Start};
+use sqlite::{Alter, Connection, Error, ErrorCode, FileFrom, FileStore, MemStore, Start};
 use std::alloc::Global;
 
 /// A book in a database in memory, which keeps the records until the program ends.
@@ -50,12 +54,45 @@ pub fn book_in_file<S: Start>(
     ensures shield { IfOk result (λ book. is_honest over_files book → is_shielded over_files book) }
     ensures fault { IfErr result IsOfFiles }
 {
+    match connected(rt, file, start) {
+        Ok(connection) => book_over(rt.alloc(), connection),
+        Err(fault) => Err(fault),
+    }
+}
+
+// A connection to a database file.
+fn connected<S: Start>(
+    rt: &HostRuntime,
+    file: &str,
+    start: S,
+) -> Result<Connection<FileStore<FileFrom<S>>>, JobFault>
+    ensures found { IfOk result (λ connection. HasCleanDisk (file_state connection) → FindsIn (image_at S.Start) (file_state connection)) }
+    ensures opened { IfOk result (λ connection. HasCleanDisk (file_state connection) → IsOpened connection) }
+    ensures guarded { IfOk result (λ connection. HasCleanDisk (file_state connection) → (file_state connection).IsShielded) }
+    ensures mode { IfOk result (λ connection. connection.in_transaction ≡ false) }
+    ensures fault { IfErr result IsOfFiles }
+{
     match Connection::open_from(rt, file, true, start) {
-        Ok(connection) => match SqlBook::open(rt.alloc(), connection) {
-            Ok(book) => Ok(book),
-            Err(refused) => Err(JobFault::from(refused.fault)),
-        },
+        Ok(connection) => Ok(connection),
         Err((error, _)) => Err(told(error)),
+    }
+}
+
+// The book that a database keeps. A connection whose store is known is dear to prove.
+fn book_over<S: Alter + Drop>(
+    alloc: Global,
+    connection: Connection<S>,
+) -> Result<SqlBook<S>, JobFault>
+    requires { connection.in_transaction ≡ false }
+    ensures stands { IfOk result (λ book. is_sound S.Store book → OpensAs (state S.Store connection).now (shown S.Store book)) }
+    ensures honest { IfOk result (λ book. is_honest S.Store book → is_honest S.Store connection) }
+    ensures shield { IfOk result (λ book. is_shielded S.Store connection → is_shielded S.Store book) }
+    ensures stays { IfOk result (λ book. is_honest S.Store book → is_sound S.Store book) }
+    ensures fault { IfErr result IsOfFiles }
+{
+    match SqlBook::open(alloc, connection) {
+        Ok(book) => Ok(book),
+        Err(refused) => Err(JobFault::from(refused.fault)),
     }
 }
 
