@@ -80,9 +80,16 @@ fn deliveries_of<R: BufRead>(alloc: Global, reader: &mut R) -> Result<Vec<Delive
 }
 
 fn delivery_again(alloc: Global, line: &[u8]) -> Result<Delivery, BooksFault> {
+    match delivery_of(alloc, line) {
+        Err(BooksFault::Hook(_)) => delivery_of(alloc, line),
+        read => read,
+    }
+}
+
+fn delivery_of(alloc: Global, line: &[u8]) -> Result<Delivery, BooksFault> {
     match read_delivery(alloc, line) {
         Ok(delivery) => Ok(delivery),
-        Err(DeliveryFault::Memory) => read_delivery(alloc, line).map_err(|_| BooksFault::Usage),
+        Err(DeliveryFault::Memory) => Err(BooksFault::from(Fault::Memory)),
         Err(_) => Err(BooksFault::Usage),
     }
 }
