@@ -21,7 +21,6 @@
 #include <sys/file.h>
 #include <sys/socket.h>
 #include <sys/stat.h>
-#include <sys/uio.h>
 #include <unistd.h>
 
 enum kind { NONE, MEMORY, INPUT, OUTPUT, DISK };
@@ -127,29 +126,6 @@ ssize_t send(int file, const void *from, size_t length, int flags) {
     return fails(OUTPUT) ? failure(OUTPUT) : NEXT(send)(file, from, taken(OUTPUT, length), flags);
 }
 
-ssize_t writev(int file, const struct iovec *parts, int many) {
-    enum kind kind = kind_of(file, OUTPUT);
-    if (fails(kind))
-        return failure(kind);
-    if (kind == counted && kind != DISK && most && many > 0)
-        return NEXT(write)(file, parts[0].iov_base, taken(kind, parts[0].iov_len));
-    return NEXT(writev)(file, parts, many);
-}
-
-ssize_t sendmsg(int file, const struct msghdr *message, int flags) {
-    struct msghdr one = *message;
-    struct iovec part;
-    if (fails(OUTPUT))
-        return failure(OUTPUT);
-    if (counted == OUTPUT && most && one.msg_iovlen > 0) {
-        part = one.msg_iov[0];
-        part.iov_len = taken(OUTPUT, part.iov_len);
-        one.msg_iov = &part;
-        one.msg_iovlen = 1;
-    }
-    return NEXT(sendmsg)(file, &one, flags);
-}
-
 /* --- Files */
 
 static int opened(int file) {
@@ -164,14 +140,6 @@ int open(const char *name, int flags, ...) {
     mode_t mode = va_arg(rest, mode_t);
     va_end(rest);
     return fails(DISK) ? (int)failure(DISK) : opened(NEXT(open)(name, flags, mode));
-}
-
-int openat(int folder, const char *name, int flags, ...) {
-    va_list rest;
-    va_start(rest, flags);
-    mode_t mode = va_arg(rest, mode_t);
-    va_end(rest);
-    return fails(DISK) ? (int)failure(DISK) : opened(NEXT(openat)(folder, name, flags, mode));
 }
 
 int close(int file) {
@@ -220,22 +188,19 @@ int flock(int file, int what) {
     return fails(DISK) ? (int)failure(DISK) : NEXT(flock)(file, what);
 }
 
-int unlink(const char *name) {
-    return fails(DISK) ? (int)failure(DISK) : NEXT(unlink)(name);
-}
-
-int rename(const char *old, const char *new) {
-    return fails(DISK) ? (int)failure(DISK) : NEXT(rename)(old, new);
-}
-
 int fchmod(int file, mode_t mode) {
     return fails(DISK) ? (int)failure(DISK) : NEXT(fchmod)(file, mode);
 }
 
-char *realpath(const char *restrict name, char *restrict into) {
-    return fails(DISK) ? (failure(DISK), NULL) : NEXT(realpath)(name, into);
+int fchown(int file, uid_t user, gid_t group) {
+    return fails(DISK) ? (int)failure(DISK) : NEXT(fchown)(file, user, group);
 }
 
-ssize_t readlink(const char *restrict name, char *restrict into, size_t length) {
-    return fails(DISK) ? failure(DISK) : NEXT(readlink)(name, into, length);
+/* It returns its error. */
+int posix_fadvise(int file, off_t from, off_t length, int advice) {
+    return fails(DISK) ? EIO : NEXT(posix_fadvise)(file, from, length, advice);
+}
+
+char *realpath(const char *restrict name, char *restrict into) {
+    return fails(DISK) ? (failure(DISK), NULL) : NEXT(realpath)(name, into);
 }

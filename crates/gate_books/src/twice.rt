@@ -113,8 +113,8 @@ fn texts_of(alloc: Global, answers: &[Answer]) -> Result<String, AllocError> {
 
 fn reports_again<B: Book>(alloc: Global, keeper: &mut Keeper<B>) -> Result<String, Fault> {
     match reports_of(alloc, keeper) {
-        Ok(reports) => Ok(reports),
-        Err(_) => reports_of(alloc, keeper),
+        Err(Fault::Memory) => reports_of(alloc, keeper),
+        told => told,
     }
 }
 

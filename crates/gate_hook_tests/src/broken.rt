@@ -67,6 +67,8 @@ impl Book for BrokenBook {
     }
 }
 
+const QUEUE: &str = "GET /queue HTTP/1.1\r\nHost: here\r\n\r\n";
+
 // A delivery of one act.
 const LINE: &str = r#"{"id":"1","event":"role","person":"alice","role":"reviewer"}"#;
 
@@ -76,9 +78,14 @@ fn broken_book(alloc: Global, broken: Broken) -> BrokenBook {
 }
 
 // The word of the fault that a request meets.
-fn word_of_request<B: Book + Drop>(rt: &impl Abort, alloc: Global, book: B) -> String {
+fn word_of_request<B: Book + Drop>(
+    rt: &impl Abort,
+    alloc: Global,
+    book: B,
+    request: &str,
+) -> String {
     let mut keeper = Keeper::new(book);
-    let served = serve_one(alloc, &mut keeper, &mut REQUEST.as_bytes(), &mut io::sink());
+    let served = serve_one(alloc, &mut keeper, &mut request.as_bytes(), &mut io::sink());
     drop(keeper);
     match served {
         Ok(served) => {
@@ -106,7 +113,7 @@ fn word_of_line<B: Book + Drop>(rt: &impl Abort, alloc: Global, book: B) -> Stri
 }
 
 fn check_broken(rt: &impl Abort, alloc: Global, broken: Broken) {
-    let found = word_of_request(rt, alloc, broken_book(alloc, broken));
+    let found = word_of_request(rt, alloc, broken_book(alloc, broken), REQUEST);
     check_words(rt, REQUEST, found.as_str(), "503 Store");
     let found = word_of_line(rt, alloc, broken_book(alloc, broken));
     check_words(rt, LINE, found.as_str(), "Store");
@@ -118,4 +125,11 @@ fn a_broken_book(rt: HostRuntime) {
     check_broken(&rt, rt.alloc(), Broken::Load);
     check_broken(&rt, rt.alloc(), Broken::Kept);
     check_broken(&rt, rt.alloc(), Broken::Commit);
+}
+
+#[test]
+fn a_report_of_a_broken_book(rt: HostRuntime) {
+    let book = broken_book(rt.alloc(), Broken::Load);
+    let found = word_of_request(&rt, rt.alloc(), book, QUEUE);
+    check_words(&rt, QUEUE, found.as_str(), "503 Store");
 }
