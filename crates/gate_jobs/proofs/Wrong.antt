@@ -1,9 +1,11 @@
 -- What is told of words that are wrong.
-use Rattle.std.proofs.Common.{◌≡◌, ◌⊎◌, inl, inr, List, arith}
-use Rattle.clap.specs.Words.{IsAmong, Text, fault_of}
+use Rattle.std.proofs.Common.{◌≡◌, ◌⊎◌, inl, inr, List, Some, None, codes, sym, ◌∙◌, arith}
+use Rattle.clap.specs.Words.{IsAmong, Row, Text, fault_of, first_of}
 use Rattle.clap.specs.declared.error.kind.ErrorKind.{ErrorKind}
 use Rattle.clap.specs.declared.error.kind.ErrorKind.TheVariants.{OutOfMemory}
-use Rattle.gate_jobs.specs.Words.{AsksForHelp, IsRefusedBy, IsToldBy, gate_words}
+use Rattle.gate_jobs.specs.Words.{AsksForHelp, IsFileIn, IsRefusedBy, IsServeIn, IsToldBy, IsWithinLimits, LacksNumbers, gate_words}
+use Rattle.gate_jobs.specs.declared.words.Job.{Job}
+use Rattle.gate_jobs.specs.declared.words.Job.TheVariants.{Run, Serve, Report}
 use Rattle.gate_jobs.specs.declared.words.WordsFault.{WordsFault}
 use Rattle.gate_jobs.specs.declared.words.WordsFault.TheVariants.{Help, Usage, Memory}
 
@@ -19,3 +21,18 @@ refused-by (Help text) kind words asks (inr among) = (kind, asks, among)
 refused-by (Usage text) kind words is (inl memory) = absurd (is.2 memory)
 refused-by (Usage text) kind words is (inr among) = inl (kind, is, among)
 refused-by Memory kind words told has = tt
+
+no_file : {text : Text} → Some text ≡ None → ⊥
+no_file same = grind arith
+
+-- no file stands there
+pub none_in : (rows : List Row) → first_of (codes "FILE") rows ≡ None → (job : Job) → IsWithinLimits job → IsFileIn job rows → ⊥
+none_in rows none (Run db) limits never = absurd never
+none_in rows none (Serve port count db) limits never = absurd never
+none_in rows none (Report file) limits some = absurd (no_file (sym some ∙ none))
+
+-- no port and count within the limits stand there
+pub no_serve : (rows : List Row) → LacksNumbers None rows → (job : Job) → IsWithinLimits job → IsServeIn job rows → ⊥
+no_serve rows none (Run db) limits never = absurd never
+no_serve rows none (Serve port count db) limits serves = none port count serves.0 limits
+no_serve rows none (Report file) limits never = absurd never

@@ -2,7 +2,7 @@
 use Rattle.std.specs.Prelude.{◌≡◌, ◌≢◌, ◌⊎◌, ◌≤◌, ℕ, pos, List, [], Option, Some, None, String, true, ⊤, codes}
 use Rattle.std.specs.Option.{option_map}
 use Rattle.std.specs.String.{string_bytes}
-use Rattle.std.specs.Str.Parse.{digits_value, without_leading_plus}
+use Rattle.std.specs.Str.Parse.{IsNumeral, digits_value, without_leading_plus}
 use Rattle.clap.specs.Words.{App, Row, Rule, Text, fault_of, first_of, new_app, new_rule, one_of, subcommand_of, with_rule, with_subcommand, IsAmong}
 use Rattle.clap.specs.declared.builder.value_parser.ValueParser.{ValueParser}
 use Rattle.clap.specs.declared.builder.value_parser.ValueParser.TheVariants.{Signed}
@@ -59,7 +59,7 @@ gate_words = with_subcommand (with_subcommand (with_subcommand bare_words run_wo
 -- THE JOB that a command asks for, by the values of its options
 abbrev pub IsNumber : ℕ → Option Text → Type 0
 IsNumber n None = ⊥
-IsNumber n (Some text) = n ≡ digits_value 10 (without_leading_plus text)
+IsNumber n (Some text) = IsNumeral 10 (without_leading_plus text) × (n ≡ digits_value 10 (without_leading_plus text))
 
 abbrev pub AreNumbersIn : ℕ → ℕ → List Row → Type 0
 AreNumbersIn port count rows = IsNumber port (one_of (codes "port") rows) × IsNumber count (one_of (codes "count") rows)
@@ -90,6 +90,16 @@ IsJobIn (Run db) command =
 IsJobIn (Serve port count db) command = (rows : List Row) × (command ≡ Some (codes "serve", rows)) × IsServeIn (Serve port count db) rows
 IsJobIn (Report file) command = (rows : List Row) × (command ≡ Some (codes "report", rows)) × IsFileIn (Report file) rows
 
+-- If there is no job, none within the limits is asked for.
+abbrev pub LacksJob : Option Job → (Job → Type 0) → Type 0
+LacksJob (Some found) is = ⊤
+LacksJob None is = (job : Job) → IsWithinLimits job → is job → ⊥
+
+-- If there are no numbers, no port and count within the limits stand there.
+abbrev pub LacksNumbers : Option (ℕ × ℕ) → List Row → Type 0
+LacksNumbers (Some numbers) rows = ⊤
+LacksNumbers None rows = (port count : ℕ) → AreNumbersIn port count rows → AreWithinLimits port count → ⊥
+
 -- the words ask for this job, and have no mistake
 abbrev pub IsAskedFor : Job → List Text → Type 0
 IsAskedFor job words = IsJobIn job (subcommand_of gate_words words) × (fault_of gate_words words ≡ [])
@@ -108,14 +118,16 @@ IsToldBy (Help text) kind = AsksForHelp kind
 IsToldBy (Usage text) kind = IsMistake kind
 IsToldBy Memory kind = ⊤
 
--- what is told of words in which `clap` finds no mistake, and by which it gives no job
+-- what is told of words in which `clap` finds no mistake, and which ask for no job
 abbrev pub no_job : List ℕ
 no_job = codes "error: these words ask for nothing that gate does\n"
 
--- Help is told only if the words ask for it, and that they are wrong only if they have a mistake, or give no job.
+-- Help is told only if the words ask for it. That they are wrong is told only if they have a mistake, or ask for no job within the limits.
 abbrev pub IsRefusedBy : WordsFault → List Text → Type 0
 IsRefusedBy (Help text) words = (kind : ErrorKind) × AsksForHelp kind × IsAmong kind (fault_of gate_words words)
-IsRefusedBy (Usage text) words = ((kind : ErrorKind) × IsMistake kind × IsAmong kind (fault_of gate_words words)) ⊎ (string_bytes text ≡ no_job)
+IsRefusedBy (Usage text) words =
+    ((kind : ErrorKind) × IsMistake kind × IsAmong kind (fault_of gate_words words))
+    ⊎ ((string_bytes text ≡ no_job) × LacksJob None (λ job. IsJobIn job (subcommand_of gate_words words)))
 IsRefusedBy Memory words = ⊤
 
 -- Words of which one is no text are wrong, and told so.

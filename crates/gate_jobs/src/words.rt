@@ -1,7 +1,7 @@
 ghost use Rattle.std.specs.Prelude.{◌≡◌, map, IfOk, IfErr, IfSome};
 ghost use Rattle.std.specs.IoError.{error_kind};
 ghost use Rattle.clap.specs.Words.{found_of, kind_of, rows_of, subcommand_rows_of};
-ghost use Rattle.gate_jobs.specs.Words.{AreNumbersIn, AreWithinLimits, IsAskedFor, IsDbIn, IsFileIn, IsJobIn, IsRefusedBy, IsRunIn, IsServeIn, IsToldAs, IsToldBy, IsWithinLimits, IsWithoutWords};
+ghost use Rattle.gate_jobs.specs.Words.{AreNumbersIn, AreWithinLimits, IsAskedFor, IsDbIn, IsFileIn, IsJobIn, IsRefusedBy, IsRunIn, IsServeIn, IsToldAs, IsToldBy, IsWithinLimits, IsWithoutWords, LacksJob, LacksNumbers};
 
 use crate::command::{MAX_COUNT, matches_in};
 use clap::error::ErrorKind;
@@ -83,6 +83,7 @@ fn run_job(alloc: Global, options: &ArgMatches<'_>) -> Result<Job, AllocError>
 fn numbers_in(options: &ArgMatches<'_>) -> Option<(u16, u32)>
     ensures limits { IfSome result (λ numbers. AreWithinLimits numbers.0 numbers.1) }
     ensures numbers { IfSome result (λ numbers. AreNumbersIn numbers.0 numbers.1 (rows_of (found_of options.now))) }
+    ensures none { LacksNumbers result (rows_of (found_of options.now)) }
 {
     let port = options.get_one::<u16>("port")?;
     let count = options.get_one::<u32>("count")?;
@@ -95,6 +96,7 @@ fn numbers_in(options: &ArgMatches<'_>) -> Option<(u16, u32)>
 fn serve_job(alloc: Global, options: &ArgMatches<'_>) -> Result<Option<Job>, AllocError>
     ensures limits { IfOk result (λ job. IfSome job IsWithinLimits) }
     ensures job { IfOk result (λ job. IfSome job (λ job. IsServeIn job (rows_of (found_of options.now)))) }
+    ensures none { IfOk result (λ job. LacksJob job (λ job. IsServeIn job (rows_of (found_of options.now)))) }
 {
     let Some((port, count)) = numbers_in(options) else {
         return Ok(None);
@@ -104,7 +106,8 @@ fn serve_job(alloc: Global, options: &ArgMatches<'_>) -> Result<Option<Job>, All
 }
 
 fn report_job(alloc: Global, options: &ArgMatches<'_>) -> Result<Option<Job>, AllocError>
-    ensures { IfOk result (λ job. IfSome job (λ job. IsFileIn job (rows_of (found_of options.now)))) }
+    ensures job { IfOk result (λ job. IfSome job (λ job. IsFileIn job (rows_of (found_of options.now)))) }
+    ensures none { IfOk result (λ job. LacksJob job (λ job. IsFileIn job (rows_of (found_of options.now)))) }
 {
     match options.get_str("FILE") {
         Some(file) => Ok(Some(Job::Report {
@@ -117,6 +120,7 @@ fn report_job(alloc: Global, options: &ArgMatches<'_>) -> Result<Option<Job>, Al
 fn job_in(alloc: Global, matches: &ArgMatches<'_>) -> Result<Option<Job>, AllocError>
     ensures limits { IfOk result (λ job. IfSome job IsWithinLimits) }
     ensures job { IfOk result (λ job. IfSome job (λ job. IsJobIn job (subcommand_rows_of matches.now))) }
+    ensures none { IfOk result (λ job. LacksJob job (λ job. IsJobIn job (subcommand_rows_of matches.now))) }
 {
     match matches.subcommand() {
         None => Ok(Some(Job::Run { db: None })),
@@ -170,7 +174,8 @@ pub fn read_words(alloc: Global, words: &[&str]) -> Result<Job, WordsFault>
     // The words have no mistake, and ask for this job.
     ensures job { IfOk result (λ job. IsAskedFor job (map (λ word. word.now) words.now)) }
 
-    // Help is told only if the words ask for it, and that they are wrong only if they have a mistake, or give no job.
+    // Help is told only if the words ask for it. That they are wrong is told only if they have a mistake, or ask for no job within
+    // the limits.
     ensures help { IfErr result (λ fault. IsRefusedBy fault (map (λ word. word.now) words.now)) }
 {
     let matches = match matches_in(alloc, words) {

@@ -1,0 +1,5 @@
+use Rattle.gate_jobs.proofs.Wrong.{no_serve}
+use Rattle.gate_jobs.proofs.words.serve_job.Goals as goal
+
+pub returns-in_default-clause-none : goal.returns-in_default-clause-none
+returns-in_default-clause-none c = no_serve _ c.in_default.ensures.none
