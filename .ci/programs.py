@@ -1,0 +1,289 @@
+"""What the tests in this folder share: where the built programs are, how a failure is told, how a program is run and served, the
+requests to it, and its database files as the stock SQLite reads them.
+
+A script that imports this sets `sys.dont_write_bytecode` before, so that nothing is left in the folder.
+"""
+import json
+import random
+import select
+import socket
+import sqlite3
+import subprocess
+import time
+from contextlib import closing, suppress
+from http.client import HTTPConnection
+from importlib.machinery import SourceFileLoader
+from importlib.util import module_from_spec, spec_from_loader
+from itertools import count
+from pathlib import Path
+
+TOP = Path(__file__).resolve().parent.parent
+BY_LLVM = TOP / "crates/gate_bot/out/gate_bot"
+BY_RATTLE = BY_LLVM.with_name("gate_bot.by-rattle")
+BOOKS = TOP / "crates/gate_books/out/gate_books"
+
+# What a run, and a response, may take before its program counts as one that never ends; and what a run may that has more to do.
+SECONDS = 30
+MORE_SECONDS = 120
+
+# For a program that serves until it is killed.
+MANY_CONNECTIONS = 1_000_000
+
+HEADING = "           batch branch  state     prio changes\n"
+
+
+def loaded(name):
+    """A script of this folder, as a module."""
+    loader = SourceFileLoader(name, str(TOP / ".ci" / name))
+    module = module_from_spec(spec_from_loader(name, loader))
+    loader.exec_module(module)
+    return module
+
+
+# --- Failures
+
+
+class Failed(Exception):
+    """What is wrong with a case."""
+
+
+def want(what, found, due):
+    if found != due:
+        raise Failed(f"{what} is {excerpt(found)}, and should be {excerpt(due)}")
+
+
+def excerpt(thing):
+    text = repr(thing)
+    return text if len(text) < 400 else f"{text[:200]} .. {text[-200:]}"
+
+
+def outcome_of(case, *given):
+    """What a case returns, and what is wrong with it. One of both is none."""
+    try:
+        return case(*given), None
+    except Failed as failed:
+        return None, str(failed)
+    except (OSError, sqlite3.Error, subprocess.SubprocessError) as fault:
+        return None, f"the system: {fault}"
+
+
+def failure_of(case, *given):
+    """What is wrong with a case, or none."""
+    return outcome_of(case, *given)[1]
+
+
+def passes(failures, path, case, *given):
+    """Whether a case passes with a program. What is wrong with it is added to the failures."""
+    failure = failure_of(case, *given)
+    if failure:
+        failures.append(f"{path.name}, {case.__name__.replace('_', ' ')}: {failure}")
+    return failure is None
+
+
+def status_of(name, passed, failures):
+    """Prints the failures of a script, and the counts in its last line. The status with which it ends."""
+    for failure in failures:
+        print(f"FAILED {failure}")
+    print(f"{name}: {passed} passed, {len(failures)} failed")
+    return 1 if failures else 0
+
+
+# --- What `rt ci` leaves
+
+
+def builds_of(program, failures):
+    """A program by LLVM, which has to be there, and by Rattle's own compiler if it is there too."""
+    if not program.is_file():
+        failures.append(f"{program.relative_to(TOP)} isn't built: `.ci/run` or `rt ci` leaves it")
+    return [it for it in (program, program.with_name(f"{program.name}.by-rattle")) if it.is_file()]
+
+
+def programs_of(paths, failures):
+    """The programs that a script is started with, or else the builds of the bot."""
+    return [Path(it).resolve() for it in paths] or builds_of(BY_LLVM, failures)
+
+
+# --- Runs
+
+
+class Program:
+    """A built program, and a folder for its files."""
+
+    def __init__(self, path, room):
+        self.path = str(path)
+        self.room = Path(room)
+        self.made = count(1)
+
+    def file(self):
+        """A file that isn't there yet."""
+        return self.room / f"{next(self.made)}"
+
+    def run(self, words=(), given=b"", seconds=SECONDS, **how):
+        """The status of a run, and the bytes on standard output and standard error. `how` is for `subprocess`."""
+        how = {"stdout": subprocess.PIPE, "stderr": subprocess.PIPE, **({} if "stdin" in how else {"input": given}), **how}
+        try:
+            ran = subprocess.run([self.path, *words], timeout=seconds, cwd=self.room, **how)
+        except subprocess.TimeoutExpired as late:
+            raise Failed(f"it had not ended after {seconds} seconds") from late
+        return ran.returncode, ran.stdout or b"", ran.stderr or b""
+
+
+def over(file):
+    """The words for records in a file, or in memory."""
+    return [] if file is None else ["--db", str(file)]
+
+
+def lines_of(deliveries):
+    """The deliveries as lines, each with its number as its identifier."""
+    return [json.dumps({"id": str(number), **it}) for number, it in enumerate(deliveries, 1)]
+
+
+def written(lines):
+    return "".join(f"{line}\n" for line in lines).encode()
+
+
+def rows_of(file):
+    """The rows of each table, as the stock SQLite reads them, which finds the file whole. Without a file there is none."""
+    if not Path(file).exists():
+        return {}
+    with closing(sqlite3.connect(file)) as database:
+        want("what the stock SQLite says of the file", database.execute("PRAGMA integrity_check").fetchall(), [("ok",)])
+        tables = [name for name, in database.execute("SELECT name FROM sqlite_schema WHERE type = 'table'")]
+        return {table: sorted(database.execute(f"SELECT * FROM {table}").fetchall()) for table in tables}
+
+
+# --- `gate serve`
+
+
+class Server:
+    """`gate serve` for so many connections, from the moment that it listens. It is killed in the end, if it hasn't ended."""
+
+    def __init__(self, program, connections=MANY_CONNECTIONS, words=(), port=None, **how):
+        self.port = port or free_port()
+        words = [program.path, "serve", "--port", str(self.port), "--count", str(connections), *words]
+        pipe = subprocess.PIPE
+        # Without a buffer, so that nothing is taken with the first line.
+        self.child = subprocess.Popen(words, stdin=subprocess.DEVNULL, stdout=pipe, stderr=pipe, bufsize=0, **how)
+
+    def __enter__(self):
+        try:
+            want("the first line", self.first_line(), self.greeting())
+        except Failed:
+            self.end()
+            raise
+        return self
+
+    def __exit__(self, *_):
+        self.end()
+
+    def first_line(self):
+        return bytes_until(self.child.stdout, b"\n")
+
+    def greeting(self):
+        return f"listening on 127.0.0.1:{self.port}\n".encode()
+
+    def end(self):
+        self.child.kill()
+        self.child.wait()
+        self.child.stdout.close()
+        self.child.stderr.close()
+
+    def connection(self):
+        return socket.create_connection(("127.0.0.1", self.port), SECONDS)
+
+    def ask(self, request, is_all=False):
+        """What is answered on a connection that sends this, all of it. If it is all, the client says so."""
+        with self.connection() as it:
+            it.sendall(request)
+            if is_all:
+                it.shutdown(socket.SHUT_WR)
+            return read_all(it)
+
+    def ended(self):
+        """The status with which it ends by itself, and what it has printed since the first line."""
+        try:
+            output, errors = self.child.communicate(timeout=SECONDS)
+        except subprocess.TimeoutExpired as late:
+            raise Failed("it goes on after the last connection") from late
+        return self.child.returncode, output, errors
+
+    def want_end(self, word=None):
+        """It ends by itself, after its last connection or with the word of a fault."""
+        want("how it ended", self.ended(), (1, b"", f"gate: {word}\n".encode()) if word else (0, b"", b""))
+
+
+def free_port():
+    """A port that nobody has, below those that clients get."""
+    while True:
+        port = random.randrange(20_000, 30_000)
+        with socket.socket() as it, suppress(OSError):
+            it.bind(("127.0.0.1", port))
+            return port
+
+
+def bytes_until(stream, end):
+    """What a stream without a buffer gives up to this end, or up to its own, or within SECONDS."""
+    text = b""
+    late = time.monotonic() + SECONDS
+    while not text.endswith(end) and select.select([stream], [], [], max(0, late - time.monotonic()))[0]:
+        byte = stream.read(1)
+        if not byte:
+            break
+        text += byte
+    return text
+
+
+def read_all(connection):
+    parts = []
+    while part := connection.recv(65536):
+        parts.append(part)
+    return b"".join(parts)
+
+
+# --- Requests and responses
+
+JSON, PLAIN = "application/json", "text/plain; charset=utf-8"
+
+
+def response_to(port, method, target, body=None):
+    """The status and the body of a response, on a connection of its own."""
+    with closing(HTTPConnection("127.0.0.1", port, timeout=SECONDS)) as connection:
+        connection.request(method, target, body)
+        given = connection.getresponse()
+        return given.status, given.read().decode()
+
+
+def post(body, size=None):
+    size = len(body) if size is None else size
+    return f"POST /deliveries HTTP/1.1\r\nHost: here\r\nContent-Length: {size}\r\n\r\n".encode() + body
+
+
+def get(target):
+    return f"GET {target} HTTP/1.1\r\nHost: here\r\n\r\n".encode()
+
+
+def padded(line, fields, size, body=b""):
+    """A request with so many fields. The last one fills its head up to so many bytes."""
+    head = line + b"A: b\r\n" * (fields - 2) + b"A: "
+    return head + b"c" * (size - 4 - len(head)) + b"\r\n\r\n" + body
+
+
+def response(status, body, kind=JSON):
+    head = f"HTTP/1.1 {status}\r\nContent-Type: {kind}\r\nContent-Length: {len(body)}\r\nConnection: close\r\n\r\n"
+    return head.encode() + body
+
+
+def bare(status):
+    return f"HTTP/1.1 {status}\r\nContent-Length: 0\r\nConnection: close\r\n\r\n".encode()
+
+
+def table_of_requests():
+    """The rows of rows/requests.http: a request, and its response."""
+    for row in (TOP / "rows/requests.http").read_text().splitlines():
+        request, arrow, due = row.partition(" => ")
+        if arrow and not row.startswith("//"):
+            yield in_full(request), in_full(due) if due.startswith("HTTP/") else bare(due)
+
+
+def in_full(short):
+    return short.replace("|", "\r\n").replace("~", "\n").encode()
