@@ -1,0 +1,99 @@
+"""Runs one check, as a process of its own beside the host: SECONDS OUTPUT VERDICT COMMAND, in the folder of the worktree.
+
+It leads a process group with the command and all that it starts. Its input is a pipe from the host. When the pipe ends, the host has
+died, and the group is killed. In the end the verdict is written down, and whatever is left of the group is killed, with this process.
+"""
+import json
+import os
+import select
+import signal
+import subprocess
+import sys
+import time
+
+# Of a longer output the beginning and the end are kept.
+MOST_AT_FRONT = 65536
+MOST_AT_END = 196608
+
+
+class Output:
+    """The output of a check, bounded."""
+
+    def __init__(self, path: str):
+        self.file = open(path, "wb")
+        self.front = 0
+        self.end = bytearray()
+        self.dropped = 0
+
+    def add(self, part: bytes) -> None:
+        room = MOST_AT_FRONT - self.front
+        self.file.write(part[:room])
+        self.file.flush()
+        self.front += len(part[:room])
+        self.end += part[room:]
+        too_many = len(self.end) - MOST_AT_END
+        if too_many > 0:
+            self.dropped += too_many
+            del self.end[:too_many]
+
+    def close(self, last: str) -> None:
+        if self.dropped:
+            self.file.write(f"\n[{self.dropped} bytes are left out here]\n".encode())
+        self.file.write(bytes(self.end))
+        self.file.write(f"\n[{last}]\n".encode())
+        self.file.close()
+
+
+def run(seconds: float, output: Output, command: str) -> tuple:
+    """Runs the command to its end, and gives the state of its status and how it ended."""
+    start = time.monotonic()
+    child = subprocess.Popen(["/bin/sh", "-c", command], stdin=subprocess.DEVNULL, stdout=subprocess.PIPE, stderr=subprocess.STDOUT)
+    pipe = child.stdout.fileno()
+    os.set_blocking(pipe, False)
+    watched = [pipe, sys.stdin.fileno()]
+    while child.poll() is None:
+        if time.monotonic() > start + seconds:
+            read(pipe, output)
+            return "error", f"it took more than {seconds:g} seconds"
+        # A command that has closed its output is still waited for.
+        ready, _, _ = select.select(watched, [], [], 0.1)
+        if sys.stdin.fileno() in ready:
+            os.killpg(0, signal.SIGKILL)
+        if pipe in ready and not read(pipe, output):
+            watched.remove(pipe)
+    read(pipe, output)
+    took = f"after {time.monotonic() - start:.0f} seconds"
+    if child.returncode < 0:
+        return "error", f"it was ended by signal {-child.returncode} {took}"
+    return ("success" if child.returncode == 0 else "failure"), f"it ended with status {child.returncode} {took}"
+
+
+def read(pipe: int, output: Output) -> bool:
+    """Keeps some of what the command has written by now, so that one that never stops is still looked at. False if nothing can come."""
+    try:
+        for _ in range(16):
+            part = os.read(pipe, 65536)
+            if not part:
+                return False
+            output.add(part)
+    except BlockingIOError:
+        pass
+    return True
+
+
+def main() -> None:
+    seconds, path, verdict, command = sys.argv[1:]
+    output = Output(path)
+    try:
+        state, said = run(float(seconds), output, command)
+    except OSError as fault:
+        state, said = "error", f"it couldn't be run: {fault}"
+    output.close(said)
+    with open(f"{verdict}.part", "w", encoding="utf-8") as file:
+        json.dump({"state": state, "said": said}, file)
+    os.rename(f"{verdict}.part", verdict)
+    os.killpg(0, signal.SIGKILL)
+
+
+if __name__ == "__main__":
+    main()

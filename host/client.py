@@ -1,0 +1,73 @@
+"""The bot, as a child of the host: `gate run --db FILE`, with deliveries on one pipe and answers on another."""
+import os
+import select
+import subprocess
+import tempfile
+import time
+from pathlib import Path
+
+# The first answer comes when the bot has read its file, which takes time in its size.
+SECONDS_FOR_FIRST = 600
+SECONDS = 120
+
+
+class BotEnded(Exception):
+    """The bot has ended, or gives no answer, with what it said of it."""
+
+
+class Bot:
+    """A running bot. It ends with its input, and so with the host, however that ends."""
+
+    def __init__(self, program: str, database: Path):
+        self.said = tempfile.TemporaryFile()
+        command = [program, "run", "--db", str(database)]
+        try:
+            self.process = subprocess.Popen(
+                command, stdin=subprocess.PIPE, stdout=subprocess.PIPE, stderr=self.said, bufsize=0, start_new_session=True,
+            )
+        except OSError as fault:
+            raise BotEnded(f"{program} can't be started: {fault.strerror}") from fault
+        self.seconds = SECONDS_FOR_FIRST
+        self.rest = b""
+
+    def hand_in(self, line: str) -> str:
+        """Hands a delivery in, and gives the answer."""
+        try:
+            self.process.stdin.write(line.encode() + b"\n")
+        except OSError:
+            raise self.ended() from None
+        late = time.monotonic() + self.seconds
+        while b"\n" not in self.rest:
+            ready, _, _ = select.select([self.process.stdout], [], [], max(0.0, late - time.monotonic()))
+            if not ready:
+                self.process.kill()
+                raise BotEnded(f"the bot gave no answer for {self.seconds} seconds")
+            part = os.read(self.process.stdout.fileno(), 65536)
+            if not part:
+                raise self.ended()
+            self.rest += part
+        answer, _, self.rest = self.rest.partition(b"\n")
+        self.seconds = SECONDS
+        return answer.decode()
+
+    def ended(self) -> BotEnded:
+        """How the bot has ended, by its own words or its status."""
+        try:
+            status = self.process.wait(10)
+        except subprocess.TimeoutExpired:
+            self.process.kill()
+            status = self.process.wait()
+        self.said.seek(0)
+        words = self.said.read(1000).decode(errors="replace").strip()
+        return BotEnded(words or f"the bot ended with status {status}")
+
+    def close(self) -> None:
+        """Ends the bot by the end of its input, which has it leave its file in order."""
+        self.process.stdin.close()
+        try:
+            self.process.wait(60)
+        except subprocess.TimeoutExpired:
+            self.process.kill()
+            self.process.wait()
+        self.process.stdout.close()
+        self.said.close()

@@ -1,0 +1,158 @@
+"""Where the host keeps what it has: the folder `gate` of the repository. And what a user may be told that went wrong."""
+import os
+import pwd
+import re
+import stat
+import subprocess
+from dataclasses import dataclass
+from pathlib import Path
+from typing import Optional
+
+NAME = re.compile(r"[A-Za-z0-9_.\[\]-]{1,64}")
+# A file of settings or roles is read up to this size.
+MOST_BYTES = 65536
+# Git sets these for its hooks. What the host starts is about the repository that it names, and no other.
+OF_GIT = (
+    "GIT_DIR", "GIT_WORK_TREE", "GIT_INDEX_FILE", "GIT_PREFIX", "GIT_COMMON_DIR", "GIT_NAMESPACE", "GIT_OBJECT_DIRECTORY",
+    "GIT_ALTERNATE_OBJECT_DIRECTORIES", "GIT_QUARANTINE_PATH", "GIT_PUSH_OPTION_COUNT",
+)
+
+
+class Trouble(Exception):
+    """What keeps a command from being done, in words for its user."""
+
+
+@dataclass(frozen=True)
+class Places:
+    """The files of the host. All of them stand in one folder, which only the owner of the repository may write."""
+
+    repository: Path
+
+    @property
+    def folder(self) -> Path:
+        return self.repository / "gate"
+
+    @property
+    def settings(self) -> Path:
+        return self.folder / "settings"
+
+    @property
+    def roles(self) -> Path:
+        return self.folder / "roles"
+
+    @property
+    def spool(self) -> Path:
+        """Where everybody may leave a note, and nobody but the owner can look."""
+        return self.folder / "spool"
+
+    @property
+    def reports(self) -> Path:
+        """What everybody may read."""
+        return self.folder / "reports"
+
+    @property
+    def outputs(self) -> Path:
+        return self.reports / "checks"
+
+    @property
+    def records(self) -> Path:
+        """What nobody but the owner may read: the journal, the file of the bot, the lock, the worktrees."""
+        return self.folder / "records"
+
+    @property
+    def worktrees(self) -> Path:
+        return self.records / "worktrees"
+
+    @property
+    def bot(self) -> Path:
+        """The file of the bot."""
+        return self.records / "bot.db"
+
+    @property
+    def owner(self) -> int:
+        return self.folder.stat().st_uid
+
+
+def clean_environment() -> dict:
+    """The environment without what git tells its hooks about a repository."""
+    return {name: value for name, value in os.environ.items() if name not in OF_GIT}
+
+
+def name_of_user(number: int) -> Optional[str]:
+    """The name of a user of the system as the bot takes it, or none if there is no such user or it can't be such a name."""
+    try:
+        name = pwd.getpwuid(number).pw_name
+    except KeyError:
+        return None
+    return person(name)
+
+
+def person(name: str) -> Optional[str]:
+    """A name of a person as the bot keeps it, or none if it is no name."""
+    return name.lower() if NAME.fullmatch(name) else None
+
+
+def person_here(owner: int) -> Optional[str]:
+    """Who has started this process. Only a process of the owner is believed a name of gitolite: anybody can set a variable."""
+    user = os.geteuid()
+    if user == owner and os.environ.get("GL_USER"):
+        return person(os.environ["GL_USER"])
+    return name_of_user(user)
+
+
+def trusted_text(path: Path, owner: int) -> str:
+    """The text of a file that nobody but its owner can write. Any other file is refused."""
+    try:
+        file = os.open(path, os.O_RDONLY | os.O_NOFOLLOW | os.O_NONBLOCK | os.O_CLOEXEC)
+    except OSError as fault:
+        raise Trouble(f"{path} can't be read: {fault.strerror}") from fault
+    with os.fdopen(file, "rb") as opened:
+        found = os.fstat(file)
+        if not stat.S_ISREG(found.st_mode) or found.st_uid != owner or found.st_mode & 0o022:
+            raise Trouble(f"{path} has to be a file of the owner of the repository, which nobody else may write")
+        content = opened.read(MOST_BYTES + 1)
+    if len(content) > MOST_BYTES:
+        raise Trouble(f"{path} has more than {MOST_BYTES} bytes")
+    try:
+        return content.decode("utf-8")
+    except UnicodeDecodeError as fault:
+        raise Trouble(f"{path} isn't written in UTF-8") from fault
+
+
+def must_be_safe(places: Places) -> None:
+    """Refuses a folder that isn't the user's own, or that others may write: they could put other files in place of the host's."""
+    for folder in (places.folder, places.records, places.reports):
+        found = os.lstat(folder) if folder.exists() else None
+        if found is None or not stat.S_ISDIR(found.st_mode):
+            raise Trouble(f"{folder} isn't there; gate-host init {places.repository} makes it")
+        if found.st_uid != os.geteuid():
+            raise Trouble(f"{folder} isn't yours; the host runs as the owner of the repository")
+        if found.st_mode & 0o022:
+            raise Trouble(f"others may write {folder}; chmod go-w it")
+
+
+def asked_of_git(folder: Path, *arguments: str) -> Optional[str]:
+    """What git says of a folder, or none if it says no."""
+    # A repository of somebody else is read only, and nothing that it says is run.
+    command = ["git", "-c", "safe.directory=*", "-C", str(folder), *arguments]
+    try:
+        ran = subprocess.run(command, env=clean_environment(), capture_output=True, timeout=60, check=False)
+    except (OSError, subprocess.TimeoutExpired) as fault:
+        raise Trouble(f"git can't be run: {fault}") from fault
+    return ran.stdout.decode(errors="replace").strip() if ran.returncode == 0 else None
+
+
+def find_places(given: Optional[str]) -> Places:
+    """The repository that is named, or the one in which the user stands, or that of which the user stands in a clone."""
+    if given is not None:
+        found = Path(given).resolve()
+        if not (found / "gate").is_dir():
+            raise Trouble(f"{given} has no folder gate; gate-host init {given} makes it")
+        return Places(found)
+    here = asked_of_git(Path.cwd(), "rev-parse", "--absolute-git-dir")
+    origin = asked_of_git(Path.cwd(), "config", "remote.origin.url") if here else None
+    for place in filter(None, [here, origin]):
+        path = Path(re.sub(r"^file://", "", place))
+        if path.is_absolute() and (path / "gate").is_dir():
+            return Places(path.resolve())
+    raise Trouble("this is no repository with a host, nor a clone of one; name it by --repository")

@@ -1,0 +1,139 @@
+"""The repository: where its branches are, what a commit has, merges for the bot, and the move of the main branch."""
+import os
+import signal
+import subprocess
+from dataclasses import dataclass
+from pathlib import Path
+from typing import Dict, List, Optional, Sequence
+
+from places import clean_environment
+
+# No hook is called for what the host does, and what it makes is on the disk when a command ends.
+GIT = (
+    "git", "-c", "user.name=gate", "-c", "user.email=gate@localhost", "-c", "core.fsync=all", "-c", "core.hooksPath=/dev/null",
+    "-c", "gc.auto=0",
+)
+SECONDS = 60
+SECONDS_FOR_MERGE = 600
+
+
+class GitFailed(Exception):
+    """A command of git that ended in a way that says nothing of the question, with its words."""
+
+
+@dataclass(frozen=True)
+class Merged:
+    """What came of an order to stage: a commit, or which change doesn't merge, and why."""
+
+    commit: Optional[str] = None
+    conflicting: Optional[int] = None
+    why: str = ""
+
+
+@dataclass(frozen=True)
+class Ran:
+    """The status and the output of a command that has ended."""
+
+    status: int
+    output: str
+
+
+class Repository:
+    """A bare repository and its main branch."""
+
+    def __init__(self, path: Path, main: str):
+        self.path = path
+        self.main = f"refs/heads/{main}"
+
+    def run(self, *arguments: str, seconds: float = SECONDS, dates: Optional[int] = None) -> Ran:
+        """Runs git. Whatever it has started is killed with it when the time is over."""
+        environment = clean_environment()
+        if dates is not None:
+            environment.update(GIT_AUTHOR_DATE=f"@{dates} +0000", GIT_COMMITTER_DATE=f"@{dates} +0000")
+        command = [*GIT, "-C", str(self.path), *arguments]
+        with subprocess.Popen(
+            command, env=environment, stdin=subprocess.DEVNULL, stdout=subprocess.PIPE, stderr=subprocess.PIPE, start_new_session=True,
+        ) as process:
+            try:
+                output, words = process.communicate(timeout=seconds)
+            except subprocess.TimeoutExpired:
+                os.killpg(process.pid, signal.SIGKILL)
+                raise GitFailed(f"git {arguments[0]} took more than {seconds} seconds") from None
+        if process.returncode not in (0, 1, 128):
+            raise GitFailed(f"git {arguments[0]} ended with status {process.returncode}: {words.decode(errors='replace').strip()}")
+        return Ran(process.returncode, (output if process.returncode < 128 else words).decode(errors="replace"))
+
+    def ask(self, *arguments: str, **more) -> str:
+        """What git writes. Any status but 0 is a failure."""
+        ran = self.run(*arguments, **more)
+        if ran.status != 0:
+            raise GitFailed(f"git {arguments[0]} ended with status {ran.status}: {ran.output.strip()}")
+        return ran.output
+
+    def branches(self) -> Dict[str, str]:
+        """The commit of each branch, all of one moment as nearly as git can tell."""
+        lines = self.ask("for-each-ref", "--format=%(objectname) %(refname)", "refs/heads/").splitlines()
+        return {name: commit for commit, name in (line.split(" ", 1) for line in lines)}
+
+    def text_at(self, commit: str, name: str) -> Optional[str]:
+        """The text of a file of a commit, or none if it has no such file."""
+        if not self.ask("ls-tree", "--name-only", commit, "--", name).strip():
+            return None
+        return self.ask("cat-file", "blob", f"{commit}:{name}")
+
+    def stage(self, order: dict, now: int) -> Merged:
+        """Makes one commit, whose parents are the base and the heads. If it is done again, it is the same commit."""
+        base, commit, parents = order["base"], order["base"], ["-p", order["base"]]
+        message = f"Batch {order['batch']}: " + ", ".join(f"change {change}" for change, _ in order["heads"])
+        for change, head in order["heads"]:
+            self.must_have(change, head)
+            found = self.merge(commit, head)
+            if found.commit is None:
+                return Merged(conflicting=change, why=found.why)
+            parents += ["-p", head]
+            commit = self.ask("commit-tree", found.commit, *parents, "-m", message, dates=now).strip()
+        assert commit != base, "a batch has a change"
+        self.ask("update-ref", f"refs/heads/{order['branch']}", commit)
+        return Merged(commit=commit)
+
+    def must_have(self, change: int, head: str) -> None:
+        """A head that isn't here is no conflict."""
+        if self.run("cat-file", "-e", f"{head}^{{commit}}").status != 0:
+            raise GitFailed(f"the head {head} of change {change} isn't in the repository")
+
+    def merge(self, commit: str, head: str) -> Merged:
+        """The tree of a merge, without a checkout, or why there is none."""
+        common = self.run("merge-base", commit, head)
+        if common.status == 1:
+            return Merged(why="it has no commit in common with the main branch")
+        if common.status != 0:
+            raise GitFailed(f"git merge-base: {common.output.strip()}")
+        tried = self.run("merge-tree", "--write-tree", "--name-only", "--no-messages", commit, head, seconds=SECONDS_FOR_MERGE)
+        if tried.status == 128:
+            raise GitFailed(f"git merge-tree: {tried.output.strip()}")
+        tree, *names = tried.output.splitlines()
+        return Merged(commit=tree) if tried.status == 0 else Merged(why="both change " + ", ".join(names))
+
+    def land(self, order: dict) -> bool:
+        """Moves the main branch if it is at exactly the base. Then looks whether the commit is on it, as it may be since before."""
+        self.run("update-ref", self.main, order["commit"], order["base"])
+        looked = self.run("merge-base", "--is-ancestor", order["commit"], self.main)
+        if looked.status == 128 and self.main in self.branches():
+            raise GitFailed(f"git merge-base: {looked.output.strip()}")
+        return looked.status == 0
+
+    def add_worktree(self, path: Path, commit: str, seconds: float) -> None:
+        self.ask("worktree", "add", "--quiet", "--detach", "--force", str(path), commit, seconds=seconds)
+
+    def forget_worktrees(self) -> None:
+        """Forgets the worktrees whose folders are gone."""
+        self.ask("worktree", "prune", "--expire=now")
+
+
+def heads_of(order: dict) -> List[int]:
+    return [change for change, _ in order["heads"]]
+
+
+def listed(changes: Sequence[int]) -> str:
+    """The numbers of changes, in words."""
+    return ("change " if len(changes) == 1 else "changes ") + ", ".join(map(str, changes))

@@ -1,0 +1,70 @@
+#!/usr/bin/env python3
+"""gate-host, which dies at each of its own steps once: before the step is written down, and after.
+
+    dying_host.py MARKS ARGUMENT..
+
+MARKS is a folder with a mark for each death. Steps are those of the journal, by the function that makes them, a note that is removed from
+the spool, a check that has begun or ended, and a report that is written.
+"""
+import os
+import signal
+import sys
+from contextlib import contextmanager
+from pathlib import Path
+
+sys.dont_write_bytecode = True
+sys.path.insert(0, str(Path(__file__).resolve().parent.parent))
+
+import checks  # noqa: E402
+import commands  # noqa: E402
+import journal  # noqa: E402
+import reports  # noqa: E402
+import spool  # noqa: E402
+
+MARKS = Path(sys.argv[1])
+
+
+def die_first(name):
+    """Dies if this comes for the first time."""
+    try:
+        (MARKS / name).mkdir()
+    except FileExistsError:
+        return
+    os.kill(os.getpid(), signal.SIGKILL)
+
+
+@contextmanager
+def dying(step, name):
+    with step:
+        yield
+        die_first(f"{name}-before")
+    die_first(f"{name}-after")
+
+
+def steps_die(step):
+    return lambda journal: dying(step(journal), sys._getframe(1).f_code.co_name)
+
+
+def calls_die(cls, name):
+    """Has a method die before and after it does its work."""
+    method = getattr(cls, name)
+
+    def dies(*given):
+        die_first(f"{name}-before-call")
+        result = method(*given)
+        if result is not None or name != "result_of":
+            die_first(f"{name}-after-call")
+        return result
+
+    setattr(cls, name, dies)
+
+
+def main():
+    journal.Journal.step = steps_die(journal.Journal.step)
+    for cls, name in ((spool.Spool, "remove"), (checks.Checks, "start"), (checks.Checks, "result_of"), (reports.Reports, "put")):
+        calls_die(cls, name)
+    return commands.main(sys.argv[2:])
+
+
+if __name__ == "__main__":
+    sys.exit(main())

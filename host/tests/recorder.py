@@ -1,0 +1,67 @@
+#!/usr/bin/env python3
+"""Stands between a host and its bot: writes down what goes in and what comes out, and kills one of the two at each kind of answer once.
+
+    recorder.py ANSWERS MARKS PROGRAM ARGUMENT..
+
+ANSWERS gets a line for each answer, before the host has it. MARKS is a folder with a mark for each death, or `-` if nobody is to die.
+"""
+import json
+import os
+import signal
+import subprocess
+import sys
+
+
+def is_first(marks, name):
+    """Whether this comes for the first time. The mark stays when the process is gone."""
+    if marks == "-":
+        return False
+    try:
+        os.mkdir(os.path.join(marks, name))
+    except FileExistsError:
+        return False
+    return True
+
+
+def kind_of(delivery, answer):
+    orders = [order["order"] for reply in answer for order in reply.get("orders", [])]
+    return "-".join([delivery["event"], *sorted(set(orders))])
+
+
+def end(bot):
+    bot.kill()
+    sys.exit(1)
+
+
+def main():
+    answers, marks, *command = sys.argv[1:]
+    host = os.getppid()
+    bot = subprocess.Popen(command, stdin=subprocess.PIPE, stdout=subprocess.PIPE, bufsize=0)
+    for line in sys.stdin.buffer:
+        delivery = json.loads(line)
+        if is_first(marks, f"bot-before-{delivery['event']}"):
+            end(bot)
+        bot.stdin.write(line)
+        answer = bot.stdout.readline()
+        if not answer:
+            sys.exit(bot.wait())
+        with open(answers, "a", encoding="utf-8") as file:
+            file.write(json.dumps({"delivery": delivery, "answer": json.loads(answer)}) + "\n")
+        kind = kind_of(delivery, json.loads(answer))
+        if is_first(marks, f"bot-after-{kind}"):
+            end(bot)
+        if is_first(marks, f"host-before-{kind}"):
+            os.kill(host, signal.SIGKILL)
+        sys.stdout.buffer.write(answer)
+        sys.stdout.buffer.flush()
+        if is_first(marks, f"host-after-{kind}"):
+            os.kill(host, signal.SIGKILL)
+    bot.stdin.close()
+    sys.exit(bot.wait())
+
+
+if __name__ == "__main__":
+    try:
+        main()
+    except BrokenPipeError:
+        sys.exit(1)
