@@ -26,6 +26,7 @@ class Bot:
                 command, stdin=subprocess.PIPE, stdout=subprocess.PIPE, stderr=self.said, bufsize=0, start_new_session=True,
             )
         except OSError as fault:
+            self.said.close()
             raise BotEnded(f"{program} can't be started: {fault.strerror}") from fault
         self.seconds = SECONDS_FOR_FIRST
         self.rest = b""

@@ -149,7 +149,7 @@ def first_roles(arguments: argparse.Namespace) -> str:
 
 
 def make_folders(places: Places) -> None:
-    """Makes the folders. In the spool everybody may leave a file, nobody but the owner can see which are there, and each removes its own."""
+    """Makes the folders. In the spool everybody may leave a file, and nobody but the owner sees which are there."""
     modes = [(places.folder, 0o755), (places.records, 0o700), (places.reports, 0o755), (places.outputs, 0o755), (places.spool, 0o1733)]
     for folder, mode in modes:
         folder.mkdir(exist_ok=True)

@@ -385,7 +385,8 @@ class Host:
                 return
             self.tell([change], words.quoted(note.person, text))
             if lines and seen not in (None, head):
-                self.tell([change], f"Not taken: it was about {seen if is_commit(seen) else 'another commit'}, and the change is at {head} now. Look at that first.")
+                about = seen if is_commit(seen) else "another commit"
+                self.tell([change], f"Not taken: it was about {about}, and the change is at {head} now. Look at that first.")
             elif lines:
                 self.journal.note("comment", change=change, person=note.person, text="\n".join(lines))
         self.is_report_due = True

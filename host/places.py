@@ -100,17 +100,35 @@ def person_here(owner: int) -> Optional[str]:
     return name_of_user(user)
 
 
+def open_regular(path, folder: Optional[int] = None) -> int:
+    """Opens a file for reading, without following a link and without waiting for what is no file."""
+    return os.open(path, os.O_RDONLY | os.O_NOFOLLOW | os.O_NONBLOCK | os.O_CLOEXEC, dir_fd=folder)
+
+
+def read_up_to(file: int, most: int) -> bytes:
+    """What a file has, up to one byte more than the most that it may have."""
+    content = b""
+    while len(content) <= most:
+        part = os.read(file, most + 1 - len(content))
+        if not part:
+            break
+        content += part
+    return content
+
+
 def trusted_text(path: Path, owner: int) -> str:
     """The text of a file that nobody but its owner can write. Any other file is refused."""
     try:
-        file = os.open(path, os.O_RDONLY | os.O_NOFOLLOW | os.O_NONBLOCK | os.O_CLOEXEC)
+        file = open_regular(path)
     except OSError as fault:
         raise Trouble(f"{path} can't be read: {fault.strerror}") from fault
-    with os.fdopen(file, "rb") as opened:
+    try:
         found = os.fstat(file)
         if not stat.S_ISREG(found.st_mode) or found.st_uid != owner or found.st_mode & 0o022:
             raise Trouble(f"{path} has to be a file of the owner of the repository, which nobody else may write")
-        content = opened.read(MOST_BYTES + 1)
+        content = read_up_to(file, MOST_BYTES)
+    finally:
+        os.close(file)
     if len(content) > MOST_BYTES:
         raise Trouble(f"{path} has more than {MOST_BYTES} bytes")
     try:

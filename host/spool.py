@@ -16,9 +16,9 @@ import stat
 import time
 from dataclasses import dataclass
 from pathlib import Path
-from typing import Callable, List, Optional
+from typing import Callable, List, Optional, Set
 
-from places import name_of_user, person
+from places import name_of_user, open_regular, person, read_up_to
 
 # Readable by the host, whoever writes it; and marked by the sticky bit, which means nothing else on a file.
 MODE = 0o1644
@@ -64,22 +64,28 @@ class Spool:
         self.path = path
         self.owner = owner
         self.complain = complain
+        # What lies there and can't be removed.
+        self.stuck: Set[str] = set()
 
     def take(self) -> List[Note]:
         """The notes that lie there, in the order in which they were left. They stay until they are removed."""
-        notes = []
+        notes: List[Note] = []
         folder = os.open(self.path, os.O_RDONLY | os.O_DIRECTORY | os.O_NOFOLLOW | os.O_CLOEXEC)
         try:
-            for name in sorted(os.listdir(folder))[:MOST_AT_ONCE]:
+            for name in sorted(os.listdir(folder)):
                 note = self.look_at(folder, name)
                 if note:
                     notes.append(note)
+                if len(notes) == MOST_AT_ONCE:
+                    break
         finally:
             os.close(folder)
         return sorted(notes, key=lambda note: (note.left, note.name))
 
     def look_at(self, folder: int, name: str) -> Optional[Note]:
         """A note, or none; what is no note is removed."""
+        if name in self.stuck:
+            return None
         try:
             if name.startswith("."):
                 if os.lstat(name, dir_fd=folder).st_ctime < time.time() - SECONDS_FOR_PART:
@@ -88,14 +94,17 @@ class Spool:
             return self.read(folder, name)
         except FileNotFoundError:
             return None
-        except (Refused, OSError) as fault:
-            self.complain(f"a file of the spool is no note, and is removed: {fault}")
-            self.remove(name)
-            return None
+        except Refused as refused:
+            why = str(refused)
+        except OSError as fault:
+            why = str(fault.strerror)
+        self.complain(f"a file of the spool is no note, and is removed: {why}")
+        self.remove(name)
+        return None
 
     def read(self, folder: int, name: str) -> Note:
-        file = os.open(name, os.O_RDONLY | os.O_NOFOLLOW | os.O_NONBLOCK | os.O_CLOEXEC, dir_fd=folder)
-        with os.fdopen(file, "rb") as opened:
+        file = open_regular(name, folder)
+        try:
             found = os.fstat(file)
             if not stat.S_ISREG(found.st_mode):
                 raise Refused("it isn't a regular file")
@@ -103,7 +112,9 @@ class Spool:
                 raise Refused("it has another name as well")
             if stat.S_IMODE(found.st_mode) != MODE:
                 raise Refused("it isn't marked as a note")
-            content = opened.read(MOST_BYTES + 1)
+            content = read_up_to(file, MOST_BYTES)
+        finally:
+            os.close(file)
         if len(content) > MOST_BYTES:
             raise Refused("it is too long")
         body = self.body_of(content, name)
@@ -137,4 +148,5 @@ class Spool:
             try:
                 os.rmdir(path)
             except OSError as fault:
+                self.stuck.add(name)
                 self.complain(f"{path} can't be removed: {fault.strerror}")

@@ -1,0 +1,479 @@
+"""Tests of the single files of the host. `.ci/test_gate_host` runs them, and the whole host besides."""
+import json
+import os
+import pwd
+import signal
+import subprocess
+import sys
+import tempfile
+import time
+import unittest
+from contextlib import closing
+from pathlib import Path
+from unittest import mock
+
+sys.path.insert(0, str(Path(__file__).resolve().parent.parent))
+
+import hook  # noqa: E402
+import spool  # noqa: E402
+import words  # noqa: E402
+from client import Bot, BotEnded  # noqa: E402
+from journal import Journal  # noqa: E402
+from loop import is_claim, is_commit  # noqa: E402
+from places import Places, Trouble, must_be_safe, name_of_user, person, person_here, trusted_text  # noqa: E402
+from reports import log_text  # noqa: E402
+from repository import GitFailed, Repository  # noqa: E402
+from settings import roles_in, settings_in  # noqa: E402
+
+RUNNER = Path(__file__).resolve().parent.parent / "check_runner.py"
+MYSELF = name_of_user(os.geteuid())
+IS_ROOT = os.geteuid() == 0
+# A user of the system who isn't the one that runs the tests.
+OTHER = next(it for it in pwd.getpwall() if it.pw_uid != os.geteuid() and person(it.pw_name))
+
+
+class InFolder(unittest.TestCase):
+    """A test in a folder of its own."""
+
+    def setUp(self):
+        room = tempfile.TemporaryDirectory()
+        self.addCleanup(room.cleanup)
+        self.room = Path(room.name)
+
+
+class SpoolTests(InFolder):
+    def setUp(self):
+        super().setUp()
+        self.path = self.room / "spool"
+        self.path.mkdir()
+        self.complaints = []
+        self.spool = spool.Spool(self.path, os.geteuid(), self.complaints.append)
+
+    def leave(self, **body):
+        """Leaves a note, and gives its file."""
+        before = set(self.path.iterdir())
+        spool.leave(self.path, body)
+        return (set(self.path.iterdir()) - before).pop()
+
+    def refused(self, why):
+        """What lies in the spool is no note, for this cause, and is taken away."""
+        self.assertEqual(self.spool.take(), [])
+        self.assertEqual(len(self.complaints), 1)
+        self.assertIn(why, self.complaints[0])
+        self.assertEqual(list(self.path.iterdir()), [])
+
+    def test_notes_come_in_the_order_in_which_they_were_left(self):
+        for number in range(3):
+            self.leave(number=number)
+        notes = self.spool.take()
+        self.assertEqual([note.body["number"] for note in notes], [0, 1, 2])
+        self.assertEqual({note.person for note in notes}, {MYSELF})
+        self.assertEqual(len(self.spool.take()), 3)
+        for note in notes:
+            self.spool.remove(note.name)
+        self.assertEqual(self.spool.take(), [])
+
+    def test_the_owner_writes_for_others(self):
+        self.leave(person="Rosa")
+        self.assertEqual(self.spool.take()[0].person, "rosa")
+
+    def test_a_name_that_is_none_is_refused(self):
+        self.leave(person="ro sa")
+        self.refused("no name")
+
+    def test_nobody_else_writes_for_others(self):
+        self.leave(person="rosa")
+        self.spool.owner = OTHER.pw_uid
+        self.assertEqual(self.spool.take()[0].person, MYSELF)
+
+    @unittest.skipUnless(IS_ROOT, "files are given away by root alone")
+    def test_a_note_counts_for_the_owner_of_its_file(self):
+        os.chown(self.leave(person="rosa"), OTHER.pw_uid, -1)
+        self.assertEqual(self.spool.take()[0].person, person(OTHER.pw_name))
+
+    @unittest.skipUnless(IS_ROOT, "files are given away by root alone")
+    def test_a_user_without_a_name_is_refused(self):
+        os.chown(self.leave(), 2_000_000_000, -1)
+        self.refused("user 2000000000 has no name")
+
+    def test_a_symbolic_link_is_not_followed(self):
+        note = self.leave()
+        note.rename(self.room / note.name)
+        note.symlink_to(self.room / note.name)
+        self.refused("is removed")
+
+    def test_a_file_with_two_names_is_refused(self):
+        note = self.leave()
+        os.link(note, self.room / "other")
+        self.refused("another name")
+
+    def test_a_note_under_another_name_is_refused(self):
+        note = self.leave()
+        note.rename(self.path / "other")
+        self.refused("under another name")
+
+    def test_a_file_without_the_mark_is_refused(self):
+        self.leave().chmod(0o644)
+        self.refused("isn't marked")
+
+    def test_what_is_no_file_is_refused(self):
+        os.mkfifo(self.path / "pipe", 0o1644)
+        self.refused("isn't a regular file")
+
+    def test_an_empty_folder_is_removed(self):
+        (self.path / "folder").mkdir()
+        self.refused("isn't a regular file")
+
+    def test_a_folder_with_something_in_it_stands_in_nobodys_way(self):
+        (self.path / "000" / "x").mkdir(parents=True)
+        self.leave(number=1)
+        files = len(os.listdir("/proc/self/fd"))
+        for _ in range(3):
+            self.assertEqual([note.body["number"] for note in self.spool.take()], [1])
+        self.assertEqual(len(self.complaints), 2)
+        self.assertEqual(len(os.listdir("/proc/self/fd")), files)
+
+    def test_a_long_note_is_refused(self):
+        self.leave(text="x" * spool.MOST_BYTES)
+        self.refused("too long")
+
+    def test_what_is_no_json_is_refused(self):
+        for number, text in enumerate((b"", b"[1", b"\xff", b"[" * 20000, b"7")):
+            self.complaints.clear()
+            path = self.path / f"note-{number}"
+            path.write_bytes(text)
+            path.chmod(spool.MODE)
+            self.refused("it ")
+
+    def test_a_part_stays_until_it_is_old(self):
+        part = self.path / ".part"
+        part.touch()
+        self.assertEqual(self.spool.take(), [])
+        self.assertTrue(part.exists())
+        with mock.patch("time.time", lambda: time.time_ns() / 1e9 + 2 * spool.SECONDS_FOR_PART):
+            self.assertEqual(self.spool.take(), [])
+        self.assertFalse(part.exists())
+
+
+class PlacesTests(InFolder):
+    def test_a_file_that_others_may_write_is_refused(self):
+        path = self.room / "roles"
+        path.write_text("rosa reviewer\n", encoding="utf-8")
+        self.assertEqual(trusted_text(path, os.geteuid()), "rosa reviewer\n")
+        for mode in (0o664, 0o646):
+            path.chmod(mode)
+            with self.assertRaises(Trouble):
+                trusted_text(path, os.geteuid())
+        path.chmod(0o644)
+        with self.assertRaises(Trouble):
+            trusted_text(path, OTHER.pw_uid)
+        (self.room / "link").symlink_to(path)
+        os.mkfifo(self.room / "pipe")
+        for name in ("link", "pipe", "none"):
+            with self.assertRaises(Trouble):
+                trusted_text(self.room / name, os.geteuid())
+
+    def test_folders_that_others_may_write_are_refused(self):
+        places = Places(self.room)
+        for folder in (places.folder, places.records, places.reports):
+            folder.mkdir()
+        must_be_safe(places)
+        places.folder.chmod(0o775)
+        with self.assertRaises(Trouble):
+            must_be_safe(places)
+        places.folder.chmod(0o755)
+        places.records.rename(self.room / "elsewhere")
+        places.records.symlink_to(self.room / "elsewhere")
+        with self.assertRaises(Trouble):
+            must_be_safe(places)
+
+    def test_the_variable_of_gitolite_counts_for_the_owner_alone(self):
+        with mock.patch.dict(os.environ, GL_USER="Rosa"):
+            self.assertEqual(person_here(os.geteuid()), "rosa")
+            self.assertEqual(person_here(OTHER.pw_uid), MYSELF)
+
+    def test_names(self):
+        due_of = {"Rosa": "rosa", "a.b-c_[1]": "a.b-c_[1]", "": None, "ro sa": None, "x" * 65: None, "rosá": None}
+        for name, due in due_of.items():
+            self.assertEqual(person(name), due)
+
+
+class SettingsTests(unittest.TestCase):
+    START = "[host]\nmain = main\nprogram = /gate\n"
+
+    def test_what_is_read(self):
+        checks = "[checks]\nBuild: x86 = make -j2 A=b # 1%\nlint = true\n"
+        settings = settings_in(self.START + "tick_seconds = 0.5\nmay_push = Ines otto\n" + checks)
+        self.assertEqual(settings.checks, {"Build: x86": "make -j2 A=b # 1%", "lint": "true"})
+        self.assertEqual((settings.tick_seconds, settings.look_seconds, settings.check_seconds), (0.5, 1.0, 3600.0))
+        self.assertEqual(settings.may_push, {"ines", "otto"})
+
+    def test_what_is_refused(self):
+        for text in (
+            "", "[checks]\na = b\n", "[host]\nmain = main\n", "main = main\n", self.START + "[host]\n", self.START + "ticks = 1\n",
+            self.START + "tick_seconds = 0\n", self.START + "tick_seconds = soon\n", self.START + "look_seconds = nan\n",
+            self.START + "[checks]\na =\n", self.START + f"[checks]\n{'x' * 256} = a\n",
+        ):
+            with self.assertRaises(Trouble, msg=text):
+                settings_in(text)
+
+    def test_roles(self):
+        self.assertEqual(roles_in("# all\n@Rosa reviewer # since May\n\nmilo member\n"), {"rosa": "reviewer", "milo": "member"})
+        for text in ("rosa", "rosa boss", "rosa reviewer now", "ro/sa member"):
+            with self.assertRaises(Trouble, msg=text):
+                roles_in(text)
+
+
+class JournalTests(InFolder):
+    def test_a_step_is_written_whole_or_not_at_all(self):
+        path = self.room / "journal.db"
+        with closing(Journal(path)) as journal:
+            with journal.step():
+                journal.note("role", person="rosa", role="member")
+                journal.set_role("rosa", "member")
+            with self.assertRaises(KeyError), journal.step():
+                journal.note("tick", now=1)
+                raise KeyError
+        with closing(Journal(path)) as journal:
+            delivery = journal.without_answer()
+            self.assertEqual((delivery.id, delivery.body["person"]), ("role-1", "rosa"))
+            self.assertEqual(journal.people(), {"rosa": "member"})
+            with journal.step():
+                journal.note("tick", now=1)
+                stage = {"order": "stage", "batch": 1, "branch": "staging", "base": "0" * 40, "heads": [[7, "a" * 40]]}
+                notice = {"order": "notice", "change": 7, "why": "Pushed"}
+                journal.keep_answer(delivery, json.dumps([{"verdict": "done", "orders": [stage, notice]}]))
+            found = [(order.report, order.body["order"]) for order in journal.open_orders()]
+            self.assertEqual(found, [("role-1.0", "stage"), ("role-1.1", "notice")])
+            with journal.step():
+                journal.mark_done(journal.open_orders()[0])
+            self.assertEqual([order.report for order in journal.open_orders()], ["role-1.1"])
+            self.assertEqual(journal.stage_order(1), stage)
+            self.assertEqual(journal.without_answer().id, "tick-2")
+
+    def test_the_first_claim_counts_until_it_is_used(self):
+        with closing(Journal(self.room / "journal.db")) as journal, journal.step():
+            for head, who in (("a", "ines"), ("a", "eve"), ("b", "otto")):
+                journal.claim(1, head, who)
+            self.assertEqual((journal.pusher(1, "a"), journal.pusher(1, "b"), journal.pusher(2, "a")), ("ines", "otto", None))
+            journal.drop_claims(1, "a")
+            self.assertEqual((journal.pusher(1, "a"), journal.pusher(1, "b")), (None, "otto"))
+
+    def test_a_note_is_taken_once(self):
+        with closing(Journal(self.room / "journal.db")) as journal, journal.step():
+            self.assertEqual([journal.take_note("x"), journal.take_note("x"), journal.take_note("y")], [True, False, True])
+
+    def test_another_version_is_refused(self):
+        path = self.room / "journal.db"
+        with closing(Journal(path)) as journal:
+            journal.database.execute("PRAGMA user_version = 99")
+        with self.assertRaises(ValueError):
+            Journal(path)
+
+
+class ClientTests(InFolder):
+    def program(self, text):
+        path = self.room / "program"
+        path.write_text(f"#!/bin/sh\n{text}\n", encoding="utf-8")
+        path.chmod(0o755)
+        return str(path)
+
+    def test_an_answer_may_come_in_pieces(self):
+        bot = Bot(self.program("read line; printf '[\"'; sleep 0.1; printf '%s\"]\\n' \"$line\"; cat"), self.room / "file")
+        self.assertEqual(bot.hand_in("one"), '["one"]')
+        self.assertEqual(bot.hand_in("two"), "two")
+        bot.close()
+
+    def test_how_a_bot_ends_is_told(self):
+        for text, due in (("echo gate: Store >&2; exit 1", "gate: Store"), ("kill -9 $$", "status -9")):
+            bot = Bot(self.program(text), self.room / "file")
+            with self.assertRaisesRegex(BotEnded, due):
+                bot.hand_in("one")
+            bot.close()
+        with self.assertRaisesRegex(BotEnded, "can't be started"):
+            Bot(str(self.room / "none"), self.room / "file")
+
+    def test_a_silent_bot_is_ended(self):
+        bot = Bot(self.program("exec sleep 60"), self.room / "file")
+        bot.seconds = 0.1
+        with self.assertRaisesRegex(BotEnded, "no answer for"):
+            bot.hand_in("one")
+        bot.close()
+        self.assertEqual(bot.process.returncode, -signal.SIGKILL)
+
+
+class CheckRunnerTests(InFolder):
+    def start(self, command, seconds=20):
+        arguments = [sys.executable, str(RUNNER), str(seconds), str(self.room / "output"), str(self.room / "verdict"), command]
+        return subprocess.Popen(arguments, cwd=self.room, stdin=subprocess.PIPE, start_new_session=True)
+
+    def verdict_of(self, command, **more):
+        process = self.start(command, **more)
+        self.assertEqual(process.wait(30), -signal.SIGKILL)
+        process.stdin.close()
+        verdict = json.loads((self.room / "verdict").read_text(encoding="utf-8"))
+        return verdict["state"], verdict["said"], (self.room / "output").read_bytes()
+
+    def test_verdicts(self):
+        for command, state, said in (
+            ("exit 0", "success", "status 0"), ("exit 3", "failure", "status 3"), ("kill -9 $$", "error", "signal 9"),
+            ("none-such", "failure", "status 127"),
+        ):
+            found = self.verdict_of(command)
+            self.assertEqual(found[0], state)
+            self.assertIn(said, found[1])
+
+    def test_a_long_output_keeps_its_beginning_and_its_end(self):
+        state, _, output = self.verdict_of("echo begins; head -c 3000000 /dev/zero | tr '\\0' x; echo ends")
+        self.assertEqual(state, "success")
+        self.assertTrue(output.startswith(b"begins\n") and b"ends\n" in output[-60:] and b"bytes are left out here" in output)
+        self.assertLess(len(output), 300000)
+
+    def test_a_check_that_never_ends_is_killed_with_all_it_started(self):
+        start = "sleep 600 & echo $! >left; "
+        for command in (start + "wait", start + "yes", "exec >&- 2>&-; " + start + "wait"):
+            state, said, _ = self.verdict_of(command, seconds=0.5)
+            self.assertEqual((state, said), ("error", "it took more than 0.5 seconds"))
+            self.wait_until_gone()
+
+    def test_what_a_check_leaves_behind_is_killed(self):
+        self.assertEqual(self.verdict_of("sleep 600 & echo $! >left")[0], "success")
+        self.wait_until_gone()
+
+    def test_a_check_dies_with_its_host(self):
+        process = self.start("sleep 600 & echo $! >left; wait")
+        late = time.monotonic() + 10
+        while not (self.room / "left").exists() or not (self.room / "left").read_text(encoding="utf-8"):
+            self.assertLess(time.monotonic(), late)
+            time.sleep(0.02)
+        process.stdin.close()
+        self.assertEqual(process.wait(10), -signal.SIGKILL)
+        self.assertFalse((self.room / "verdict").exists())
+        self.wait_until_gone()
+
+    def wait_until_gone(self):
+        """Waits until the process that a check has left is gone, or is no more than a number."""
+        status = Path(f"/proc/{(self.room / 'left').read_text(encoding='utf-8').strip()}/stat")
+        late = time.monotonic() + 10
+        while status.exists() and ") Z " not in status.read_text(encoding="utf-8"):
+            self.assertLess(time.monotonic(), late)
+            time.sleep(0.02)
+        (self.room / "left").unlink()
+
+
+class RepositoryTests(InFolder):
+    """A repository with a main branch at `base`, two heads that merge, one that conflicts with the first, and one that stands alone."""
+
+    def setUp(self):
+        super().setUp()
+        self.repository = Repository(self.room / "project.git", "main")
+        subprocess.run(["git", "init", "--quiet", "--bare", str(self.repository.path)], check=True, timeout=30)
+        self.base = self.commit({"a": "1\n"})
+        self.one = self.commit({"a": "1\n", "b": "2\n"}, self.base)
+        self.two = self.commit({"a": "1\n", "c": "3\n"}, self.base)
+        self.clash = self.commit({"a": "1\n", "b": "9\n"}, self.base)
+        self.alone = self.commit({"d": "4\n"})
+        self.repository.ask("update-ref", "refs/heads/main", self.base)
+
+    def write(self, text, *arguments):
+        """Has git write an object, and gives its name."""
+        command = ["git", "-C", str(self.repository.path), *arguments]
+        return subprocess.run(command, input=text.encode(), capture_output=True, check=True, timeout=30).stdout.decode().strip()
+
+    def commit(self, files, *parents):
+        lines = [f"100644 blob {self.write(text, 'hash-object', '-w', '--stdin')}\t{name}\n" for name, text in files.items()]
+        given = [it for parent in parents for it in ("-p", parent)]
+        return self.repository.ask("commit-tree", self.write("".join(lines), "mktree"), *given, "-m", "x", dates=7).strip()
+
+    def order(self, *heads):
+        numbered = [[number, head] for number, head in enumerate(heads, 1)]
+        return {"order": "stage", "batch": 3, "branch": "staging", "base": self.base, "heads": numbered}
+
+    def test_a_batch_becomes_one_commit_which_is_the_same_when_it_is_made_again(self):
+        made = self.repository.stage(self.order(self.one, self.two), 5).commit
+        self.assertEqual(self.repository.ask("rev-list", "--parents", "-n", "1", made).split(), [made, self.base, self.one, self.two])
+        self.assertEqual(self.repository.ask("ls-tree", "--name-only", made).split(), ["a", "b", "c"])
+        self.assertEqual(self.repository.branches()["refs/heads/staging"], made)
+        self.assertEqual(self.repository.stage(self.order(self.one, self.two), 5).commit, made)
+        self.assertNotEqual(self.repository.stage(self.order(self.two, self.one), 5).commit, made)
+
+    def test_the_base_is_the_one_that_is_named(self):
+        self.repository.ask("update-ref", "refs/heads/main", self.two)
+        made = self.repository.stage(self.order(self.one), 5).commit
+        self.assertEqual(self.repository.ask("ls-tree", "--name-only", made).split(), ["a", "b"])
+
+    def test_what_the_base_has_already_becomes_a_commit_too(self):
+        self.assertNotIn(self.repository.stage(self.order(self.base), 5).commit, (None, self.base))
+
+    def test_conflicts(self):
+        found = self.repository.stage(self.order(self.one, self.clash), 5)
+        self.assertEqual((found.commit, found.conflicting, found.why), (None, 2, "both change b"))
+        found = self.repository.stage(self.order(self.alone), 5)
+        self.assertEqual((found.commit, found.conflicting, found.why), (None, 1, "it has no commit in common with the main branch"))
+
+    def test_a_missing_head_is_no_conflict(self):
+        with self.assertRaisesRegex(GitFailed, "change 1 isn't in the repository"):
+            self.repository.stage(self.order("1" * 40), 5)
+
+    def test_landing_compares(self):
+        made = self.repository.stage(self.order(self.one), 5).commit
+        land = {"order": "land", "batch": 3, "base": self.base, "commit": made}
+        self.repository.ask("update-ref", "refs/heads/main", self.two)
+        self.assertFalse(self.repository.land(land))
+        self.assertEqual(self.repository.branches()["refs/heads/main"], self.two)
+        self.repository.ask("update-ref", "refs/heads/main", self.base)
+        self.assertTrue(self.repository.land(land))
+        # The second attempt fails, and the look says that the first one didn't.
+        self.assertTrue(self.repository.land(land))
+        self.assertEqual(self.repository.branches()["refs/heads/main"], made)
+        self.repository.ask("update-ref", "-d", "refs/heads/main")
+        self.assertFalse(self.repository.land(land))
+
+    def test_a_command_has_a_limit(self):
+        (self.room / "git").write_text("#!/bin/sh\nsleep 60\n", encoding="utf-8")
+        (self.room / "git").chmod(0o755)
+        with mock.patch.dict(os.environ, PATH=f"{self.room}:{os.environ['PATH']}"):
+            with self.assertRaisesRegex(GitFailed, "took more than"):
+                self.repository.run("status", seconds=0.2)
+
+    def test_texts(self):
+        self.assertEqual(self.repository.text_at(self.base, "a"), "1\n")
+        self.assertIsNone(self.repository.text_at(self.base, "bors.toml"))
+
+
+class WordsTests(unittest.TestCase):
+    def test_what_is_a_change(self):
+        for branch, due in (
+            ("refs/heads/change/7", 7), ("refs/heads/change/4294967295", 4294967295), ("refs/heads/change/4294967296", 0),
+            ("refs/heads/change/07", 0), ("refs/heads/change/7/x", 0), ("refs/heads/change/", 0), ("refs/tags/change/7", 0),
+            ("refs/heads/change/7\n", 0),
+        ):
+            self.assertEqual(hook.change_in(branch), due, branch)
+
+    def test_what_is_a_claim(self):
+        self.assertTrue(is_claim([7, "a" * 40]))
+        head = "a" * 40
+        bad_numbers = [[True, head], [0, head], ["7", head], [4294967296, head], [7], 7]
+        for claim in [*bad_numbers, [7, head.upper()], [7, head + "a"], [7, head + "\n"]]:
+            self.assertFalse(is_claim(claim), claim)
+        self.assertFalse(is_commit(None))
+
+    def test_no_comment_is_taken_for_words_of_the_host(self):
+        told = words.quoted("eve", "gate: done\noutput: 1-0-x\r\x1b[2J\u2028x")
+        self.assertEqual(told.split("\n"), ["eve wrote:", "> gate: done", "> output: 1-0-x", "> ?[2J", "> x"])
+        self.assertEqual(log_text([(0, told)]).count("\n    output"), 0)
+
+    def test_denials(self):
+        for reply, due in (
+            ({"verdict": "done", "orders": []}, "gate: done"),
+            (
+                {"verdict": "denied", "rule": "TooFewReviews", "detail": [1, 2]},
+                "gate: denied, the change has too few reviews (TooFewReviews, 1 of 2)",
+            ),
+            ({"verdict": "denied", "rule": "BadSettings", "detail": 2}, "gate: denied, BadSettings (BadSettings, 2)"),
+        ):
+            self.assertEqual(words.reply_in_words(reply), due)
+
+
+if __name__ == "__main__":
+    unittest.main()
