@@ -13,7 +13,7 @@ from checks import Checks, Result
 from client import Bot, BotEnded
 from hook import LAST_CHANGE, change_in
 from journal import MOST_IN_LINE, Delivery, Journal, Order, Test
-from places import Places, Trouble, name_of_user
+from places import Places, Trouble, must_be_safe, name_of_user
 from reports import Reports
 from repository import GitFailed, Repository, heads_of, listed
 from settings import read_roles, read_settings
@@ -39,12 +39,14 @@ class Host:
 
     def __init__(self, places: Places, is_all_again: bool):
         self.places = places
+        # Never asked of the folder again: who may write the repository's folder could put another one in its place.
+        self.owner = os.geteuid()
         self.lock = take_lock(places)
         self.journal = Journal(places.records / "journal.db")
-        self.settings = read_settings(places.settings, places.owner)
-        self.roles = read_roles(places.roles, places.owner)
+        self.settings = read_settings(places.settings, self.owner)
+        self.roles = read_roles(places.roles, self.owner)
         self.repository = Repository(places.repository, self.settings.main)
-        self.spool = Spool(places.spool, places.owner, complain)
+        self.spool = Spool(places.spool, self.owner, complain)
         self.checks = Checks(places, self.repository, complain)
         self.reports = Reports(places, self.journal)
         self.bot: Optional[Bot] = None
@@ -269,6 +271,7 @@ class Host:
 
     def look(self) -> None:
         """Looks where the branches are, and at the files of the owner."""
+        must_be_safe(self.places)
         self.read_files()
         for name, role in self.new_roles():
             self.deliver("role", lambda: self.journal.set_role(name, role), person=name, role=role)
@@ -281,8 +284,8 @@ class Host:
 
     def read_files(self) -> None:
         """Reads settings and roles again. If one isn't good, what was read before stays."""
-        self.settings = self.read_file("settings", lambda: read_settings(self.places.settings, self.places.owner), self.settings)
-        self.roles = self.read_file("roles", lambda: read_roles(self.places.roles, self.places.owner), self.roles)
+        self.settings = self.read_file("settings", lambda: read_settings(self.places.settings, self.owner), self.settings)
+        self.roles = self.read_file("roles", lambda: read_roles(self.places.roles, self.owner), self.roles)
 
     def read_file(self, name: str, read: Callable, before):
         try:
@@ -341,7 +344,7 @@ class Host:
             self.next_look = 0.0
             return
         self.unclaimed.pop((change, head), None)
-        author = author or name_of_user(self.places.owner) or "nobody"
+        author = author or name_of_user(self.owner) or "nobody"
         self.deliver("opened", lambda: self.keep_head(change, head), change=change, author=author, head=head)
 
     def keep_head(self, change: int, head: str) -> None:

@@ -139,13 +139,13 @@ def trusted_text(path: Path, owner: int) -> str:
 
 def must_be_safe(places: Places) -> None:
     """Refuses a folder that isn't the user's own, or that others may write: they could put other files in place of the host's."""
-    for folder in (places.folder, places.records, places.reports):
+    for folder in (places.folder, places.records, places.reports, places.spool):
         found = os.lstat(folder) if folder.exists() else None
         if found is None or not stat.S_ISDIR(found.st_mode):
             raise Trouble(f"{folder} isn't there; gate-host init {places.repository} makes it")
         if found.st_uid != os.geteuid():
             raise Trouble(f"{folder} isn't yours; the host runs as the owner of the repository")
-        if found.st_mode & 0o022:
+        if found.st_mode & 0o022 and not (folder == places.spool and found.st_mode & stat.S_ISVTX):
             raise Trouble(f"others may write {folder}; chmod go-w it")
 
 

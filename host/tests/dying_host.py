@@ -6,6 +6,7 @@
 MARKS is a folder with a mark for each death. Steps are those of the journal, by the function that makes them, a note that is removed from
 the spool, a check that has begun or ended, and a report that is written.
 """
+import json
 import os
 import signal
 import sys
@@ -41,8 +42,16 @@ def dying(step, name):
     die_first(f"{name}-after")
 
 
+def name_of_step(frame):
+    """The name of the function that makes a step, with the event and the orders that it is about."""
+    seen = frame.f_locals
+    event = seen["delivery"].body["event"] if "delivery" in seen else seen.get("event")
+    orders = {order["order"] for reply in json.loads(seen.get("answer", "[]")) for order in reply.get("orders", [])}
+    return "-".join([frame.f_code.co_name, *filter(None, [event]), *sorted(orders)])
+
+
 def steps_die(step):
-    return lambda journal: dying(step(journal), sys._getframe(1).f_code.co_name)
+    return lambda journal: dying(step(journal), name_of_step(sys._getframe(1)))
 
 
 def calls_die(cls, name):

@@ -1,9 +1,10 @@
 #!/usr/bin/env python3
 """Stands between a host and its bot: writes down what goes in and what comes out, and kills one of the two at each kind of answer once.
 
-    recorder.py ANSWERS MARKS PROGRAM ARGUMENT..
+    recorder.py ANSWERS MARKS PUSH PROGRAM ARGUMENT..
 
-ANSWERS gets a line for each answer, before the host has it. MARKS is a folder with a mark for each death, or `-` if nobody is to die.
+ANSWERS gets a line for each answer, before the host has it. MARKS is a folder with a mark for each death, or `-` if nobody is to die. PUSH
+is a command that runs before the host has the first order to stage, or `-`.
 """
 import json
 import os
@@ -34,7 +35,7 @@ def end(bot):
 
 
 def main():
-    answers, marks, *command = sys.argv[1:]
+    answers, marks, push, *command = sys.argv[1:]
     host = os.getppid()
     bot = subprocess.Popen(command, stdin=subprocess.PIPE, stdout=subprocess.PIPE, bufsize=0)
     for line in sys.stdin.buffer:
@@ -48,6 +49,9 @@ def main():
         with open(answers, "a", encoding="utf-8") as file:
             file.write(json.dumps({"delivery": delivery, "answer": json.loads(answer)}) + "\n")
         kind = kind_of(delivery, json.loads(answer))
+        if push != "-" and "stage" in kind:
+            subprocess.run([push], check=True, stdin=subprocess.DEVNULL, stdout=subprocess.DEVNULL)
+            push = "-"
         if is_first(marks, f"bot-after-{kind}"):
             end(bot)
         if is_first(marks, f"host-before-{kind}"):

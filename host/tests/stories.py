@@ -172,10 +172,13 @@ exit "$ended"
 
     def make_bot(self):
         """What the host takes for the bot: it writes down what goes in and out."""
-        command = [sys.executable, TESTS / "recorder.py", self.answers, self.marks_of_bot(), self.program]
+        command = [sys.executable, TESTS / "recorder.py", self.answers, self.marks_of_bot(), self.push_of_bot(), self.program]
         return self.make_tool("gate", f"exec {shlex.join(str(it) for it in command)} \"$@\"\n")
 
     def marks_of_bot(self):
+        return "-"
+
+    def push_of_bot(self):
         return "-"
 
     def make_tools(self):
@@ -317,6 +320,10 @@ fi
 class Beside(Story):
     """Somebody pushes to the main branch from beside."""
 
+    def push_of_bot(self):
+        """The first push comes when a commit is ordered, before the host makes it. It is made again at a new start, and then no more."""
+        return self.tools / "push-once"
+
     def make_tools(self):
         git, marks, clone = (shlex.quote(str(it)) for it in (GIT, self.marks, self.room / "other"))
         self.must_git("clone", "--quiet", str(self.repository), str(self.room / "other"), at=self.room)
@@ -326,6 +333,7 @@ cd {clone} && {git} fetch --quiet && {git} checkout --quiet --detach origin/main
 echo >>beside && {git} add beside && {git} commit --quiet -m beside && {git} push --quiet origin HEAD:main || exit
 {git} rev-parse HEAD >>{shlex.quote(str(self.beside))}
 """)))
+        self.make_tool("push-once", f"mkdir {marks}/ordered 2>/dev/null || exit 0\nexec {push}\n")
         self.make_tool("git", f"""\
 case "$*" in
 *" merge-tree "*) mkdir {marks}/merge 2>/dev/null && {push} ;;
@@ -347,6 +355,19 @@ class Daily(Story):
 
     changes = ()
 
+    def make_tools(self):
+        """What lies under `at-look` runs once, right before the host looks at the branches."""
+        script, git = shlex.quote(str(self.at_look())), shlex.quote(GIT)
+        self.make_tool("git", f"""\
+case "$*" in
+*" for-each-ref "*) mv {script} {script}.done 2>/dev/null && sh {script}.done ;;
+esac
+exec {git} "$@"
+""")
+
+    def at_look(self):
+        return self.room / "at-look"
+
     def told(self, change, *words):
         """Waits until the log of a change has these words."""
         self.until(f"the log of change {change} says {words}", lambda: all(it in self.report(f"log-{change}") for it in words))
@@ -357,7 +378,7 @@ class Daily(Story):
             self.a_second_host_is_refused, self.pushes_past_the_queue_are_refused, self.a_try_passes, self.who_may_not_is_told,
             self.what_was_not_seen_is_not_approved, self.a_push_ends_an_approval, self.a_branch_goes_and_comes_back,
             self.what_has_nothing_in_common_conflicts, self.a_check_has_a_limit, self.bad_settings_are_told, self.roles_are_taken_back,
-            self.others_may_not_write_roles, self.a_lost_file_is_filled_again,
+            self.others_may_not_write_roles, self.a_lost_file_is_filled_again, self.a_push_comes_right_before_a_look,
         ):
             step()
 
@@ -483,3 +504,13 @@ class Daily(Story):
         self.push("otto", 26, {"parts/f": "test 1 -gt 0\n"})
         self.say("rosa", 26, "bors r+")
         self.told(26, "Landed on main")
+
+    def a_push_comes_right_before_a_look(self):
+        """Its note comes after the host has looked for notes, and its branch before the host looks at branches."""
+        self.heads[27] = self.commit(["--detach", self.first], {"parts/g": "test 1 -gt 0\n"}, "change 27")
+        part = self.room / "part"
+        push = f"cd {shlex.quote(str(self.clone))} && GL_USER=vera {GIT} push --quiet origin HEAD:refs/heads/change/27\n"
+        part.write_text(push, encoding="utf-8")
+        part.rename(self.at_look())
+        self.until("it is open", lambda: self.report("change-27"))
+        must("whether its author is who pushed", "author    vera\n" in self.report("change-27"))

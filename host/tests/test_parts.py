@@ -175,8 +175,13 @@ class PlacesTests(InFolder):
 
     def test_folders_that_others_may_write_are_refused(self):
         places = Places(self.room)
-        for folder in (places.folder, places.records, places.reports):
+        for folder in (places.folder, places.records, places.reports, places.spool):
             folder.mkdir()
+        must_be_safe(places)
+        places.spool.chmod(0o777)
+        with self.assertRaises(Trouble):
+            must_be_safe(places)
+        places.spool.chmod(0o1733)
         must_be_safe(places)
         places.folder.chmod(0o775)
         with self.assertRaises(Trouble):
