@@ -7,6 +7,7 @@ import shutil
 import signal
 import subprocess
 import sys
+import time
 from dataclasses import dataclass, field
 from pathlib import Path
 from typing import Callable, Dict, List, Optional
@@ -20,6 +21,7 @@ RUNNER = Path(__file__).resolve().with_name("check_runner.py")
 # The outputs of so many checks are kept.
 MOST_OUTPUTS = 500
 SECONDS_FOR_WORKTREE = 600
+RETRY_SECONDS = 5
 
 
 @dataclass(frozen=True)
@@ -56,10 +58,12 @@ class Checks:
         self.repository = repository
         self.complain = complain
         self.running: Dict[str, Running] = {}
+        # When a check that couldn't be started is tried again.
+        self.next_start = 0.0
 
     def clear(self) -> None:
         """Removes the worktrees that an earlier host has left. What ran there ends by itself."""
-        shutil.rmtree(self.places.worktrees, ignore_errors=True)
+        remove_tree(self.places.worktrees)
         self.places.worktrees.mkdir(mode=0o700, exist_ok=True)
         self.repository.forget_worktrees()
 
@@ -74,7 +78,7 @@ class Checks:
     def begin(self, test: Test, settings: Settings, done: Dict[str, str]) -> None:
         """Starts the next check of a commit, if none runs and one is left."""
         running = self.running.get(test.branch)
-        if running and running.process:
+        if running and running.process or time.monotonic() < self.next_start:
             return
         name = next((name for name in settings.checks if name not in done), None)
         if name is None:
@@ -85,6 +89,7 @@ class Checks:
         except (GitFailed, OSError) as fault:
             self.complain(f"the check {name} of batch {test.batch} can't be started: {fault}")
             self.stop(test.branch)
+            self.next_start = time.monotonic() + RETRY_SECONDS
 
     def check_out(self, test: Test) -> Running:
         worktree = self.places.worktrees / f"{test.branch}-{secrets.token_hex(4)}"
@@ -126,7 +131,7 @@ class Checks:
             return
         if running.process:
             end_group(running.process)
-        shutil.rmtree(running.worktree, ignore_errors=True)
+        remove_tree(running.worktree)
         running.verdict.unlink(missing_ok=True)
         try:
             self.repository.forget_worktrees()
@@ -141,6 +146,13 @@ class Checks:
         outputs = sorted(self.places.outputs.iterdir(), key=lambda path: path.stat().st_mtime)
         for path in outputs[:-MOST_OUTPUTS]:
             path.unlink()
+
+
+def remove_tree(path: Path) -> None:
+    """Removes a folder with all that it has, also if some of it was made unwritable."""
+    for folder, _, _ in os.walk(path):
+        os.chmod(folder, 0o700)
+    shutil.rmtree(path, ignore_errors=True)
 
 
 def has_ended(process: subprocess.Popen) -> bool:

@@ -3,6 +3,7 @@ import argparse
 import os
 import re
 import shlex
+import sqlite3
 import sys
 from pathlib import Path
 from typing import List, Optional
@@ -84,7 +85,7 @@ def main(words: List[str]) -> int:
     except BrokenPipeError:
         # Who reads the report has seen enough.
         os.dup2(os.open(os.devnull, os.O_WRONLY), sys.stdout.fileno())
-    except OSError as fault:
+    except (OSError, sqlite3.Error) as fault:
         complain(str(fault))
     return 1
 
@@ -161,8 +162,11 @@ def write_hook(repository: Path) -> None:
     """Writes the hook, which git runs in the repository. Another one that is there isn't replaced."""
     path = repository / "hooks/pre-receive"
     command = f"{shlex.quote(sys.executable)} {shlex.quote(str(SCRIPT))} hook --repository ."
-    if path.exists() and MARK not in path.read_text(encoding="utf-8", errors="replace"):
-        raise Trouble(f"{path} is there already; have it run this, with its input and its status: {command}")
+    found = path.read_text(encoding="utf-8", errors="replace") if path.exists() else MARK
+    if command in found:
+        return
+    if MARK not in found:
+        raise Trouble(f"{path} is there already; have it run this, with its input and its status, and init again: {command}")
     path.parent.mkdir(exist_ok=True)
     part = path.with_name(".pre-receive")
     part.write_text(f"#!/bin/sh\n{MARK}\nexec {command}\n", encoding="utf-8")

@@ -13,6 +13,8 @@ from spool import leave
 
 CHANGE = re.compile(r"refs/heads/change/([1-9][0-9]{0,9})")
 LAST_CHANGE = 4294967295
+# A note may not be too long.
+MOST_IN_NOTE = 300
 # The branches on which the host stages.
 OF_HOST = ("refs/heads/staging", "refs/heads/trying")
 Update = Tuple[str, str, str]
@@ -32,6 +34,8 @@ def complaints(updates: List[Update], places: Places) -> List[str]:
     """Why a push is refused, if it is."""
     settings = read_settings(places.settings, places.owner)
     pusher = person_here(places.owner)
+    if pusher is None:
+        return ["your user has no name that the bot takes"]
     found = []
     for before, _, branch in updates:
         # The first push of a main branch makes it, and there is no queue yet.
@@ -44,14 +48,20 @@ def complaints(updates: List[Update], places: Places) -> List[str]:
     return found
 
 
+def tell_of(updates: List[Update], places: Places) -> None:
+    """Leaves notes of the heads that are pushed. One without heads has the host look at the branches."""
+    heads = [[change_in(branch), after] for _, after, branch in updates if change_in(branch) and not is_nothing(after)]
+    for start in range(0, max(1, len(heads)), MOST_IN_NOTE):
+        leave(places.spool, {"kind": "push", "person": person_here(places.owner), "heads": heads[start:start + MOST_IN_NOTE]})
+
+
 def before_push(places: Places) -> int:
     """Looks at a push. The status says whether git goes on with it."""
     updates: List[Update] = [tuple(line.split(" ", 2)) for line in sys.stdin.read().splitlines()]
     try:
         refusals = complaints(updates, places)
-        pushes = [[change_in(branch), after] for _, after, branch in updates if change_in(branch) and not is_nothing(after)]
-        if not refusals and updates:
-            leave(places.spool, {"kind": "push", "person": person_here(places.owner), "heads": pushes})
+        if not refusals:
+            tell_of(updates, places)
     except (Trouble, OSError) as fault:
         refusals = [str(fault)]
     for refusal in refusals:

@@ -10,6 +10,8 @@ from dataclasses import dataclass
 from pathlib import Path
 from typing import Dict, Iterator, List, Optional
 
+from places import Trouble
+
 VERSION = 1
 # A line that is handed in has at most so many bytes.
 MOST_IN_LINE = 65536
@@ -81,7 +83,7 @@ class Journal:
                     self.database.execute(statement)
                 self.database.execute(f"PRAGMA user_version = {VERSION}")
             elif version != VERSION:
-                raise ValueError(f"{path} is a journal of version {version}, and not {VERSION}")
+                raise Trouble(f"{path} is a journal of version {version}, and not {VERSION}")
 
     @contextmanager
     def step(self) -> Iterator[None]:

@@ -4,6 +4,7 @@ import json
 import os
 import re
 import signal
+import sqlite3
 import sys
 import time
 from typing import Callable, Dict, List, Optional, Tuple
@@ -164,6 +165,8 @@ class Host:
 
     def must_belong_together(self) -> None:
         """The journal and the file of the bot are of one history. A file that is missing is filled anew."""
+        if not os.access(self.settings.program, os.X_OK):
+            raise Trouble(f"there is no program {self.settings.program}; build it, or name another in {self.places.settings}")
         has_file = self.places.bot.exists() and self.places.bot.stat().st_size > 0
         if has_file and not self.journal.one("SELECT count(*) FROM deliveries"):
             raise Trouble(f"the journal is new, and the bot has records; remove {self.places.bot} and {self.places.bot}-wal")
@@ -435,7 +438,7 @@ class Host:
             return
         try:
             self.reports.refresh(self.remarks())
-        except (OSError, ValueError, LookupError, TypeError) as fault:
+        except (OSError, sqlite3.Error, ValueError, LookupError, TypeError) as fault:
             self.reports.is_waiting = True
             complain(f"the reports can't be written: {fault}")
 

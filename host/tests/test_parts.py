@@ -272,7 +272,7 @@ class JournalTests(InFolder):
         path = self.room / "journal.db"
         with closing(Journal(path)) as journal:
             journal.database.execute("PRAGMA user_version = 99")
-        with self.assertRaises(ValueError):
+        with self.assertRaises(Trouble):
             Journal(path)
 
 
