@@ -5,13 +5,15 @@ import re
 import shlex
 import sqlite3
 import sys
+import tempfile
 from pathlib import Path
 from typing import List, Optional
 
 import hook
 from loop import MOST_IN_COMMENT, Host, complain
 from places import Places, Trouble, asked_of_git, find_places, must_be_safe, name_of_user, person, person_here
-from settings import FIRST_ROLES, FIRST_SETTINGS, roles_in, settings_in
+from repository import GitFailed, Repository
+from settings import FIRST_ROLES, FIRST_SETTINGS, Settings, read_settings, roles_in, settings_in
 from spool import leave
 from words import plain
 
@@ -30,7 +32,7 @@ Guards the main branch of a bare git repository on this machine: nothing lands o
 
 A change is a branch change/NUMBER, which anybody pushes who may push. A person is a user of this system. A reviewer approves a change
 by `gate-host say`, in a clone or with --repository. The file bors.toml of the main branch says which checks have to succeed, as in
-status = ["build"], and gate/settings of the repository which command each check is."""
+status = ["build"], and the file gate/settings of the repository which command each check is. The file gate/roles says who is a reviewer."""
 
 
 def arguments_of(words: List[str]) -> argparse.Namespace:
@@ -40,7 +42,8 @@ def arguments_of(words: List[str]) -> argparse.Namespace:
     jobs = parser.add_subparsers(dest="job", required=True, metavar="COMMAND")
 
     job = jobs.add_parser("init", help="set a bare repository up: settings, roles, hook", description=(
-        "Makes the folder gate in a bare repository that is yours, and its hook. Settings and roles that are there stay as they are."))
+        "Makes the folder gate in a bare repository that is yours, and its hook. Settings and roles that are there stay as they are. If "
+        "the main branch has no bors.toml, a commit adds one that names the checks."))
     job.add_argument("repository", metavar="REPOSITORY")
     job.add_argument("--program", default=str(PROGRAM), help="the built program of the bot (usually %(default)s)")
     job.add_argument("--check", action="append", default=[], metavar="NAME=COMMAND", help="a check; may be given several times")
@@ -80,7 +83,7 @@ def main(words: List[str]) -> int:
     arguments = arguments_of(words)
     try:
         return JOBS[arguments.job](arguments)
-    except Trouble as trouble:
+    except (Trouble, GitFailed) as trouble:
         complain(str(trouble))
     except BrokenPipeError:
         # Who reads the report has seen enough.
@@ -105,14 +108,29 @@ def init(arguments: argparse.Namespace) -> int:
             path.write_text(text, encoding="utf-8")
     must_be_safe(places)
     write_hook(repository)
-    checks = settings_in(places.settings.read_text(encoding="utf-8")).checks
-    print(f"{repository} is set up. Its checks are: {', '.join(checks) or 'none yet; write them down in ' + str(places.settings)}.")
-    print(f"bors.toml of its main branch has to name them: status = [{', '.join(quoted(name) for name in checks)}]")
+    kept = read_settings(places.settings, os.geteuid())
+    print(f"{repository} is set up. Its checks are: {', '.join(kept.checks) or 'none yet; write them down in ' + str(places.settings)}.")
+    add_settings_of_bot(Repository(repository, kept.main), kept)
     print(f"To begin: {shlex.quote(str(SCRIPT))} run {shlex.quote(str(repository))}")
     return 0
 
 
+def add_settings_of_bot(repository: Repository, settings: Settings) -> None:
+    """Adds bors.toml to the main branch, unless it has one: from now on nothing gets there without."""
+    commit = repository.branches().get(repository.main)
+    if commit and repository.text_at(commit, "bors.toml") is not None:
+        print(f"The branch {settings.main} has its bors.toml already.")
+    elif not settings.checks:
+        print(f"The branch {settings.main} has no bors.toml. With a check, init again adds it.")
+    else:
+        text = f"# Each of these has to succeed before something lands.\nstatus = [{', '.join(quoted(name) for name in settings.checks)}]\n"
+        with tempfile.TemporaryDirectory() as room:
+            repository.add_to_main("bors.toml", text, Path(room))
+        print(f"A commit adds bors.toml, which names them, to the branch {settings.main}.")
+
+
 def quoted(name: str) -> str:
+    """A name of a check as a text of TOML."""
     return '"' + name.replace("\\", "\\\\").replace('"', '\\"') + '"'
 
 

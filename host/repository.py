@@ -45,9 +45,11 @@ class Repository:
         self.path = path
         self.main = f"refs/heads/{main}"
 
-    def run(self, *arguments: str, seconds: float = SECONDS, dates: Optional[int] = None) -> Ran:
+    def run(self, *arguments: str, seconds: float = SECONDS, dates: Optional[int] = None, index: Optional[Path] = None) -> Ran:
         """Runs git. Whatever it has started is killed with it when the time is over."""
         environment = clean_environment()
+        if index is not None:
+            environment["GIT_INDEX_FILE"] = str(index)
         if dates is not None:
             environment.update(GIT_AUTHOR_DATE=f"@{dates} +0000", GIT_COMMITTER_DATE=f"@{dates} +0000")
         command = [*GIT, "-C", str(self.path), *arguments]
@@ -80,6 +82,18 @@ class Repository:
         if not self.ask("ls-tree", "--name-only", commit, "--", name).strip():
             return None
         return self.ask("cat-file", "blob", f"{commit}:{name}")
+
+    def add_to_main(self, name: str, text: str, room: Path) -> None:
+        """Adds a file to the main branch by a commit, which is its first one if it has none."""
+        before = self.branches().get(self.main)
+        source, index = room / "text", room / "index"
+        source.write_text(text, encoding="utf-8")
+        blob = self.ask("hash-object", "-w", str(source)).strip()
+        self.ask("read-tree", *([before] if before else ["--empty"]), index=index)
+        self.ask("update-index", "--add", "--cacheinfo", f"100644,{blob},{name}", index=index)
+        tree = self.ask("write-tree", index=index).strip()
+        commit = self.ask("commit-tree", tree, *(["-p", before] if before else []), "-m", f"Add {name}").strip()
+        self.ask("update-ref", self.main, commit, before or "0" * 40)
 
     def stage(self, order: dict, now: int) -> Merged:
         """Makes one commit, whose parents are the base and the heads. If it is done again, it is the same commit."""

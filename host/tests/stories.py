@@ -132,13 +132,14 @@ class Story:
         self.must_git("config", "core.logAllRefUpdates", "true")
         self.must_git("clone", "--quiet", str(self.repository), str(self.clone), at=self.room)
         self.must_git("clone", "--quiet", "--shared", str(self.repository), str(self.checkout), at=self.room)
+        self.first = self.commit(["-B", "main"], FILES, "first")
+        self.must_git("push", "--quiet", "origin", "main", at=self.clone)
         checks = [f"--check={name}={shlex.quote(str(self.make_check(name)))}" for name in CHECKS]
         people = ["--reviewer", "rosa", "--member", "milo", "--may-push", "ines"]
         self.must_host("init", str(self.repository), "--program", str(self.make_bot()), *people, *checks)
         self.set("tick_seconds = 10", "tick_seconds = 0.4")
         self.set("look_seconds = 1", "look_seconds = 0.2")
-        self.first = self.commit(["-B", "main"], FILES, "first")
-        self.must_git("push", "--quiet", "origin", "main", at=self.clone, person="otto")
+        want("where main is", self.git("rev-parse", "main"), self.first)
         self.make_tools()
 
     def set(self, before, after):

@@ -441,6 +441,12 @@ class RepositoryTests(InFolder):
             with self.assertRaisesRegex(GitFailed, "took more than"):
                 self.repository.run("status", seconds=0.2)
 
+    def test_a_file_is_added_to_main(self):
+        self.repository.add_to_main("bors.toml", "x", self.room)
+        made = self.repository.branches()["refs/heads/main"]
+        self.assertEqual(self.repository.ask("rev-list", "--parents", "-n", "1", made).split(), [made, self.base])
+        self.assertEqual((self.repository.text_at(made, "a"), self.repository.text_at(made, "bors.toml")), ("1\n", "x"))
+
     def test_texts(self):
         self.assertEqual(self.repository.text_at(self.base, "a"), "1\n")
         self.assertIsNone(self.repository.text_at(self.base, "bors.toml"))
