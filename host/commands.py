@@ -10,7 +10,7 @@ from pathlib import Path
 from typing import List, Optional
 
 import hook
-from loop import MOST_IN_COMMENT, Host, complain
+from loop import MOST_IN_COMMENT, MOST_IN_SETTINGS, Host, complain
 from places import Places, Trouble, asked_of_git, find_places, must_be_safe, name_of_user, person, person_here
 from repository import GitFailed, Repository
 from settings import FIRST_ROLES, FIRST_SETTINGS, Settings, read_settings, roles_in, settings_in
@@ -118,7 +118,7 @@ def init(arguments: argparse.Namespace) -> int:
 def add_settings_of_bot(repository: Repository, settings: Settings) -> None:
     """Adds bors.toml to the main branch, unless it has one: from now on nothing gets there without."""
     commit = repository.branches().get(repository.main)
-    if commit and repository.text_at(commit, "bors.toml") is not None:
+    if commit and repository.text_at(commit, "bors.toml", MOST_IN_SETTINGS) is not None:
         print(f"The branch {settings.main} has its bors.toml already.")
     elif not settings.checks:
         print(f"The branch {settings.main} has no bors.toml. With a check, init again adds it.")
@@ -197,6 +197,8 @@ def run(arguments: argparse.Namespace) -> int:
     places = Places(Path(arguments.repository).resolve())
     must_be_safe(places)
     must_be_bare(places.repository)
+    if os.geteuid() == 0:
+        complain("this runs as root, and so does each check; better let a user of its own own the repository")
     host = Host(places, arguments.again)
     try:
         host.run()

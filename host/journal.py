@@ -110,8 +110,8 @@ class Journal:
         """Writes a delivery down. Its identifier has its number in the journal, unless it reports an order."""
         number = (self.one("SELECT max(number) FROM deliveries") or 0) + 1
         body = {"id": id or f"{event}-{number}", "event": event, **fields}
-        line = json.dumps(body)
-        assert len(line) <= MOST_IN_LINE, "a line is too long"
+        line = json.dumps(body, ensure_ascii=False)
+        assert len(line.encode()) <= MOST_IN_LINE, "a line is too long"
         self.database.execute("INSERT INTO deliveries VALUES (?, ?, ?, NULL)", (number, body["id"], line))
 
     def without_answer(self) -> Optional[Delivery]:

@@ -13,7 +13,7 @@ import words
 from checks import Checks, Result
 from client import Bot, BotEnded
 from hook import LAST_CHANGE, change_in
-from journal import MOST_IN_LINE, Delivery, Journal, Order, Test
+from journal import Delivery, Journal, Order, Test
 from places import Places, Trouble, must_be_safe, name_of_user
 from reports import Reports
 from repository import GitFailed, Repository, heads_of, listed
@@ -27,7 +27,9 @@ REPORT_SECONDS = 0.5
 RETRY_SECONDS = 2
 # How often the bot is started again before the host gives up. The pauses grow up to ten seconds.
 STARTS = 12
+# A character takes up to six bytes in a line, and a line has at most 65,536.
 MOST_IN_COMMENT = 8000
+MOST_IN_SETTINGS = 10000
 COMMAND_LINE = re.compile(r"bors[ :]", re.IGNORECASE)
 
 
@@ -156,9 +158,13 @@ class Host:
         bot = Bot(self.settings.program, self.places.bot)
         if self.journal.fact("bot file") == "whole":
             return bot
-        for delivery, answer in self.journal.answered():
-            if bot.hand_in(delivery.line) != answer:
-                raise Trouble(f"the bot answers another way than before to {delivery.line}")
+        try:
+            for delivery, answer in self.journal.answered():
+                if bot.hand_in(delivery.line) != answer:
+                    raise Trouble(f"the bot answers another way than before to {delivery.line}")
+        except (BotEnded, Trouble):
+            bot.close()
+            raise
         with self.journal.step():
             self.journal.set_fact("bot file", "whole")
         return bot
@@ -311,16 +317,15 @@ class Host:
         """Hands in the base and then its settings, whenever the main branch has moved."""
         if main == self.journal.fact("base") == self.journal.fact("settings of"):
             return
-        text = self.repository.text_at(main, "bors.toml")
-        is_usable = text is not None and len(json.dumps(text)) < MOST_IN_LINE - 200
+        text = self.repository.text_at(main, "bors.toml", MOST_IN_SETTINGS)
         with self.journal.step():
             if main != self.journal.fact("base"):
                 self.journal.note("base", commit=main)
                 self.journal.set_fact("base", main)
-            if is_usable:
-                self.journal.note("settings", text=text)
+            if text is None:
+                self.journal.set_fact("settings refused", f"there is no bors.toml of at most {MOST_IN_SETTINGS} bytes")
             else:
-                self.journal.set_fact("settings refused", "there is no bors.toml" if text is None else "bors.toml is too long")
+                self.journal.note("settings", text=text)
             self.journal.set_fact("settings of", main)
         self.settle()
 
@@ -379,7 +384,8 @@ class Host:
     def take_comment(self, note: Note) -> None:
         """Takes a comment, in one step with the mark that it was taken."""
         change, text, seen = note.body.get("change"), note.body.get("text"), note.body.get("head")
-        if type(change) is not int or not isinstance(text, str) or len(text) > MOST_IN_COMMENT or not self.journal.change(change):
+        is_whole = is_number(change) and isinstance(text, str) and len(text) <= MOST_IN_COMMENT
+        if not is_whole or not self.journal.change(change):
             complain(f"a note of {note.person} is no comment on a change")
             return
         _, head = self.journal.change(change)
@@ -454,9 +460,14 @@ class Host:
         ]
 
 
-def is_claim(heads) -> bool:
+def is_number(number) -> bool:
+    """Whether this is a number of a change. True is no number here, although it is an int."""
+    return type(number) is int and 0 < number <= LAST_CHANGE
+
+
+def is_claim(claim) -> bool:
     """Whether this is a number of a change and a head."""
-    return isinstance(heads, list) and len(heads) == 2 and type(heads[0]) is int and 0 < heads[0] <= LAST_CHANGE and is_commit(heads[1])
+    return isinstance(claim, list) and len(claim) == 2 and is_number(claim[0]) and is_commit(claim[1])
 
 
 def is_commit(text) -> bool:

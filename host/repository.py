@@ -77,11 +77,12 @@ class Repository:
         lines = self.ask("for-each-ref", "--format=%(objectname) %(refname)", "refs/heads/").splitlines()
         return {name: commit for commit, name in (line.split(" ", 1) for line in lines)}
 
-    def text_at(self, commit: str, name: str) -> Optional[str]:
-        """The text of a file of a commit, or none if it has no such file."""
-        if not self.ask("ls-tree", "--name-only", commit, "--", name).strip():
+    def text_at(self, commit: str, name: str, most: int) -> Optional[str]:
+        """The text of a file of a commit, or none if it has no such file, or one with more bytes."""
+        found = self.ask("ls-tree", "--long", commit, "--", name).split()
+        if found[1:2] != ["blob"] or int(found[3]) > most:
             return None
-        return self.ask("cat-file", "blob", f"{commit}:{name}")
+        return self.ask("cat-file", "blob", found[2])
 
     def add_to_main(self, name: str, text: str, room: Path) -> None:
         """Adds a file to the main branch by a commit, which is its first one if it has none."""

@@ -11,6 +11,7 @@ A note that a person alters while it is read is still that person's. What is no 
 """
 import json
 import os
+import re
 import secrets
 import stat
 import time
@@ -18,8 +19,10 @@ from dataclasses import dataclass
 from pathlib import Path
 from typing import Callable, List, Optional, Set
 
-from places import name_of_user, open_regular, person, read_up_to
+from places import Trouble, name_of_user, open_regular, person, read_up_to
 
+# The names that notes have.
+NAME = re.compile(r"[0-9]{20}-[0-9a-f]{32}")
 # Readable by the host, whoever writes it; and marked by the sticky bit, which means nothing else on a file.
 MODE = 0o1644
 MOST_BYTES = 32768
@@ -48,9 +51,12 @@ def leave(spool: Path, body: dict) -> None:
     """Leaves a note. It has its name when it is whole, and is on the disk then."""
     name = f"{time.time_ns():020d}-{secrets.token_hex(16)}"
     part = spool / f".{name}"
+    content = json.dumps({**body, "name": name}, ensure_ascii=False).encode("utf-8", "replace")
+    if len(content) > MOST_BYTES:
+        raise Trouble(f"a note has at most {MOST_BYTES} bytes")
     file = os.open(part, os.O_WRONLY | os.O_CREAT | os.O_EXCL | os.O_NOFOLLOW | os.O_CLOEXEC, 0o600)
     with os.fdopen(file, "wb") as opened:
-        opened.write(json.dumps({**body, "name": name}).encode())
+        opened.write(content)
         opened.flush()
         os.fchmod(file, MODE)
         os.fsync(file)
@@ -64,12 +70,14 @@ class Spool:
         self.path = path
         self.owner = owner
         self.complain = complain
-        # What lies there and can't be removed.
+        # What lies there and can't be removed; and why files weren't taken, at the last look.
         self.stuck: Set[str] = set()
+        self.refusals: List[str] = []
 
     def take(self) -> List[Note]:
         """The notes that lie there, in the order in which they were left. They stay until they are removed."""
         notes: List[Note] = []
+        self.refusals.clear()
         folder = os.open(self.path, os.O_RDONLY | os.O_DIRECTORY | os.O_NOFOLLOW | os.O_CLOEXEC)
         try:
             for name in sorted(os.listdir(folder)):
@@ -80,6 +88,8 @@ class Spool:
                     break
         finally:
             os.close(folder)
+        if self.refusals:
+            self.complain(f"{len(self.refusals)} in the spool: no note, and so removed. The first one: {self.refusals[0]}")
         return sorted(notes, key=lambda note: (note.left, note.name))
 
     def look_at(self, folder: int, name: str) -> Optional[Note]:
@@ -95,10 +105,9 @@ class Spool:
         except FileNotFoundError:
             return None
         except Refused as refused:
-            why = str(refused)
+            self.refusals.append(str(refused))
         except OSError as fault:
-            why = str(fault.strerror)
-        self.complain(f"a file of the spool is no note, and is removed: {why}")
+            self.refusals.append(str(fault.strerror))
         self.remove(name)
         return None
 
@@ -125,7 +134,7 @@ class Spool:
             body = json.loads(content)
         except (ValueError, RecursionError) as fault:
             raise Refused("it isn't JSON") from fault
-        if not isinstance(body, dict) or body.get("name") != name:
+        if not isinstance(body, dict) or body.get("name") != name or not NAME.fullmatch(name):
             raise Refused("it was left under another name")
         return body
 

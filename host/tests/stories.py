@@ -380,13 +380,14 @@ exec {git} "$@"
             self.what_was_not_seen_is_not_approved, self.a_push_ends_an_approval, self.a_branch_goes_and_comes_back,
             self.what_has_nothing_in_common_conflicts, self.a_check_has_a_limit, self.bad_settings_are_told, self.roles_are_taken_back,
             self.others_may_not_write_roles, self.a_lost_file_is_filled_again, self.a_push_comes_right_before_a_look,
+            self.strange_notes_end_nothing,
         ):
             step()
 
     def a_second_host_is_refused(self):
         self.until("the host runs", lambda: self.report("process"))
         ran = self.host("run", str(self.repository))
-        want("a second host", (ran.returncode, ran.stderr), (1, f"gate-host: another host runs on {self.repository}\n"))
+        want("a second host", (ran.returncode, ran.stderr.splitlines()[-1]), (1, f"gate-host: another host runs on {self.repository}"))
 
     def pushes_past_the_queue_are_refused(self):
         self.commit(["--detach", self.first], {"past": "1\n"}, "past")
@@ -515,3 +516,29 @@ exec {git} "$@"
         part.rename(self.at_look())
         self.until("it is open", lambda: self.report("change-27"))
         must("whether its author is who pushed", "author    vera\n" in self.report("change-27"))
+
+    def strange_notes_end_nothing(self):
+        """What nobody says by `gate-host say`, but somebody may write."""
+        starts = self.starts
+        for change in (True, 27.0, "27", 10 ** 40, -1, 0, 99, None, [27], {"27": 27}):
+            self.leave({"kind": "comment", "person": "eve", "change": change, "text": "bors r+"})
+        for heads in (7, [7], [[27]], [[True, "a" * 40]], [[10 ** 40, "a" * 40]], [["27", None]], [[27, "x"]]):
+            self.leave({"kind": "push", "person": "eve", "heads": heads})
+        for body in ({}, {"kind": 7}, {"kind": "comment", "change": 27}, {"kind": "comment", "change": 27, "text": 7, "head": []}):
+            self.leave({"person": "eve", **body})
+        for text, taken in (("bors \ud800", "bors ?"), ("bors try " + "\U0001f600" * 5000, None), ("bors ping\x00\x1b[2J\u2028", None)):
+            self.said.append([27, "eve", taken or text])
+            self.leave({"kind": "comment", "person": "eve", "change": 27, "text": text, "head": self.heads[27]})
+        self.say("milo", 27, "bors ping")
+        self.told(27, "milo wrote:\n    > bors ping\n", "  gate: done\n")
+        want("how often the host was started", self.starts, starts)
+
+    def leave(self, body):
+        """Leaves a note as `gate-host say` does, of whatever it is."""
+        name = f"{time.time_ns():020d}-{os.urandom(16).hex()}"
+        part = self.repository / "gate/spool" / f".{name}"
+        # Half of a surrogate pair can stand there as an escape alone.
+        is_short = "\ud800" in str(body.get("text"))
+        part.write_text(json.dumps({**body, "name": name}, ensure_ascii=is_short), encoding="utf-8")
+        part.chmod(0o1644)
+        part.rename(part.with_name(name))

@@ -100,7 +100,7 @@ class SpoolTests(InFolder):
         note = self.leave()
         note.rename(self.room / note.name)
         note.symlink_to(self.room / note.name)
-        self.refused("is removed")
+        self.refused("symbolic links")
 
     def test_a_file_with_two_names_is_refused(self):
         note = self.leave()
@@ -109,8 +109,17 @@ class SpoolTests(InFolder):
 
     def test_a_note_under_another_name_is_refused(self):
         note = self.leave()
-        note.rename(self.path / "other")
+        note.rename(self.path / f"{note.name[:-1]}{'1' if note.name.endswith('0') else '0'}")
         self.refused("under another name")
+
+    def test_a_name_that_say_gives_to_none_is_refused(self):
+        """Also one that is no text: no query of the journal could have it."""
+        for name in ("other", "0" * 53, b"\xff".decode(errors="surrogateescape")):
+            self.complaints.clear()
+            path = self.path / name
+            path.write_text(json.dumps({"name": name}), encoding="utf-8")
+            path.chmod(spool.MODE)
+            self.refused("under another name")
 
     def test_a_file_without_the_mark_is_refused(self):
         self.leave().chmod(0o644)
@@ -134,7 +143,10 @@ class SpoolTests(InFolder):
         self.assertEqual(len(os.listdir("/proc/self/fd")), files)
 
     def test_a_long_note_is_refused(self):
-        self.leave(text="x" * spool.MOST_BYTES)
+        with self.assertRaises(Trouble):
+            self.leave(text="x" * spool.MOST_BYTES)
+        note = self.leave()
+        note.write_bytes(note.read_bytes() + b" " * spool.MOST_BYTES)
         self.refused("too long")
 
     def test_what_is_no_json_is_refused(self):
@@ -445,11 +457,14 @@ class RepositoryTests(InFolder):
         self.repository.add_to_main("bors.toml", "x", self.room)
         made = self.repository.branches()["refs/heads/main"]
         self.assertEqual(self.repository.ask("rev-list", "--parents", "-n", "1", made).split(), [made, self.base])
-        self.assertEqual((self.repository.text_at(made, "a"), self.repository.text_at(made, "bors.toml")), ("1\n", "x"))
+        self.assertEqual([self.repository.text_at(made, name, 9) for name in ("a", "bors.toml")], ["1\n", "x"])
 
     def test_texts(self):
-        self.assertEqual(self.repository.text_at(self.base, "a"), "1\n")
-        self.assertIsNone(self.repository.text_at(self.base, "bors.toml"))
+        self.assertEqual(self.repository.text_at(self.base, "a", 2), "1\n")
+        self.assertIsNone(self.repository.text_at(self.base, "a", 1))
+        self.assertIsNone(self.repository.text_at(self.base, "bors.toml", 9))
+        folder = self.write(f"040000 tree {self.repository.ask('rev-parse', f'{self.base}^{{tree}}').strip()}\tbors.toml\n", "mktree")
+        self.assertIsNone(self.repository.text_at(folder, "bors.toml", 9))
 
 
 class WordsTests(unittest.TestCase):
@@ -464,7 +479,7 @@ class WordsTests(unittest.TestCase):
     def test_what_is_a_claim(self):
         self.assertTrue(is_claim([7, "a" * 40]))
         head = "a" * 40
-        bad_numbers = [[True, head], [0, head], ["7", head], [4294967296, head], [7], 7]
+        bad_numbers = [[10 ** 40, head], [True, head], [0, head], ["7", head], [4294967296, head], [7], 7]
         for claim in [*bad_numbers, [7, head.upper()], [7, head + "a"], [7, head + "\n"]]:
             self.assertFalse(is_claim(claim), claim)
         self.assertFalse(is_commit(None))
