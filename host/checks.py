@@ -8,6 +8,7 @@ import signal
 import subprocess
 import sys
 import time
+from contextlib import suppress
 from dataclasses import dataclass, field
 from pathlib import Path
 from typing import Callable, Dict, List, Optional
@@ -149,9 +150,10 @@ class Checks:
 
 
 def remove_tree(path: Path) -> None:
-    """Removes a folder with all that it has, also if some of it was made unwritable."""
+    """Removes a folder with all that it has, also if some of it was made unwritable. What is of somebody else stays."""
     for folder, _, _ in os.walk(path):
-        os.chmod(folder, 0o700)
+        with suppress(OSError):
+            os.chmod(folder, 0o700)
     shutil.rmtree(path, ignore_errors=True)
 
 
@@ -162,9 +164,7 @@ def has_ended(process: subprocess.Popen) -> bool:
 
 def end_group(process: subprocess.Popen) -> None:
     """Kills a process with its group, and takes it off the system."""
-    try:
+    with suppress(ProcessLookupError):
         os.killpg(process.pid, signal.SIGKILL)
-    except ProcessLookupError:
-        pass
     process.wait()
     process.stdin.close()

@@ -40,7 +40,12 @@ def arguments_of(words: List[str]) -> argparse.Namespace:
     shape = argparse.RawDescriptionHelpFormatter
     parser = argparse.ArgumentParser(prog="gate-host", description=EXPLAINED, formatter_class=shape)
     jobs = parser.add_subparsers(dest="job", required=True, metavar="COMMAND")
+    add_jobs_of_owner(jobs)
+    add_jobs_of_people(jobs)
+    return parser.parse_args(words)
 
+
+def add_jobs_of_owner(jobs) -> None:
     job = jobs.add_parser("init", help="set a bare repository up: settings, roles, hook", description=(
         "Makes the folder gate in a bare repository that is yours, and its hook. Settings and roles that are there stay as they are. If "
         "the main branch has no bors.toml, a commit adds one that names the checks."))
@@ -54,28 +59,29 @@ def arguments_of(words: List[str]) -> argparse.Namespace:
     job = jobs.add_parser("run", help="guard a repository until a signal ends it", description=(
         "Starts the bot and guards the repository. SIGTERM ends it in order; killed in any other way, it goes on at the next start."))
     job.add_argument("repository", metavar="REPOSITORY")
-    job.add_argument("--again", action="store_true", help="hand the whole journal in again, after a copy of the bot's file was put back")
+    job.add_argument("--again", action="store_true", help="hand the whole journal in again: an older copy of the bot's file was put back")
 
-    def reader(name: str, what: str, more: str) -> argparse.ArgumentParser:
+
+def add_jobs_of_people(jobs) -> None:
+    def add(name: str, what: str, more: str) -> argparse.ArgumentParser:
         job = jobs.add_parser(name, help=what, description=more)
         job.add_argument("--repository", metavar="REPOSITORY", help="the bare repository; else it is the one of the folder you stand in")
         return job
 
-    job = reader("say", "comment on a change", (
+    job = add("say", "comment on a change", (
         "Leaves a comment on a change: one or more lines, of which those that begin with bors are commands. In a clone it is about the "
         "change as you have last fetched it, and else about the change as it is."))
     job.add_argument("change", type=int, metavar="CHANGE")
     job.add_argument("text", metavar="TEXT", help="the comment, as in 'bors r+'; - reads it from standard input")
     job.add_argument("--head", metavar="COMMIT", help="the commit that you have looked at")
-    reader("queue", "show the queue", "Shows the main branch, the batches that wait or run, and the open changes.")
-    job = reader("change", "show a change", "Shows a change as the bot has it.")
+    add("queue", "show the queue", "Shows the main branch, the batches that wait or run, and the open changes.")
+    job = add("change", "show a change", "Shows a change as the bot has it.")
     job.add_argument("change", type=int, metavar="CHANGE")
-    job = reader("log", "show what people were told of a change", (
+    job = add("log", "show what people were told of a change", (
         "Shows what was said of a change, and the output of the last check of it that has failed."))
     job.add_argument("change", type=int, metavar="CHANGE")
     job.add_argument("--all", action="store_true", help="show the outputs of all its checks")
-    reader("hook", "what git runs before a push", "Looks at a push, whose updates stand on standard input. Git runs this.")
-    return parser.parse_args(words)
+    add("hook", "what git runs before a push", "Looks at a push, whose updates stand on standard input. Git runs this.")
 
 
 def main(words: List[str]) -> int:

@@ -17,6 +17,7 @@ sys.path.insert(0, str(Path(__file__).resolve().parent.parent))
 import hook  # noqa: E402
 import spool  # noqa: E402
 import words  # noqa: E402
+from checks import remove_tree  # noqa: E402
 from client import Bot, BotEnded  # noqa: E402
 from journal import Journal  # noqa: E402
 from loop import is_claim, is_commit  # noqa: E402
@@ -376,6 +377,17 @@ class CheckRunnerTests(InFolder):
             self.assertLess(time.monotonic(), late)
             time.sleep(0.02)
         (self.room / "left").unlink()
+
+
+class ChecksTests(InFolder):
+    def test_what_was_made_unwritable_is_removed(self):
+        folder = self.room / "worktree" / "folder"
+        folder.mkdir(parents=True)
+        (folder / "file").touch()
+        (folder / "link").symlink_to("/")
+        folder.chmod(0o555)
+        remove_tree(self.room / "worktree")
+        self.assertEqual(list(self.room.iterdir()), [])
 
 
 class RepositoryTests(InFolder):
