@@ -16,7 +16,7 @@ HOST = TOP / "host/gate-host"
 TESTS = TOP / "host/tests"
 GIT = shutil.which("git")
 # What a story may take before it counts as one that never ends, and what a command may take.
-STORY_SECONDS = 150
+STORY_SECONDS = 300
 SECONDS = 60
 
 # No settings of git but these. The people of the stories are told by the variable of gitolite.
@@ -180,7 +180,21 @@ exit "$ended"
         return "-"
 
     def push_of_bot(self):
+        """What runs before the host has the first order to stage."""
         return "-"
+
+    def make_push(self):
+        """A tool by which somebody who may pushes to the main branch; and one that does so the first time."""
+        git, clone = shlex.quote(GIT), shlex.quote(str(self.room / "other"))
+        self.must_git("clone", "--quiet", str(self.repository), str(self.room / "other"), at=self.room)
+        push = shlex.quote(str(self.make_tool("push", f"""\
+export GL_USER=ines
+cd {clone} && {git} fetch --quiet && {git} checkout --quiet --detach origin/main || exit
+echo >>beside && {git} add beside && {git} commit --quiet -m beside && {git} push --quiet origin HEAD:main || exit
+{git} rev-parse HEAD >>{shlex.quote(str(self.beside))}
+""")))
+        self.make_tool("push-once", f"mkdir {shlex.quote(str(self.marks))}/pushed-ordered 2>/dev/null || exit 0\nexec {push}\n")
+        return push
 
     def make_tools(self):
         """Puts into `tools` what the host is to take for git."""
@@ -267,13 +281,16 @@ class Calm(Story):
 
 
 class Killed(Story):
-    """The host dies before and after each kind of command of git, and the bot or the host at each kind of answer."""
+    """The host dies before and after each kind of command of git, the bot or the host at each kind of answer; and somebody pushes."""
 
     def marks_of_bot(self):
         return self.marks
 
+    def push_of_bot(self):
+        return self.tools / "push-once"
+
     def make_tools(self):
-        marks, git = shlex.quote(str(self.marks)), shlex.quote(GIT)
+        marks, git, push = shlex.quote(str(self.marks)), shlex.quote(GIT), self.make_push()
         self.make_tool("git", f"""\
 is_first() {{ mkdir {marks}/"$1" 2>/dev/null; }}
 name=
@@ -294,6 +311,7 @@ is_first "git-before-$name" && kill -9 "$PPID" && exit
 case $name in
 update-ref-*) is_first "git-meanwhile-$name" && kill -9 "$PPID" && sleep 0.4 ;;
 esac
+[ "$name" = update-ref-main ] && [ -d {marks}/git-after-$name ] && is_first pushed-before-main && {push}
 {git} "$@"
 ended=$?
 is_first "git-after-$name" && kill -9 "$PPID"
@@ -322,30 +340,21 @@ class Beside(Story):
     """Somebody pushes to the main branch from beside."""
 
     def push_of_bot(self):
-        """The first push comes when a commit is ordered, before the host makes it. It is made again at a new start, and then no more."""
         return self.tools / "push-once"
 
     def make_tools(self):
-        git, marks, clone = (shlex.quote(str(it)) for it in (GIT, self.marks, self.room / "other"))
-        self.must_git("clone", "--quiet", str(self.repository), str(self.room / "other"), at=self.room)
-        push = shlex.quote(str(self.make_tool("push", f"""\
-export GL_USER=ines
-cd {clone} && {git} fetch --quiet && {git} checkout --quiet --detach origin/main || exit
-echo >>beside && {git} add beside && {git} commit --quiet -m beside && {git} push --quiet origin HEAD:main || exit
-{git} rev-parse HEAD >>{shlex.quote(str(self.beside))}
-""")))
-        self.make_tool("push-once", f"mkdir {marks}/ordered 2>/dev/null || exit 0\nexec {push}\n")
+        git, marks, push = shlex.quote(GIT), shlex.quote(str(self.marks)), self.make_push()
         self.make_tool("git", f"""\
 case "$*" in
-*" merge-tree "*) mkdir {marks}/merge 2>/dev/null && {push} ;;
-*" worktree add "*) mkdir {marks}/worktree 2>/dev/null && {push} ;;
-*" update-ref refs/heads/staging "*) mkdir {marks}/staged 2>/dev/null && {push} ;;
-*" update-ref refs/heads/main "*) mkdir {marks}/before 2>/dev/null && {push} ;;
+*" merge-tree "*) mkdir {marks}/pushed-merge 2>/dev/null && {push} ;;
+*" worktree add "*) mkdir {marks}/pushed-worktree 2>/dev/null && {push} ;;
+*" update-ref refs/heads/staging "*) mkdir {marks}/pushed-staged 2>/dev/null && {push} ;;
+*" update-ref refs/heads/main "*) mkdir {marks}/pushed-before-main 2>/dev/null && {push} ;;
 esac
 {git} "$@"
 ended=$?
 case "$*" in
-*" update-ref refs/heads/main "*) [ "$ended" = 0 ] && mkdir {marks}/after 2>/dev/null && {push} && kill -9 "$PPID" ;;
+*" update-ref refs/heads/main "*) [ "$ended" = 0 ] && mkdir {marks}/pushed-after-main 2>/dev/null && {push} && kill -9 "$PPID" ;;
 esac
 exit "$ended"
 """)
