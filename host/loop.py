@@ -109,9 +109,8 @@ class Host:
             self.next_look = now + self.settings.look_seconds
             self.look()
         for note in notes:
-            if note.body.get("kind") != "push":
-                self.take_comment(note)
-            self.spool.remove(note.name)
+            if note.body.get("kind") == "push" or self.take_comment(note):
+                self.spool.remove(note.name)
         self.check()
         self.tick()
         if self.is_report_due and time.monotonic() >= self.next_report:
@@ -332,6 +331,7 @@ class Host:
     def look_at_changes(self, heads: Dict[int, str]) -> None:
         """Hands in which changes are new, have moved, or are gone."""
         known = self.journal.changes()
+        self.unclaimed = {(change, head): since for (change, head), since in self.unclaimed.items() if heads.get(change) == head}
         for change, head in sorted(heads.items()):
             phase, before = known.get(change, ("closed", ""))
             if phase == "landed":
@@ -381,13 +381,21 @@ class Host:
                     for change, head in filter(is_claim, heads):
                         self.journal.claim(change, head, note.person)
 
-    def take_comment(self, note: Note) -> None:
-        """Takes a comment, in one step with the mark that it was taken."""
-        change, text, seen = note.body.get("change"), note.body.get("text"), note.body.get("head")
+    def take_comment(self, note: Note) -> bool:
+        """Takes a comment. False if it has to wait for its change, which is opened in the next round."""
+        change, text = note.body.get("change"), note.body.get("text")
         is_whole = is_number(change) and isinstance(text, str) and len(text) <= MOST_IN_COMMENT
-        if not is_whole or not self.journal.change(change):
-            complain(f"a note of {note.person} is no comment on a change")
-            return
+        if is_whole and self.journal.change(change):
+            self.hand_in_comment(note, change, text)
+            return True
+        if is_whole and any(change == unclaimed for unclaimed, _ in self.unclaimed):
+            return False
+        complain(f"a note of {note.person} is no comment on a change")
+        return True
+
+    def hand_in_comment(self, note: Note, change: int, text: str) -> None:
+        """Hands a comment in. It is written down in one step with the mark that its note was taken."""
+        seen = note.body.get("head")
         _, head = self.journal.change(change)
         # Half of a surrogate pair is no character, and the bot takes none.
         text = text.encode("utf-8", "replace").decode("utf-8")

@@ -4,6 +4,7 @@ A bare repository has ten changes by three people. Two of them conflict, and one
 """
 import json
 import os
+import pwd
 import shlex
 import shutil
 import subprocess
@@ -389,7 +390,7 @@ exec {git} "$@"
             self.what_was_not_seen_is_not_approved, self.a_push_ends_an_approval, self.a_branch_goes_and_comes_back,
             self.what_has_nothing_in_common_conflicts, self.a_check_has_a_limit, self.bad_settings_are_told, self.roles_are_taken_back,
             self.others_may_not_write_roles, self.a_lost_file_is_filled_again, self.a_push_comes_right_before_a_look,
-            self.strange_notes_end_nothing,
+            self.strange_notes_end_nothing, self.a_comment_waits_for_its_change,
         ):
             step()
 
@@ -525,6 +526,16 @@ exec {git} "$@"
         part.rename(self.at_look())
         self.until("it is open", lambda: self.report("change-27"))
         must("whether its author is who pushed", "author    vera\n" in self.report("change-27"))
+
+    def a_comment_waits_for_its_change(self):
+        """A branch of which no hook tells is the owner's, and is taken in the second round. The comment comes in the first one."""
+        self.stop()
+        self.must_git("fetch", "--quiet", at=self.clone)
+        self.heads[28] = self.commit(["--detach", "origin/main"], {"parts/h": "test 1 -gt 0\n"}, "change 28")
+        self.must_git("fetch", "--quiet", str(self.clone), "HEAD:refs/heads/change/28")
+        self.say("rosa", 28, "bors r+")
+        self.told(28, "Landed on main")
+        must("whether the owner is its author", f"author    {pwd.getpwuid(os.geteuid()).pw_name}\n" in self.report("change-28"))
 
     def strange_notes_end_nothing(self):
         """What nobody says by `gate-host say`, but somebody may write."""
