@@ -59,17 +59,32 @@ fn take_settings(state: State, alloc: Global, settings: Settings) -> Result<Outc
     ensures { IfOk result (λ outcome. outcome ≡ machine.under settings state) }
 {
     let State { mut desk, queue } = state;
-    let loses = LosesApproval {
-        settings: &settings,
-    };
-    let orders = notices_to(alloc, desk.numbers_where(alloc, &loses)?.as_slice())?;
-    desk.end_approvals_where(&loses);
-    desk.set_settings(settings);
+    let orders = losing_notices(alloc, &desk, &settings)?;
+    settle(&mut desk, settings);
     let queue = resettle(queue, &desk)?;
     Ok(Outcome {
         state: State { desk, queue },
         orders,
     })
+}
+
+// A notice for each change that loses its approval by settings.
+fn losing_notices(alloc: Global, desk: &Desk, settings: &Settings) -> Result<Orders, AllocError>
+    ensures { IfOk result (λ orders. orders ≡ settings_notices (machine.losing_on desk.now settings.now)) }
+{
+    let losing = desk.numbers_where(alloc, &LosesApproval { settings })?;
+    notices_to(alloc, losing.as_slice())
+}
+
+// Ends the approvals that settings are against, and puts these in place of the present ones.
+fn settle(desk: &mut Desk, settings: Settings)
+    ensures { desk.new ≡ machine.with_new_settings desk.old settings }
+{
+    let loses = LosesApproval {
+        settings: &settings,
+    };
+    desk.end_approvals_where(&loses);
+    desk.set_settings(settings);
 }
 
 // Takes out what isn't approved any longer, and lets the running batches wait again.
