@@ -11,9 +11,14 @@
 //! `gate_books stopped` begins with lines of SQL as well. It makes their database in two files in memory, and opens it with a stop
 //! at each call of either file.
 //!
+//! `gate_books twice` and `gate_books twice_in_tables` hand all lines in by one call, and then once more to the same keeper.
+//! `gate_books alone` asks for what no program does: the rules of a copied gate, and each line by itself. `.ci/test_faults` starts
+//! these, and has one request for memory refused in each run.
+//!
 //! `gate_books refusals` prints what is answered to rows and to a database that no delivery makes, and what row changes leave.
 #![tactic(auto)]
 
+mod alone;
 mod changed;
 mod fault;
 mod files;
@@ -49,6 +54,7 @@ fn run(rt: &HostRuntime) -> Result<(), BooksFault> {
     let mut reader = BufReader::new(rt.alloc(), rt.reader())?;
     let mut writer = io::writer(rt);
     match asked.as_str() {
+        "alone" => alone::ask_alone(rt.alloc(), &mut reader, &mut writer),
         "plain" => serving::serve_plain(rt.alloc(), &mut reader, &mut writer),
         "reopened" => reopened::serve_reopened(rt.alloc(), &mut reader, &mut writer),
         "tables" => tables::print_tables(rt.alloc(), &mut reader, &mut writer),

@@ -64,8 +64,11 @@ fn print_run<B: Book, W: Write>(
     Ok(())
 }
 
-// The deliveries of all lines, up to the end of the input.
-fn deliveries_of<R: BufRead>(alloc: Global, reader: &mut R) -> Result<Vec<Delivery>, BooksFault> {
+/// The deliveries of all lines, up to the end of the input.
+pub(crate) fn deliveries_of<R: BufRead>(
+    alloc: Global,
+    reader: &mut R,
+) -> Result<Vec<Delivery>, BooksFault> {
     let mut deliveries = Vec::new(alloc);
     for _ in 0..u64::MAX {
         let mut line = Vec::new(alloc);
