@@ -7,9 +7,10 @@ mod running;
 
 use crate::records::{book_in_file, book_in_memory, close};
 use gate_jobs::{
-    Ending, Job, JobFault, WordsFault, announce, complaint, ended, explain, no_text, read_words,
-    status,
+    Connections, Ending, Job, JobFault, WordsFault, announce, complaint, ended, explain, no_text,
+    read_words, status,
 };
+use gate_queue::Fault;
 use gate_store::{Book, Keeper};
 use sqlite::Unknown;
 use std::fs::File;
@@ -53,13 +54,19 @@ fn done(rt: &HostRuntime, job: &Job) -> Result<(), JobFault> {
         Job::Serve {
             port,
             count,
-            db: None,
-        } => serve(rt, *port, *count),
-        Job::Serve {
-            port,
-            count,
-            db: Some(db),
-        } => serve_in_file(rt, db.as_str(), *port, *count),
+            patience,
+            db,
+        } => {
+            let service = Service {
+                port: *port,
+                count: *count,
+                patience: *patience,
+            };
+            match db {
+                None => serve(rt, service),
+                Some(db) => serve_in_file(rt, db.as_str(), service),
+            }
+        }
         Job::Report { file } => report(rt, file.as_str()),
     }
 }
@@ -82,41 +89,51 @@ fn run_in_file(rt: &HostRuntime, file: &str) -> Result<(), JobFault> {
     Ok(())
 }
 
+// On which port connections are served, how many, and how long each is waited for.
+#[derive(Clone, Copy)]
+struct Service {
+    port: u16,
+    count: u32,
+    patience: u32,
+}
+
 // The records are made, or opened, before the address is bound.
-fn serve(rt: &HostRuntime, port: u16, count: u32) -> Result<(), JobFault> {
-    let (served, book) = serve_over(rt, book_in_memory(rt.alloc())?, port, count);
+fn serve(rt: &HostRuntime, service: Service) -> Result<(), JobFault> {
+    let (served, book) = serve_over(rt, book_in_memory(rt.alloc())?, service);
     drop(book);
     served
 }
 
-fn serve_in_file(rt: &HostRuntime, file: &str, port: u16, count: u32) -> Result<(), JobFault> {
-    let (served, book) = serve_over(rt, book_in_file(rt, file, Unknown)?, port, count);
+fn serve_in_file(rt: &HostRuntime, file: &str, service: Service) -> Result<(), JobFault> {
+    let (served, book) = serve_over(rt, book_in_file(rt, file, Unknown)?, service);
     close(book);
     served
 }
 
 // Over any book, which it gives back. A keeper whose book is known is dear to prove.
-fn serve_over<B: Book>(
-    rt: &HostRuntime,
-    book: B,
-    port: u16,
-    count: u32,
-) -> (Result<(), JobFault>, B) {
+fn serve_over<B: Book>(rt: &HostRuntime, book: B, service: Service) -> (Result<(), JobFault>, B) {
     let mut keeper = Keeper::new(book);
-    let served = serve_on(rt, &mut keeper, port, count);
+    let served = serve_on(rt, &mut keeper, service);
     (served, keeper.into_book())
 }
 
 fn serve_on<B: Book>(
     rt: &HostRuntime,
     keeper: &mut Keeper<B>,
-    port: u16,
-    count: u32,
+    service: Service,
 ) -> Result<(), JobFault> {
-    match TcpListener::bind(rt, ("127.0.0.1", port)) {
+    match TcpListener::bind(rt, ("127.0.0.1", service.port)) {
         Ok(listener) => {
-            announce(rt.alloc(), port, &mut io::writer(rt))?;
-            gate_jobs::serve(rt.alloc(), keeper, &listener, count)
+            let mut connections = Connections::new(
+                rt.alloc(),
+                rt,
+                &listener,
+                service.patience,
+            ).map_err(|_| JobFault::from(Fault::Memory))?;
+            announce(rt.alloc(), service.port, &mut io::writer(rt))?;
+            let served = gate_jobs::serve(rt.alloc(), keeper, &mut connections, service.count);
+            connections.finish();
+            served
         }
         Err(_) => Err(JobFault::Bind),
     }

@@ -6,8 +6,8 @@ use Rattle.std.proofs.lemmas.List.{append-nil}
 use Rattle.httparse.proofs.GrammarLemmas.{request_unique}
 use Rattle.httparse.specs.Grammar.{HasNoRequest, ReadsRequest, RequestHead, print_request}
 use Rattle.gate_hook.specs.Heads.{BeginsWith, HasNoHead, ask_in, max_head}
-use Rattle.gate_hook.specs.Receiving.{EndsWithin, IsHeadOf, piece}
-use Rattle.gate_hook.specs.Requests.{TakesAsNeeded, needed_by}
+use Rattle.gate_hook.specs.Receiving.{EndsWithin, IsHeadOf}
+use Rattle.gate_hook.specs.Requests.{TakesAsNeeded, needed_by, piece}
 use Rattle.gate_hook.specs.declared.head.Ask.{Ask}
 use Rattle.gate_hook.specs.declared.head.Head.{Head}
 use Rattle.gate_hook.specs.declared.refusal.Refusal.{Refusal}
@@ -16,12 +16,15 @@ use Rattle.gate_hook.proofs.NoHead.{within}
 
 -- Bytes without a head, and then a piece in which the head ends: fewer than a piece stand behind it.
 pub few-behind : (bytes more : List ℕ) (head : RequestHead) (rest : List ℕ) → HasNoRequest bytes → length more ≤ piece → ReadsRequest (bytes ++ more) head rest → length rest < piece
-few-behind bytes more head rest none fits reads = by (leb_tells (length (print_request head)) (length bytes)) where
-  all : length (print_request head) + length rest ≡ length bytes + length more
+few-behind bytes more head rest none fits reads = by (leb_tells size (length bytes)) where
+  size : ℕ
+  size = length (print_request head)
+
+  all : size + length rest ≡ length bytes + length more
   all = sym (length-append (print_request head) rest) ∙ ap length (sym reads.1) ∙ length-append bytes more
 
-  by : ((leb (length (print_request head)) (length bytes) ≡ true) × (length (print_request head) ≤ length bytes)) ⊎ ((leb (length (print_request head)) (length bytes) ≡ false) × (length bytes < length (print_request head))) → length rest < piece
-  by (inl (_, early)) = absurd (none head (drop (length (print_request head)) bytes) (reads.0, within (print_request head) rest bytes more (sym reads.1) early))
+  by : ((leb size (length bytes) ≡ true) × (size ≤ length bytes)) ⊎ ((leb size (length bytes) ≡ false) × (length bytes < size)) → length rest < piece
+  by (inl (_, early)) = absurd (none head (drop size bytes) (reads.0, within (print_request head) rest bytes more (sym reads.1) early))
   by (inr (_, late)) = omega (arith, all, late, fits)
 
 -- Nothing is read yet, or there was no head before the last piece.
@@ -75,7 +78,7 @@ length-behind first more rest told is same =
 
 few-or-needed : (first more rest : List ℕ) (head : RequestHead) (told : Head) (is : IsHeadOf told first) → length first < told.len + piece
     → EndsWithin first more told.len (needed_by told.ask) → (is.head ≡ head) × (drop told.len first ++ more ≡ rest)
-    → (length rest ≤ 1023) ⊎ (length rest ≤ needed_by (ask_in head))
+    → (length rest < piece) ⊎ (length rest ≤ needed_by (ask_in head))
 few-or-needed first more rest head told is few (inl empty) same =
     inl (omega (arith, few, length-behind first more rest told is same.1, length-append first more, ap length empty))
 few-or-needed first more rest head told is few (inr inside) same =

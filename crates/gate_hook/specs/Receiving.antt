@@ -1,10 +1,10 @@
 -- What was read of a request, for the contracts of the functions that read it.
-use Rattle.std.specs.Prelude.{◌≡◌, ◌⊎◌, ℕ, ◌+◌, ◌-◌, ◌<◌, ◌≤◌, ⊤, List, [], ◌∷◌, ◌++◌, length, take, drop, Option, Some, None, Result, Ok, Err}
+use Rattle.std.specs.Prelude.{◌≡◌, ◌⊎◌, ℕ, ◌+◌, ◌-◌, ◌<◌, ◌≤◌, ⊤, List, [], ◌∷◌, ◌++◌, length, take, drop, Bool, true, false, Option, Some, None, Result, Ok, Err}
 use Rattle.std.specs.Io.KnownBytes.{Consumes, Keeps, IsAtEnd}
 use Rattle.httparse.specs.Grammar.{RequestHead, ReadsRequest, HasNoRequest, print_request}
 use Rattle.httparse.specs.Spans.{RequestOverflows}
 use Rattle.gate_queue.specs.declared.fault.Fault.TheVariants.{Memory}
-use Rattle.gate_hook.specs.Requests.{Asks, TakesAsNeeded}
+use Rattle.gate_hook.specs.Requests.{Asks, TakesAsNeeded, needed_by, piece}
 use Rattle.gate_hook.specs.declared.refusal.Refusal.{Refusal}
 use Rattle.gate_hook.specs.Heads.{max_fields, max_head, ask_in, HasNoHead}
 use Rattle.gate_hook.specs.declared.fault.HookFault.{HookFault}
@@ -49,10 +49,6 @@ IsRead (Err TooMuch) before after buffer room = ⊥
 abbrev pub IsUnread : HookFault → Type 0
 IsUnread fault = (fault ≡ Read) ⊎ (fault ≡ Gate Memory)
 
--- so many bytes are read at once
-abbrev pub piece : ℕ
-piece = 1024
-
 -- Some bytes more were read, at most `room`, and none at the end alone; or reading failed, whatever was taken within these limits.
 abbrev pub IsMore : Result ℕ HookFault → Option (List ℕ) → Option (List ℕ) → List ℕ → List ℕ → ℕ → Type 0
 IsMore (Ok n) before after old new room =
@@ -96,3 +92,12 @@ IsInput before after input = (taken : List ℕ) × (rest : List ℕ) × Consumes
 abbrev pub HasAsked : Result (Result Request Refusal) HookFault → Option (List ℕ) → Option (List ℕ) → Type 0
 HasAsked (Ok wish) before after = ((input : List ℕ) × IsInput before after input × Asks input wish) × HasTaken before after
 HasAsked (Err fault) before after = Fails fault before after
+
+-- Whether these bytes are as many as the answer needs: a head and its body, or so much that there is no head.
+abbrev pub IsEnough : Bool → List ℕ → Type 0
+IsEnough true bytes =
+    ((head : RequestHead) × (rest : List ℕ) × ReadsRequest bytes head rest × (needed_by (ask_in head) ≤ length rest))
+    ⊎ (RequestOverflows max_fields bytes ⊎ (max_head ≤ length bytes))
+IsEnough false bytes =
+    ((head : RequestHead) × (rest : List ℕ) × ReadsRequest bytes head rest × (length rest < needed_by (ask_in head)))
+    ⊎ (HasNoRequest bytes × (length bytes < max_head))

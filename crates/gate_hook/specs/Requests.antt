@@ -1,5 +1,5 @@
 -- REQUESTS: what a request asks for, or why it is refused, in the order of the checks.
-use Rattle.std.specs.Prelude.{◌≡◌, ◌⊎◌, ℕ, ◌≤◌, nat_le, List, length, take, Result, Ok, Err, if◌then◌else◌}
+use Rattle.std.specs.Prelude.{◌≡◌, ◌⊎◌, ℕ, ◌<◌, ◌≤◌, nat_le, List, length, take, Result, Ok, Err, if◌then◌else◌}
 use Rattle.httparse.specs.Grammar.{RequestHead}
 use Rattle.gate_text.specs.Steps.{◌>>=◌}
 use Rattle.gate_store.specs.declared.delivery.Delivery.{Delivery}
@@ -49,8 +49,12 @@ needed_by (Ok (TheDelivery size)) = size
 needed_by (Ok (TheReport report)) = 0
 needed_by (Err refusal) = 0
 
--- HOW MUCH IS TAKEN. Behind a head as many bytes of the input as the answer needs, or the few that came with the last byte of the head.
--- Of input that shows no head, as many as a head may have.
+-- so many bytes are read at once
+abbrev pub piece : ℕ
+piece = 1024
+
+-- HOW MUCH IS TAKEN. Behind a head stand as many bytes of the input as the answer needs, or fewer than a piece: they may have come with
+-- the end of the head. Of input that shows no head, as many are taken as a head may have.
 pub record TakesAsNeeded (taken : List ℕ) : Type 0 where
-  pub behind : (head : RequestHead) (rest : List ℕ) → BeginsWith taken head rest → (length rest ≤ 1023) ⊎ (length rest ≤ needed_by (ask_in head))
+  pub behind : (head : RequestHead) (rest : List ℕ) → BeginsWith taken head rest → (length rest < piece) ⊎ (length rest ≤ needed_by (ask_in head))
   pub before : HasNoHead taken → length taken ≤ max_head

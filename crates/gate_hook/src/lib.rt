@@ -23,5 +23,6 @@ pub use field::Field;
 pub use laws::{law_of_lines, law_of_requests};
 pub use lines::serve_lines;
 pub use reading::{DeliveryFault, read_delivery};
+pub use receiving::is_enough;
 pub use requests::{Served, serve_one};
 pub use sending::send;

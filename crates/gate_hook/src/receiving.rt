@@ -1,13 +1,13 @@
-ghost use Rattle.std.specs.Prelude.{◌≡◌, ◌<◌, ◌≤◌, [], length};
-ghost use Rattle.gate_hook.specs.Receiving.{IsRead, IsMore, HasReadHead, HasReadBody};
+ghost use Rattle.std.specs.Prelude.{◌≡◌, ◌<◌, ◌≤◌, [], length, IfOk};
+ghost use Rattle.gate_hook.specs.Receiving.{IsEnough, IsRead, IsMore, HasReadHead, HasReadBody};
 
 use crate::fault::HookFault;
 use crate::head::{Found, Head, MAX_HEAD, head_in};
 use gate_queue::Fault;
-use std::alloc::Global;
+use std::alloc::{AllocError, Global};
 use std::io::Read;
 
-// How many bytes are read at once.
+// How many bytes are read at once: the `piece` of the definitions.
 const PIECE: usize = 1_024;
 
 /// Reads at most `room` bytes to the front of the buffer. It doesn't try again after a failure.
@@ -85,4 +85,17 @@ pub fn read_body<R: Read>(
         }
     }
     Ok(())
+}
+
+/// Whether these bytes of a request are as many as its answer needs, so that no byte more is waited for. `AllocError` if there is no
+/// memory to tell.
+pub fn is_enough(alloc: Global, bytes: &[u8]) -> Result<bool, AllocError>
+    ensures value { IfOk result (λ enough. IsEnough enough bytes.now) }
+{
+    match head_in(alloc, bytes) {
+        Ok(Found::Whole(head)) => Ok(head.needed() <= bytes.len().saturating_sub(head.len)),
+        Ok(Found::Unfinished) => Ok(bytes.len() >= MAX_HEAD),
+        Ok(Found::Never) => Ok(true),
+        Err(error) => Err(error),
+    }
 }

@@ -1,13 +1,16 @@
 use crate::checks::{check_that, check_words};
 use crate::requests::{POST_ALONE, REQUEST, RESPONSE};
 use gate_hook::HookFault;
-use gate_jobs::{Ending, Job, JobFault, WordsFault, complaint, read_words, serve, status};
+use gate_jobs::{
+    Acceptor, Connections, Ending, Job, JobFault, WordsFault, complaint, read_words, serve, status,
+};
 use gate_queue::{Fault, Gate};
 use gate_store::{Keeper, PlainBook};
 use std::alloc::Global;
-use std::io::{self, Write};
+use std::io::{self, Error, ErrorKind, Write};
 use std::net::{Net, TcpListener, TcpStream};
 use std::process::Abort;
+use std::time::Clock;
 
 // A job in short.
 fn job_words(rt: &impl Abort, alloc: Global, job: &Job) -> String {
@@ -17,13 +20,15 @@ fn job_words(rt: &impl Abort, alloc: Global, job: &Job) -> String {
         Job::Serve {
             port,
             count,
+            patience,
             db: None,
-        } => format!(in alloc; "Serve {port} {count}"),
+        } => format!(in alloc; "Serve {port} {count} {patience}"),
         Job::Serve {
             port,
             count,
+            patience,
             db: Some(db),
-        } => format!(in alloc; "Serve {port} {count} {db}"),
+        } => format!(in alloc; "Serve {port} {count} {patience} {db}"),
         Job::Report { file } => format!(in alloc; "Report {file}"),
     }
     .expect(rt, "memory")
@@ -58,11 +63,18 @@ fn words_ask_for_jobs(rt: HostRuntime) {
         run => Run
         run --db q.db => Run q.db
         run --db=q.db => Run q.db
-        serve --port 8080 --count 2 => Serve 8080 2
-        serve --count=1000000 --port=65535 => Serve 65535 1000000
-        serve --port 1 --count 1 => Serve 1 1
-        serve --port 8080 --count 2 --db q.db => Serve 8080 2 q.db
-        serve --db q.db --count 2 --port 8080 => Serve 8080 2 q.db
+        serve --port 8080 --count 2 => Serve 8080 2 30
+        serve --count=1000000 --port=65535 => Serve 65535 1000000 30
+        serve --port 1 --count 1 => Serve 1 1 30
+        serve --port 8080 --count 2 --db q.db => Serve 8080 2 30 q.db
+        serve --db q.db --count 2 --port 8080 => Serve 8080 2 30 q.db
+        serve --port 8080 --count 2 --patience 1 => Serve 8080 2 1
+        serve --patience=3600 --port 8080 --count 2 --db q.db => Serve 8080 2 3600 q.db
+        serve --port 8080 --count 2 --patience 0 => Usage
+        serve --port 8080 --count 2 --patience 3601 => Usage
+        serve --port 8080 --count 2 --patience => Usage
+        serve --port 8080 --count 2 --patience 1 --patience 1 => Usage
+        run --patience 1 => Usage
         serve --port 0 --count 2 => Usage
         serve --port 65536 --count 2 => Usage
         serve --port 8080 --count 0 => Usage
@@ -137,9 +149,11 @@ fn check_answer(rt: &impl Abort, alloc: Global, stream: TcpStream, due: &str) {
 }
 
 // Over a book without a database: what `serve` does is the same over any book.
-fn serve_two(rt: &impl Abort, alloc: Global, listener: &TcpListener) {
+fn serve_two<R: Abort + Clock>(rt: &R, alloc: Global, listener: &TcpListener) {
     let mut keeper = Keeper::new(PlainBook::new(alloc, Gate::new(alloc)));
-    let is_done = serve(alloc, &mut keeper, listener, 2).is_ok();
+    let mut connections = Connections::new(alloc, rt, listener, 1).expect(rt, "memory");
+    let is_done = serve(alloc, &mut keeper, &mut connections, 2).is_ok();
+    connections.finish();
     drop(keeper);
     check_that(rt, "serve", is_done);
 }
@@ -153,4 +167,64 @@ fn serves_two_connections(rt: HostRuntime) {
     serve_two(&rt, rt.alloc(), &listener);
     check_answer(&rt, rt.alloc(), first, RESPONSE);
     check_answer(&rt, rt.alloc(), second, POST_ALONE);
+}
+
+// Connections in memory. Each gives a text, and what was written on it has to be the text beside it.
+#[derive(Drop)]
+struct Texts<'a> {
+    inputs: &'a [&'a str],
+    due: &'a [&'a str],
+    accepted: usize,
+    ended: usize,
+    alloc: Global,
+}
+
+impl<'a> Acceptor<&'a [u8], Vec<u8>> for Texts<'a> {
+    fn accept(&mut self) -> io::Result<(&'a [u8], Vec<u8>)> {
+        match self.inputs.get(self.accepted) {
+            Some(input) => {
+                self.accepted = self.accepted.saturating_add(1);
+                Ok((input.as_bytes(), Vec::new(self.alloc)))
+            }
+            None => Err(Error::from(ErrorKind::ConnectionAborted)),
+        }
+    }
+
+    // Counts those on which was written what is due.
+    fn end(&mut self, _reader: &'a [u8], writer: Vec<u8>) {
+        if let Some(due) = self.due.get(self.ended) {
+            if *writer.as_slice() == *due.as_bytes() {
+                self.ended = self.ended.saturating_add(1);
+            }
+        }
+        drop(writer);
+    }
+}
+
+// Each connection is answered in its turn, and the first that can't be accepted ends the job.
+#[test]
+fn serves_any_connections(rt: HostRuntime) {
+    let alloc = rt.alloc();
+    let inputs = [REQUEST, GET, REQUEST];
+    let due = [RESPONSE, POST_ALONE, RESPONSE];
+    let mut texts = Texts {
+        inputs: &inputs,
+        due: &due,
+        accepted: 0,
+        ended: 0,
+        alloc,
+    };
+    let mut keeper = Keeper::new(PlainBook::new(alloc, Gate::new(alloc)));
+    let served = serve(alloc, &mut keeper, &mut texts, 4);
+    drop(keeper);
+    check_that(
+        &rt,
+        "the fourth connection",
+        served == Err(JobFault::Accept),
+    );
+    check_that(
+        &rt,
+        "three connections",
+        texts.accepted == 3 && texts.ended == 3,
+    );
 }

@@ -2,8 +2,10 @@
 --     Words        the job that words ask for
 --     Explaining   what is told if they ask for none
 --     Report       the report of an input
---     Serving      what is done with connections
+--     Accepting    connections, one after the other, and what is known of them
+--     Serving      what is done with them
 --     Outcome      the exit status, and the line on standard error
+pub mod Accepting
 pub mod Explaining
 pub mod Outcome
 pub mod Report

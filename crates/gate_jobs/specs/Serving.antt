@@ -1,12 +1,12 @@
 -- CONNECTIONS: what is printed before the first, what is done with one and with many, and how much is read of one behind its
 -- response.
-use Rattle.std.specs.Prelude.{◌≡◌, ◌⊎◌, ◌<◌, ◌≤◌, ℕ, List, [], ◌∷◌, ◌++◌, length, codes, decimal, Option, None, Result, Ok, Err}
-use Rattle.std.specs.Io.KnownBytes.{Consumes, IsAtEnd}
+use Rattle.std.specs.Prelude.{◌≡◌, ◌<◌, ℕ, ◌+◌, List, [], ◌∷◌, ◌++◌, length, codes, decimal, Option, Result, Ok, Err}
+use Rattle.std.specs.Io.KnownBytes.{Consumes, IsAtEnd, Keeps}
+use Rattle.gate_jobs.specs.Accepting.{Connection}
 use Rattle.gate_jobs.specs.declared.fault.JobFault.{JobFault}
 use Rattle.gate_hook.specs.Receiving.{IsInput}
 use Rattle.gate_hook.specs.Served.{AnswersOne, StaysServing}
 use Rattle.gate_hook.specs.declared.fault.HookFault.{HookFault}
-use Rattle.gate_hook.specs.declared.fault.HookFault.TheVariants.{Gate, Read, Write, TooMuch}
 use Rattle.gate_hook.specs.declared.requests.Served.{Served}
 use Rattle.gate_store.specs.Run.{Records}
 
@@ -21,26 +21,27 @@ IsServedOnce sound stood old new unread left before after =
     × (sound → AnswersOne served input old new before after)
     × (stood → StaysServing served sound before after)
 
--- One request is answered on a connection. No contract knows the bytes that it gives and takes, so the input is some input, and of
--- what is written nothing is said (`None`); but the records after it are what `serve_one` makes of that input.
-abbrev pub IsServedUnseen : List ℕ → Records → Records → Type 0
-IsServedUnseen input old new = (served : Result Served HookFault) × AnswersOne served input old new None None
+-- One request is answered on a connection, as `serve_one` does it. What a connection of the network gives and takes isn't known, and
+-- then the input is some input, and of what is written nothing is said; but the records after it are what `serve_one` makes of that
+-- input.
+abbrev pub IsServed : Connection → Records → Records → Type 0
+IsServed connection old new =
+    (served : Result Served HookFault) × (input : List ℕ) × IsInput connection.unread connection.left input
+    × AnswersOne served input old new connection.blank connection.written
 
 -- Connections one after the other: each finds the records as the one before left them.
-abbrev pub AreServedInTurn : List (List ℕ) → Records → Records → Type 0
+abbrev pub AreServedInTurn : List Connection → Records → Records → Type 0
 AreServedInTurn [] old new = new ≡ old
-AreServedInTurn (input ∷ inputs) old new = (between : Records) × IsServedUnseen input old between × AreServedInTurn inputs between new
+AreServedInTurn (connection ∷ connections) old new =
+    (between : Records) × IsServed connection old between × AreServedInTurn connections between new
 
 -- so many connections were accepted, of those that were to be: all, or fewer if one can't be accepted
 abbrev pub AreAccepted : Result (Unit {0}) JobFault → ℕ → ℕ → Type 0
 AreAccepted (Ok _) accepted count = accepted ≡ count
 AreAccepted (Err fault) accepted count = accepted < count
 
--- Bytes were dropped up to the end of the input, or as many as may be; or the reader failed before.
-abbrev pub IsDrained : Result (Unit {0}) HookFault → ℕ → Option (List ℕ) → Option (List ℕ) → Type 0
-IsDrained (Ok _) most before after =
-    (dropped : List ℕ) × Consumes before after dropped × (length dropped ≤ most) × (IsAtEnd after ⊎ (length dropped ≡ most))
-IsDrained (Err Read) most before after = (dropped : List ℕ) × Consumes before after dropped × (length dropped ≤ most)
-IsDrained (Err (Gate fault)) most before after = ⊥
-IsDrained (Err Write) most before after = ⊥
-IsDrained (Err TooMuch) most before after = ⊥
+-- Some bytes were dropped, and so many are left of those that may be; or reading failed, and none were.
+abbrev pub IsDropped : {E : Type 0} → Result ℕ E → ℕ → Option (List ℕ) → Option (List ℕ) → Type 0
+IsDropped (Ok rest) left before after =
+    (dropped : List ℕ) × Consumes before after dropped × (length dropped + rest ≡ left) × (0 < left → dropped ≡ [] → IsAtEnd after)
+IsDropped (Err error) left before after = Keeps before after

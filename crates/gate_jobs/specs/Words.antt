@@ -15,17 +15,20 @@ use Rattle.gate_jobs.specs.declared.words.Job.TheVariants.{Run, Serve, Report}
 use Rattle.gate_jobs.specs.declared.words.WordsFault.{WordsFault}
 use Rattle.gate_jobs.specs.declared.words.WordsFault.TheVariants.{Help, Usage, Memory}
 
--- a job whose port, and whose count of connections, keep their limits
+-- a job whose port, whose count of connections and whose patience, in seconds, keep their limits
 abbrev pub AreWithinLimits : ℕ → ℕ → Type 0
 AreWithinLimits port count = (1 ≤ port) × (port ≤ 65535) × (1 ≤ count) × (count ≤ 1000000)
 
+abbrev pub IsPatient : ℕ → Type 0
+IsPatient patience = (1 ≤ patience) × (patience ≤ 3600)
+
 abbrev pub IsWithinLimits : Job → Type 0
 IsWithinLimits (Run db) = ⊤
-IsWithinLimits (Serve port count db) = AreWithinLimits port count
+IsWithinLimits (Serve port count patience db) = AreWithinLimits port count × IsPatient patience
 IsWithinLimits (Report file) = ⊤
 
--- THE COMMANDS: `run`, `serve --port N --count N` and `report FILE`, of which the first two may have `--db FILE`. The program's name
--- isn't among the words.
+-- THE COMMANDS: `run`, `serve --port N --count N` and `report FILE`, of which the first two may have `--db FILE`, and the second
+-- `--patience SECONDS`. The program's name isn't among the words.
 abbrev pub number_rule : Text → ValueParser → Rule
 number_rule name limits = record (new_rule name) { long = Some name; value_names = 1; required = true; parser = Some limits }
 
@@ -44,8 +47,12 @@ numbered_words =
     (number_rule (codes "port") (Signed (pos 1) (pos 65535))))
     (number_rule (codes "count") (Signed (pos 1) (pos 1000000)))
 
+abbrev pub patience_rule : Rule
+patience_rule =
+    record (new_rule (codes "patience")) { long = Some (codes "patience"); value_names = 1; parser = Some (Signed (pos 1) (pos 3600)) }
+
 abbrev pub serve_words : App
-serve_words = with_rule numbered_words db_rule
+serve_words = with_rule (with_rule numbered_words patience_rule) db_rule
 
 abbrev pub report_words : App
 report_words = with_rule (new_app (codes "report")) file_rule
@@ -64,30 +71,39 @@ IsNumber n (Some text) = IsNumeral 10 (without_leading_plus text) × (n ≡ digi
 abbrev pub AreNumbersIn : ℕ → ℕ → List Row → Type 0
 AreNumbersIn port count rows = IsNumber port (one_of (codes "port") rows) × IsNumber count (one_of (codes "count") rows)
 
+-- the patience that `--patience` gives, or half a minute if it isn't there
+abbrev pub IsPatience : ℕ → Option Text → Type 0
+IsPatience n None = n ≡ 30
+IsPatience n (Some text) = IsNumber n (Some text)
+
+abbrev pub IsPatienceIn : ℕ → List Row → Type 0
+IsPatienceIn patience rows = IsPatience patience (one_of (codes "patience") rows)
+
 -- the file that `--db` names, or none if it isn't there
 abbrev pub IsDbIn : {A : Type 0} → Option (String A) → List Row → Type 0
 IsDbIn {A} db rows = first_of (codes "db") rows ≡ option_map string_bytes db
 
 abbrev pub IsRunIn : Job → List Row → Type 0
 IsRunIn (Run db) rows = IsDbIn db rows
-IsRunIn (Serve port count db) rows = ⊥
+IsRunIn (Serve port count patience db) rows = ⊥
 IsRunIn (Report file) rows = ⊥
 
 abbrev pub IsServeIn : Job → List Row → Type 0
 IsServeIn (Run db) rows = ⊥
-IsServeIn (Serve port count db) rows = AreNumbersIn port count rows × IsDbIn db rows
+IsServeIn (Serve port count patience db) rows = AreNumbersIn port count rows × IsPatienceIn patience rows × IsDbIn db rows
 IsServeIn (Report file) rows = ⊥
 
 abbrev pub IsFileIn : Job → List Row → Type 0
 IsFileIn (Run db) rows = ⊥
-IsFileIn (Serve port count db) rows = ⊥
+IsFileIn (Serve port count patience db) rows = ⊥
 IsFileIn (Report file) rows = first_of (codes "FILE") rows ≡ Some (string_bytes file)
 
 -- no command is the command `run` without its option
 abbrev pub IsJobIn : Job → Option (Text × List Row) → Type 0
 IsJobIn (Run db) command =
     ((command ≡ None) × (db ≡ None)) ⊎ ((rows : List Row) × (command ≡ Some (codes "run", rows)) × IsRunIn (Run db) rows)
-IsJobIn (Serve port count db) command = (rows : List Row) × (command ≡ Some (codes "serve", rows)) × IsServeIn (Serve port count db) rows
+IsJobIn (Serve port count patience db) command =
+    (rows : List Row) × (command ≡ Some (codes "serve", rows)) × IsServeIn (Serve port count patience db) rows
 IsJobIn (Report file) command = (rows : List Row) × (command ≡ Some (codes "report", rows)) × IsFileIn (Report file) rows
 
 -- If there is no job, none within the limits is asked for.
@@ -99,6 +115,11 @@ LacksJob None is = (job : Job) → IsWithinLimits job → is job → ⊥
 abbrev pub LacksNumbers : Option (ℕ × ℕ) → List Row → Type 0
 LacksNumbers (Some numbers) rows = ⊤
 LacksNumbers None rows = (port count : ℕ) → AreNumbersIn port count rows → AreWithinLimits port count → ⊥
+
+-- If there is no patience, none within the limits stands there, and it isn't left out.
+abbrev pub LacksPatience : Option ℕ → List Row → Type 0
+LacksPatience (Some found) rows = ⊤
+LacksPatience None rows = (patience : ℕ) → IsPatienceIn patience rows → IsPatient patience → ⊥
 
 -- the words ask for this job, and have no mistake
 abbrev pub IsAskedFor : Job → List Text → Type 0

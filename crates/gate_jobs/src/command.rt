@@ -1,8 +1,8 @@
 ghost use Rattle.std.specs.Prelude.{◌≡◌, false, pos, map, IfOk};
-ghost use Rattle.clap.specs.Words.{FailsBy, app_of, fault_of, new_app, rule_of, subcommand_of, subcommand_rows_of, with_subcommand};
+ghost use Rattle.clap.specs.Words.{FailsBy, app_of, fault_of, new_app, rule_of, subcommand_of, subcommand_rows_of, with_rule, with_subcommand};
 ghost use Rattle.clap.specs.declared.builder.command.Command.TheViews.{out-Command as fields_of};
 ghost use Rattle.clap.specs.declared.builder.value_parser.ValueParser.TheVariants.{Signed};
-ghost use Rattle.gate_jobs.specs.Words.{bare_words, db_rule, file_rule, gate_words, number_rule, numbered_words, report_words, run_words, serve_words};
+ghost use Rattle.gate_jobs.specs.Words.{bare_words, db_rule, file_rule, gate_words, number_rule, numbered_words, patience_rule, report_words, run_words, serve_words};
 
 use clap::builder::ValueParser;
 use clap::{Arg, ArgMatches, Command, Error, value_parser};
@@ -10,6 +10,12 @@ use std::alloc::{AllocError, Global};
 
 /// The greatest count of connections.
 pub const MAX_COUNT: u32 = 1_000_000;
+
+/// The patience if none is given, in seconds.
+pub const PATIENCE: u32 = 30;
+
+/// The greatest patience.
+pub const MAX_PATIENCE: u32 = 3_600;
 
 // What is told of the whole program. Its version comes first, and CHANGELOG.md begins with the same.
 const ABOUT: &str = "\
@@ -19,7 +25,7 @@ It keeps its records in a database file, or in memory, and then they are gone wh
 
 const USAGE: &str = "\
 gate [run [--db <FILE>]]
-       gate serve --port <N> --count <N> [--db <FILE>]
+       gate serve --port <N> --count <N> [--patience <SECONDS>] [--db <FILE>]
        gate report <FILE>";
 
 const MORE: &str = "\
@@ -44,6 +50,9 @@ const REPORT: &str = "Print the queue as it is after the deliveries of a file, o
 const PORT: &str = "The port to listen on, from 1 to 65535";
 
 const COUNT: &str = "How many connections to serve, from 1 to 1000000";
+
+const SECONDS: &str =
+    "How long a client may be silent before its connection is given up, from 1 to 3600, 30 if left out";
 
 const DB: &str = "The database file that keeps the records; it is made if it isn't there";
 
@@ -78,6 +87,24 @@ fn db<'a>(alloc: Global) -> Arg<'a>
     Arg::new(alloc, "db").long("db").value_name("FILE").help(DB)
 }
 
+// The option that says how long a client is waited for. It may be left out.
+fn patience<'a>(alloc: Global) -> Arg<'a>
+    ensures rule { rule_of result ≡ patience_rule }
+    ensures local { result.global ≡ false }
+{
+    Arg::new(alloc, "patience")
+        .long("patience")
+        .value_name("SECONDS")
+        .help(SECONDS)
+        .value_parser(waits())
+}
+
+fn waits<'a>() -> ValueParser<'a>
+    ensures { result ≡ Signed (pos 1) (pos 3600) }
+{
+    value_parser!(u32).range(1..=i64::from(MAX_PATIENCE))
+}
+
 fn ports<'a>() -> ValueParser<'a>
     ensures { result ≡ Signed (pos 1) (pos 65535) }
 {
@@ -97,7 +124,7 @@ fn run_command<'a>(alloc: Global) -> Result<Command<'a>, AllocError>
     command(alloc, "run", "gate run [--db <FILE>]", RUN).arg(db(alloc))
 }
 
-const SERVE_USAGE: &str = "gate serve --port <N> --count <N> [--db <FILE>]";
+const SERVE_USAGE: &str = "gate serve --port <N> --count <N> [--patience <SECONDS>] [--db <FILE>]";
 
 // `serve` with its port and its count.
 fn numbered_command<'a>(alloc: Global) -> Result<Command<'a>, AllocError>
@@ -109,11 +136,19 @@ fn numbered_command<'a>(alloc: Global) -> Result<Command<'a>, AllocError>
         .arg(number(alloc, "count", COUNT, counts()))
 }
 
+// With its patience besides.
+fn patient_command<'a>(alloc: Global) -> Result<Command<'a>, AllocError>
+    ensures words { IfOk result (λ made. app_of made ≡ with_rule numbered_words patience_rule) }
+    ensures local { IfOk result (λ made. (fields_of made).has_globals ≡ false) }
+{
+    numbered_command(alloc)?.arg(patience(alloc))
+}
+
 fn serve_command<'a>(alloc: Global) -> Result<Command<'a>, AllocError>
     ensures words { IfOk result (λ made. app_of made ≡ serve_words) }
     ensures local { IfOk result (λ made. (fields_of made).has_globals ≡ false) }
 {
-    numbered_command(alloc)?.arg(db(alloc))
+    patient_command(alloc)?.arg(db(alloc))
 }
 
 // The file that is to be read.

@@ -1,8 +1,10 @@
 //! What the program is asked for by its words, its jobs over any book, and how it ends.
 #![tactic(auto)]
 
+mod accepting;
 mod closing;
 mod command;
+mod connections;
 mod explaining;
 mod fault;
 mod outcome;
@@ -10,7 +12,9 @@ mod reporting;
 mod serving;
 mod words;
 
-pub use closing::{close, drain};
+pub use accepting::Acceptor;
+pub use closing::drop_part;
+pub use connections::{Connections, PatientReader, PatientWriter};
 pub use explaining::explain;
 pub use fault::JobFault;
 pub use outcome::{Ending, complaint, ended, status};

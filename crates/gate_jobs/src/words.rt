@@ -1,9 +1,9 @@
 ghost use Rattle.std.specs.Prelude.{◌≡◌, map, IfOk, IfErr, IfSome};
 ghost use Rattle.std.specs.IoError.{error_kind};
 ghost use Rattle.clap.specs.Words.{found_of, kind_of, rows_of, subcommand_rows_of};
-ghost use Rattle.gate_jobs.specs.Words.{AreNumbersIn, AreWithinLimits, IsAskedFor, IsDbIn, IsFileIn, IsJobIn, IsRefusedBy, IsRunIn, IsServeIn, IsToldAs, IsToldBy, IsWithinLimits, IsWithoutWords, LacksJob, LacksNumbers};
+ghost use Rattle.gate_jobs.specs.Words.{AreNumbersIn, AreWithinLimits, IsAskedFor, IsDbIn, IsFileIn, IsJobIn, IsPatienceIn, IsPatient, IsRefusedBy, IsRunIn, IsServeIn, IsToldAs, IsToldBy, IsWithinLimits, IsWithoutWords, LacksJob, LacksNumbers, LacksPatience};
 
-use crate::command::{MAX_COUNT, matches_in};
+use crate::command::{MAX_COUNT, MAX_PATIENCE, PATIENCE, matches_in};
 use clap::error::ErrorKind;
 use clap::{ArgMatches, Error};
 use std::alloc::{AllocError, Global};
@@ -27,6 +27,8 @@ pub enum Job {
         port: u16,
         /// From 1 to 1,000,000.
         count: u32,
+        /// For how many seconds a client may be silent, from 1 to 3,600.
+        patience: u32,
         /// The path of the database file. Without one the records are in memory.
         db: Option<String>,
     },
@@ -93,6 +95,31 @@ fn numbers_in(options: &ArgMatches<'_>) -> Option<(u16, u32)>
     Some((port, count))
 }
 
+// The patience of `serve`, or that of `PATIENCE` if it is left out.
+fn read_patience(options: &ArgMatches<'_>) -> Option<u32>
+    ensures value { IfSome result (λ patience. IsPatienceIn patience (rows_of (found_of options.now))) }
+    ensures none { LacksPatience result (rows_of (found_of options.now)) }
+{
+    match options.try_get_one::<u32>("patience") {
+        Ok(Some(patience)) => Some(patience),
+        Ok(None) => Some(PATIENCE),
+        Err(_) => None,
+    }
+}
+
+// The limits are those of the command, looked at again.
+fn patience_in(options: &ArgMatches<'_>) -> Option<u32>
+    ensures limits { IfSome result IsPatient }
+    ensures value { IfSome result (λ patience. IsPatienceIn patience (rows_of (found_of options.now))) }
+    ensures none { LacksPatience result (rows_of (found_of options.now)) }
+{
+    let patience = read_patience(options)?;
+    if patience == 0 || patience > MAX_PATIENCE {
+        return None;
+    }
+    Some(patience)
+}
+
 fn serve_job(alloc: Global, options: &ArgMatches<'_>) -> Result<Option<Job>, AllocError>
     ensures limits { IfOk result (λ job. IfSome job IsWithinLimits) }
     ensures job { IfOk result (λ job. IfSome job (λ job. IsServeIn job (rows_of (found_of options.now)))) }
@@ -101,8 +128,16 @@ fn serve_job(alloc: Global, options: &ArgMatches<'_>) -> Result<Option<Job>, All
     let Some((port, count)) = numbers_in(options) else {
         return Ok(None);
     };
+    let Some(patience) = patience_in(options) else {
+        return Ok(None);
+    };
     let db = db_in(alloc, options)?;
-    Ok(Some(Job::Serve { port, count, db }))
+    Ok(Some(Job::Serve {
+        port,
+        count,
+        patience,
+        db,
+    }))
 }
 
 fn report_job(alloc: Global, options: &ArgMatches<'_>) -> Result<Option<Job>, AllocError>
@@ -168,7 +203,7 @@ pub fn no_text(alloc: Global, error: &io::Error) -> WordsFault
 
 /// The job that words ask for, which stand behind the program's name.
 pub fn read_words(alloc: Global, words: &[&str]) -> Result<Job, WordsFault>
-    // The port and the count keep their limits.
+    // The port, the count and the patience keep their limits.
     ensures limits { IfOk result IsWithinLimits }
 
     // The words have no mistake, and ask for this job.

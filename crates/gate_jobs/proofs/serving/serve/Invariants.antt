@@ -1,11 +1,14 @@
-use Rattle.std.proofs.Common.{◌≡◌, ℕ, List, length}
+use Rattle.std.proofs.Common.{◌≡◌, List, length}
+use Rattle.gate_jobs.specs.Accepting.{AreAcceptedInTurn, AreEndedInTurn, Connection}
 use Rattle.gate_jobs.specs.Serving.{AreServedInTurn}
 use Rattle.gate_jobs.proofs.serving.serve.Given as goal
 
 abbrev pub invariant-loop : goal.invariant-loop
 invariant-loop g l = record {
-  served : (inputs : List (List ℕ)) × (length inputs ≡ l.counter)
-      × (g.B.Book.is_sound l.keeper → AreServedInTurn inputs (g.B.Book.shows l.fn.keeper) (g.B.Book.shows l.keeper));
+  served : (connections : List Connection) × (length connections ≡ l.counter)
+      × AreAcceptedInTurn connections (g.A.Acceptor.waiting l.fn.acceptor) (g.A.Acceptor.waiting l.acceptor)
+      × AreEndedInTurn connections (g.A.Acceptor.ended l.fn.acceptor) (g.A.Acceptor.ended l.acceptor)
+      × (g.B.Book.is_sound l.keeper → AreServedInTurn connections (g.B.Book.shows l.fn.keeper) (g.B.Book.shows l.keeper));
   was : g.B.Book.is_sound l.keeper → g.B.Book.is_sound l.fn.keeper;
   honest : g.B.Book.is_honest l.keeper → g.B.Book.is_honest l.fn.keeper;
   shield : g.B.Book.is_shielded l.fn.keeper → g.B.Book.is_shielded l.keeper;

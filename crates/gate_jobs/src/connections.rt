@@ -1,0 +1,400 @@
+use crate::accepting::Acceptor;
+use crate::closing::drop_part;
+use gate_hook::is_enough;
+use std::alloc::{AllocError, Global};
+use std::io::{self, Error, ErrorKind, Read, Write};
+use std::net::{Shutdown, TcpListener, TcpStream};
+use std::thread;
+use std::time::{Clock, Duration, Instant};
+
+// A request as a whole may take so many times as long as a single wait.
+const WAITS: u64 = 10;
+
+// For how many seconds a client may be silent behind its response.
+const SILENCE: u32 = 1;
+
+// The most that is read of a connection behind its response: a megabyte, and as much as a head may have.
+const MAX_LEFT: u64 = 1_064_960;
+
+// How many connections are waited for at once.
+const MOST_GUESTS: usize = 256;
+
+// How many bytes are read at once.
+const PIECE: usize = 8_192;
+
+// So many looks at all connections come one right after the other. If nothing is there by then, there is a pause before the next one. It
+// grows from the first to the longest, in microseconds.
+const FIRST_LOOKS: u64 = 32;
+
+const FIRST_PAUSE: u64 = 50;
+
+const LONGEST_PAUSE: u64 = 10_000;
+
+// How long a connection is waited for: so many seconds at a time, and ten times that in all from a start on.
+#[derive(Clone, Copy)]
+struct Limits {
+    start: Instant,
+    patience: u32,
+}
+
+impl Limits {
+    fn from_now(clock: &impl Clock, patience: u32) -> io::Result<Limits> {
+        let start = Instant::now(clock)?;
+        Ok(Limits { start, patience })
+    }
+
+    // How long the next read or write may wait. `TimedOut` if there is no time left.
+    fn next(&self, clock: &impl Clock) -> io::Result<Duration> {
+        let patience = Duration::from_secs(u64::from(self.patience));
+        let whole = Duration::from_secs(WAITS * u64::from(self.patience));
+        match whole.checked_sub(self.start.elapsed(clock)?) {
+            Some(left) if !left.is_zero() => Ok(left.min(patience)),
+            _ => Err(Error::from(ErrorKind::TimedOut)),
+        }
+    }
+
+    // Whether a connection is waited for no longer, if nothing has come since then.
+    fn are_over(&self, clock: &impl Clock, since: Instant) -> io::Result<bool> {
+        let silence = since.elapsed(clock)?;
+        Ok(self.next(clock).is_err() || silence.as_secs() >= u64::from(self.patience))
+    }
+}
+
+// What is known of a connection that is waited for.
+#[derive(Clone, Copy, PartialEq, Eq)]
+enum Turn {
+    // More bytes have to come.
+    Waits,
+    // It can be served without a wait.
+    Comes,
+    // Its patience is over. What has come is read, and then its reads fail.
+    IsLate,
+}
+
+// What comes behind the bytes that have come.
+#[derive(Clone, Copy, PartialEq, Eq)]
+enum Rest {
+    // More may come.
+    Open,
+    // They end.
+    Ended,
+    // Reading has failed.
+    Failed,
+}
+
+// A connection that is waited for, with the bytes that have come, and since when there are no more.
+#[derive(Drop)]
+struct Guest {
+    stream: TcpStream,
+    limits: Limits,
+    bytes: Vec<u8>,
+    rest: Rest,
+    since: Instant,
+}
+
+impl Guest {
+    fn new(
+        alloc: Global,
+        clock: &impl Clock,
+        stream: TcpStream,
+        patience: u32,
+    ) -> io::Result<Guest> {
+        stream.set_nonblocking(true)?;
+        let limits = Limits::from_now(clock, patience)?;
+        Ok(Guest {
+            stream,
+            limits,
+            bytes: Vec::new(alloc),
+            rest: Rest::Open,
+            since: limits.start,
+        })
+    }
+
+    // Takes some bytes that have come, and tells whether there were any, and there is room for more.
+    fn hear(&mut self) -> bool {
+        let mut piece = [0; PIECE];
+        if self.bytes.reserve(PIECE).is_err() {
+            return false;
+        }
+        match self.stream.read(&mut piece) {
+            Ok(n) if n > 0 => return self.bytes.extend_from_slice(&piece[..n]).is_ok(),
+            Ok(_) => self.rest = Rest::Ended,
+            Err(error) if error.kind() == ErrorKind::WouldBlock => {}
+            Err(_) => self.rest = Rest::Failed,
+        }
+        false
+    }
+
+    // Takes all that has come.
+    fn turn(&mut self, alloc: Global, clock: &impl Clock) -> io::Result<Turn> {
+        for _ in 0..u64::MAX {
+            if !self.hear() {
+                break;
+            }
+            self.since = Instant::now(clock)?;
+            if is_enough(alloc, &self.bytes).unwrap_or(true) {
+                return Ok(Turn::Comes);
+            }
+        }
+        if self.rest != Rest::Open || self.bytes.reserve(PIECE).is_err() {
+            return Ok(Turn::Comes);
+        }
+        if self.limits.are_over(clock, self.since)? {
+            return Ok(Turn::IsLate);
+        }
+        Ok(Turn::Waits)
+    }
+}
+
+// A connection that has its response. What still comes on it is dropped, so many bytes at the most.
+#[derive(Drop)]
+struct Leaver {
+    stream: TcpStream,
+    limits: Limits,
+    left: u64,
+    since: Instant,
+}
+
+impl Leaver {
+    fn new(clock: &impl Clock, stream: TcpStream) -> io::Result<Leaver> {
+        stream.shutdown(Shutdown::Write)?;
+        stream.set_nonblocking(true)?;
+        let limits = Limits::from_now(clock, SILENCE)?;
+        Ok(Leaver {
+            stream,
+            limits,
+            left: MAX_LEFT,
+            since: limits.start,
+        })
+    }
+
+    // Drops what has come, and tells whether there may be more.
+    fn is_there(&mut self, clock: &impl Clock) -> io::Result<bool> {
+        match drop_part(&mut self.stream, self.left) {
+            Ok(left) if 0 < left && left < self.left => {
+                self.left = left;
+                self.since = Instant::now(clock)?;
+            }
+            Err(error) if error.kind() == ErrorKind::WouldBlock => {}
+            Ok(_) | Err(_) => return Ok(false),
+        }
+        Ok(!self.limits.are_over(clock, self.since)?)
+    }
+}
+
+/// The connections of a listener. Many are waited for at once, and the first whose request is whole is the next; so a client that is
+/// silent, or slow, holds up no other one. None is waited for longer than its patience: a connection on which nothing comes for so many
+/// seconds, or that is ten times as old, is the next as well, and its reads fail. A write fails after as long. A failed read or write
+/// changes nothing by itself; `serve_one` says what comes of it.
+///
+/// To close a connection while bytes of its request are on their way would have the system reset it, and the client might lose the
+/// response. So when one is ended, nothing more is sent on it. Beside the others what still comes is dropped, until the client closes, is
+/// silent for a second, or has sent a megabyte, or until ten seconds are over.
+#[derive(Drop)]
+pub struct Connections<'a, C: Clock> {
+    listener: &'a TcpListener,
+    clock: &'a C,
+    alloc: Global,
+    patience: u32,
+    guests: Vec<Guest>,
+    leavers: Vec<Leaver>,
+}
+
+impl<'a, C: Clock> Connections<'a, C> {
+    /// Those of this listener, with a patience in seconds, from 1 on. `AllocError` if there is no memory for a list of them. Later
+    /// none is needed to go on: a connection for whose bytes there is no memory is served at once.
+    pub fn new(
+        alloc: Global,
+        clock: &'a C,
+        listener: &'a TcpListener,
+        patience: u32,
+    ) -> Result<Connections<'a, C>, AllocError> {
+        Ok(Connections {
+            listener,
+            clock,
+            alloc,
+            patience,
+            guests: Vec::with_capacity(alloc, MOST_GUESTS)?,
+            leavers: Vec::with_capacity(alloc, MOST_GUESTS)?,
+        })
+    }
+
+    // Takes a connection in, to be waited for.
+    fn take_in(&mut self, stream: TcpStream) -> io::Result<()> {
+        let guest = Guest::new(self.alloc, self.clock, stream, self.patience)?;
+        self.guests.push(guest)?;
+        Ok(())
+    }
+
+    /// Waits until no connection is left that was ended, at the most ten seconds.
+    pub fn finish(mut self) {
+        for _ in 0..u64::MAX {
+            self.see_off();
+            if self.leavers.is_empty() {
+                break;
+            }
+            thread::sleep(self.clock, Duration::from_micros(LONGEST_PAUSE));
+        }
+        drop(self);
+    }
+
+    // Lets those connections go that have left, or that are waited for no longer.
+    fn see_off(&mut self) {
+        let clock = self.clock;
+        self.leavers
+            .retain_mut(|leaver| leaver.is_there(clock).unwrap_or(false));
+    }
+
+    // Waits for a connection if there is none, and takes in those that have come meanwhile.
+    fn listen(&mut self) -> io::Result<()> {
+        if self.guests.is_empty() && self.leavers.is_empty() {
+            self.listener.set_nonblocking(false)?;
+            let (stream, _) = self.listener.accept()?;
+            self.take_in(stream)?;
+        }
+        self.listener.set_nonblocking(true)?;
+        for _ in self.guests.len()..MOST_GUESTS {
+            match self.listener.accept() {
+                Ok((stream, _)) => self.take_in(stream)?,
+                // Those that are there are served first.
+                Err(_) => return Ok(()),
+            }
+        }
+        Ok(())
+    }
+
+    // The first connection whose turn it is, and whether it is late.
+    fn first(&mut self) -> io::Result<Option<(usize, bool)>> {
+        for (place, guest) in self.guests.iter_mut().enumerate() {
+            match guest.turn(self.alloc, self.clock)? {
+                Turn::Waits => {}
+                Turn::Comes => return Ok(Some((place, false))),
+                Turn::IsLate => return Ok(Some((place, true))),
+            }
+        }
+        Ok(None)
+    }
+
+    fn next(&mut self) -> io::Result<Guest> {
+        let mut pause = FIRST_PAUSE;
+        for look in 0..u64::MAX {
+            self.see_off();
+            self.listen()?;
+            match self.first()? {
+                Some((place, is_late)) if place < self.guests.len() => {
+                    let guest = self.guests.remove(place);
+                    guest.stream.set_nonblocking(is_late)?;
+                    return Ok(guest);
+                }
+                _ => {}
+            }
+            if look >= FIRST_LOOKS {
+                thread::sleep(self.clock, Duration::from_micros(pause));
+                pause = pause.saturating_mul(2).min(LONGEST_PAUSE);
+            }
+        }
+        Err(Error::from(ErrorKind::TimedOut))
+    }
+}
+
+/// Reads a connection with patience: first the bytes that had come before, then what comes.
+#[derive(Drop)]
+pub struct PatientReader<'a, C: Clock> {
+    bytes: Vec<u8>,
+    at: usize,
+    rest: Rest,
+    stream: TcpStream,
+    clock: &'a C,
+    limits: Limits,
+}
+
+impl<C: Clock> Read for PatientReader<'_, C> {
+    fn read(&mut self, buf: &mut [u8]) -> io::Result<usize> {
+        if let Some(rest) = self.bytes.get(self.at..) {
+            let n = rest.len().min(buf.len());
+            if n > 0 {
+                buf[..n].copy_from_slice(&rest[..n]);
+                self.at = self.at.saturating_add(n);
+                return Ok(n);
+            }
+        }
+        match self.rest {
+            Rest::Open => {}
+            Rest::Ended => return Ok(0),
+            Rest::Failed => return Err(Error::from(ErrorKind::ConnectionReset)),
+        }
+        let wait = self.limits.next(self.clock)?;
+        self.stream.set_read_timeout(Some(wait))?;
+        self.stream.read(buf)
+    }
+}
+
+/// Writes on a connection with patience.
+#[derive(Drop)]
+pub struct PatientWriter<'a, C: Clock> {
+    stream: TcpStream,
+    clock: &'a C,
+    limits: Limits,
+}
+
+impl<C: Clock> Write for PatientWriter<'_, C> {
+    fn write(&mut self, buf: &[u8]) -> io::Result<usize> {
+        let wait = self.limits.next(self.clock)?;
+        // What there is room for goes at once. So a write that waits begins without room, and isn't followed by another wait.
+        self.stream.set_nonblocking(true)?;
+        match self.stream.write(buf) {
+            Err(error) if error.kind() == ErrorKind::WouldBlock => {}
+            written => return written,
+        }
+        self.stream.set_nonblocking(false)?;
+        self.stream.set_write_timeout(Some(wait))?;
+        self.stream.write(buf)
+    }
+
+    fn flush(&mut self) -> io::Result<()> {
+        self.stream.flush()
+    }
+}
+
+impl<'a, C: Clock> Acceptor<PatientReader<'a, C>, PatientWriter<'a, C>> for Connections<'a, C> {
+    fn accept(&mut self) -> io::Result<(PatientReader<'a, C>, PatientWriter<'a, C>)> {
+        for _ in 0..u64::MAX {
+            let Guest {
+                stream,
+                limits,
+                bytes,
+                rest,
+                ..
+            } = self.next()?;
+            // A connection that can't be read and written is given up, and makes room.
+            if let Ok(reading) = stream.try_clone() {
+                let clock = self.clock;
+                let reader = PatientReader {
+                    bytes,
+                    at: 0,
+                    rest,
+                    stream: reading,
+                    clock,
+                    limits,
+                };
+                let writer = PatientWriter {
+                    stream,
+                    clock,
+                    limits,
+                };
+                return Ok((reader, writer));
+            }
+        }
+        Err(Error::from(ErrorKind::TimedOut))
+    }
+
+    fn end(&mut self, reader: PatientReader<'a, C>, writer: PatientWriter<'a, C>) {
+        drop(writer);
+        let PatientReader { stream, bytes, .. } = reader;
+        drop(bytes);
+        // One that fails here is closed at once, and so is one for which there is no place.
+        if let Ok(leaver) = Leaver::new(self.clock, stream) {
+            let _ = self.leavers.push(leaver);
+        }
+    }
+}
