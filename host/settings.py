@@ -12,7 +12,7 @@ FIRST_SETTINGS = """\
 # The settings of gate-host. Nobody but the owner of the repository may write this file. The host reads it again when it has changed.
 
 [host]
-# The branch that is guarded. Its bors.toml says which checks have to succeed.
+# The branch that is guarded. Its bors.toml says which checks have to succeed. This and the program are read at a start alone.
 main = {main}
 
 # The built program of the bot.
