@@ -66,7 +66,7 @@ class Checks:
         """Removes the worktrees that an earlier host has left. What ran there ends by itself."""
         remove_tree(self.places.worktrees)
         self.places.worktrees.mkdir(mode=0o700, exist_ok=True)
-        self.repository.forget_worktrees()
+        self.repository.forget_worktrees(self.places.worktrees)
 
     def ended(self, wanted: List[Test]) -> List[Result]:
         """The checks that have ended since the last look. What is tested and isn't wanted any more is stopped."""
@@ -135,7 +135,7 @@ class Checks:
         remove_tree(running.worktree)
         running.verdict.unlink(missing_ok=True)
         try:
-            self.repository.forget_worktrees()
+            self.repository.forget_worktrees(self.places.worktrees)
         except GitFailed as fault:
             self.complain(str(fault))
 

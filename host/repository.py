@@ -140,9 +140,13 @@ class Repository:
     def add_worktree(self, path: Path, commit: str, seconds: float) -> None:
         self.ask("worktree", "add", "--quiet", "--detach", "--force", str(path), commit, seconds=seconds)
 
-    def forget_worktrees(self) -> None:
-        """Forgets the worktrees whose folders are gone."""
-        self.ask("worktree", "prune", "--expire=now")
+    def forget_worktrees(self, folder: Path) -> None:
+        """Forgets the worktrees that were in a folder and are gone. Others aren't the host's, also if theirs is gone for a while."""
+        lines = self.ask("worktree", "list", "--porcelain").splitlines()
+        paths = [Path(line[len("worktree "):]) for line in lines if line.startswith("worktree ")]
+        for path in paths:
+            if path.parent == folder and not path.exists():
+                self.ask("worktree", "remove", "--force", "--force", str(path))
 
 
 def heads_of(order: dict) -> List[int]:

@@ -444,6 +444,18 @@ class RepositoryTests(InFolder):
         with self.assertRaisesRegex(GitFailed, "change 1 isn't in the repository"):
             self.repository.stage(self.order("1" * 40), 5)
 
+    def test_the_worktrees_of_others_are_not_forgotten(self):
+        own, others = self.room / "own", self.room / "others"
+        for folder in (own, others):
+            folder.mkdir()
+            for name in ("here", "gone"):
+                self.repository.add_worktree(folder / name, self.base, 60)
+            (folder / "gone").rename(self.room / f"{folder.name}-elsewhere")
+        self.repository.forget_worktrees(own)
+        lines = self.repository.ask("worktree", "list", "--porcelain").splitlines()
+        for path, is_known in ((own / "here", True), (own / "gone", False), (others / "here", True), (others / "gone", True)):
+            self.assertEqual(f"worktree {path}" in lines, is_known, path)
+
     def test_landing_compares(self):
         made = self.repository.stage(self.order(self.one), 5).commit
         land = {"order": "land", "batch": 3, "base": self.base, "commit": made}
