@@ -10,12 +10,14 @@ import socket
 import sqlite3
 import subprocess
 import time
+from collections import deque
 from contextlib import closing, suppress
 from http.client import HTTPConnection
 from importlib.machinery import SourceFileLoader
 from importlib.util import module_from_spec, spec_from_loader
 from itertools import count
 from pathlib import Path
+from threading import Lock
 
 TOP = Path(__file__).resolve().parent.parent
 BY_LLVM = TOP / "crates/gate_bot/out/gate_bot"
@@ -212,13 +214,19 @@ class Server:
         want("how it ended", self.ended(), (1, b"", f"gate: {word}\n".encode()) if word else (0, b"", b""))
 
 
+# The ports that were given last. Of two servers that are started at the same time none has its port yet.
+LAST_PORTS, PORTS_LOCK = deque(maxlen=1000), Lock()
+
+
 def free_port():
     """A port that nobody has, below those that clients get."""
     while True:
         port = random.randrange(20_000, 30_000)
-        with socket.socket() as it, suppress(OSError):
+        with PORTS_LOCK, socket.socket() as it, suppress(OSError):
             it.bind(("127.0.0.1", port))
-            return port
+            if port not in LAST_PORTS:
+                LAST_PORTS.append(port)
+                return port
 
 
 def bytes_until(stream, end):
