@@ -14,11 +14,13 @@ use Rattle.serde_json.specs.declared.value.Value.{Value}
 use Rattle.std.specs.Borrow.{Bor}
 use Rattle.gate_rules.specs.declared.role.Role.{Role as RoleOf}
 use Rattle.gate_rules.specs.declared.role.Role.TheVariants.{Nobody, Member, Reviewer}
+use Rattle.gate_state.specs.declared.act.ChangeFact.TheVariants.{Opened, Pushed, Closed, Labeled, Unlabeled, Review}
+use Rattle.gate_state.specs.declared.act.Fact.TheVariants.{Role, Settings, Base, Staged, Conflict, Status, Refused, Tick}
 use Rattle.gate_state.specs.declared.act.StatusState.{StatusState}
 use Rattle.gate_state.specs.declared.act.StatusState.TheVariants.{Success, Failure, Error, Pending}
 use Rattle.gate_store.specs.declared.delivery.Delivery.{Delivery}
 use Rattle.gate_store.specs.declared.delivery.Event.{Event}
-use Rattle.gate_store.specs.declared.delivery.Event.TheVariants.{Comment, Role, Settings, Base, Opened, Pushed, Closed, Labeled, Unlabeled, Review, Staged, Conflict, Status, Refused, Tick}
+use Rattle.gate_store.specs.declared.delivery.Event.TheVariants.{Comment, On, Other}
 use Rattle.gate_hook.specs.declared.field.Field.{Field}
 use Rattle.gate_hook.specs.declared.field.Field.TheVariants as field
 use Rattle.gate_hook.specs.declared.reading.DeliveryFault.{DeliveryFault}
@@ -139,47 +141,47 @@ abbrev pub role_in : Data → Result Event DeliveryFault
 role_in d = do
   person ← name_at field.Person d
   role ← role_at d
-  Ok (Role person role)
+  Ok (Other (Role person role))
 
 abbrev pub settings_in : Data → Result Event DeliveryFault
 settings_in d = do
   text ← text_at field.Text d
-  Ok (Settings text)
+  Ok (Other (Settings text))
 
 abbrev pub opened_in : Data → Result Event DeliveryFault
 opened_in d = do
   change ← change_at d
   author ← name_at field.Author d
   head ← commit_at field.Head d
-  Ok (Opened change author head)
+  Ok (On change (Opened author head))
 
 abbrev pub base_in : Data → Result Event DeliveryFault
 base_in d = do
   commit ← commit_at field.Commit d
-  Ok (Base commit)
+  Ok (Other (Base commit))
 
 abbrev pub pushed_in : Data → Result Event DeliveryFault
 pushed_in d = do
   change ← change_at d
   head ← commit_at field.Head d
-  Ok (Pushed change head)
+  Ok (On change (Pushed head))
 
 abbrev pub closed_in : Data → Result Event DeliveryFault
 closed_in d = do
   change ← change_at d
-  Ok (Closed change)
+  Ok (On change Closed)
 
 abbrev pub labeled_in : Data → Result Event DeliveryFault
 labeled_in d = do
   change ← change_at d
   label ← label_at d
-  Ok (Labeled change label)
+  Ok (On change (Labeled label))
 
 abbrev pub unlabeled_in : Data → Result Event DeliveryFault
 unlabeled_in d = do
   change ← change_at d
   label ← label_at d
-  Ok (Unlabeled change label)
+  Ok (On change (Unlabeled label))
 
 abbrev pub review_in : Data → Result Event DeliveryFault
 review_in d = do
@@ -187,35 +189,35 @@ review_in d = do
   person ← name_at field.Person d
   head ← commit_at field.Head d
   approves ← approves_at d
-  Ok (Review change person head approves)
+  Ok (On change (Review person head approves))
 
 abbrev pub staged_in : Data → Result Event DeliveryFault
 staged_in d = do
   batch ← batch_at d
   commit ← commit_at field.Commit d
-  Ok (Staged batch commit)
+  Ok (Other (Staged batch commit))
 
 abbrev pub conflict_in : Data → Result Event DeliveryFault
 conflict_in d = do
   batch ← batch_at d
-  Ok (Conflict batch)
+  Ok (Other (Conflict batch))
 
 abbrev pub status_in : Data → Result Event DeliveryFault
 status_in d = do
   commit ← commit_at field.Commit d
   name ← context_at d
   state ← state_at d
-  Ok (Status commit name state)
+  Ok (Other (Status commit name state))
 
 abbrev pub refused_in : Data → Result Event DeliveryFault
 refused_in d = do
   batch ← batch_at d
-  Ok (Refused batch)
+  Ok (Other (Refused batch))
 
 abbrev pub tick_in : Data → Result Event DeliveryFault
 tick_in d = do
   now ← now_at d
-  Ok (Tick now)
+  Ok (Other (Tick now))
 
 abbrev pub event_called : List ℕ → Data → Result Event DeliveryFault
 event_called kind d =

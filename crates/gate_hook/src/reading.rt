@@ -4,7 +4,7 @@ ghost use Rattle.gate_hook.specs.Deliveries as deliveries;
 ghost use Rattle.gate_hook.specs.Deliveries.{Reads, delivery_of};
 
 use crate::field::Field;
-use gate_queue::StatusState;
+use gate_queue::{ChangeFact, Fact, StatusState};
 use gate_rules::Role;
 use gate_store::{Delivery, Event, Moment};
 use gate_text::{ChangeNo, Commit, Context, DeliveryId, Label, Name, Text, TextFault, unless_bad};
@@ -175,14 +175,14 @@ fn role_in(alloc: Global, value: &Value) -> Result<Event, DeliveryFault>
 {
     let person = name_at(alloc, Field::Person, value)?;
     let role = role_at(value)?;
-    Ok(Event::Role { person, role })
+    Ok(Event::Other(Fact::Role { person, role }))
 }
 
 fn settings_in(alloc: Global, value: &Value) -> Result<Event, DeliveryFault>
     ensures { Reads result (deliveries.settings_in (view value.now)) }
 {
     let text = Text::from_str(alloc, text_at(Field::Text, value)?)?;
-    Ok(Event::Settings { text })
+    Ok(Event::Other(Fact::Settings { text }))
 }
 
 fn opened_in(alloc: Global, value: &Value) -> Result<Event, DeliveryFault>
@@ -191,18 +191,15 @@ fn opened_in(alloc: Global, value: &Value) -> Result<Event, DeliveryFault>
     let change = change_at(value)?;
     let author = name_at(alloc, Field::Author, value)?;
     let head = commit_at(Field::Head, value)?;
-    Ok(Event::Opened {
-        change,
-        author,
-        head,
-    })
+    let fact = ChangeFact::Opened { author, head };
+    Ok(Event::On { change, fact })
 }
 
 fn base_in(value: &Value) -> Result<Event, DeliveryFault>
     ensures { Reads result (deliveries.base_in (view value.now)) }
 {
     let commit = commit_at(Field::Commit, value)?;
-    Ok(Event::Base { commit })
+    Ok(Event::Other(Fact::Base { commit }))
 }
 
 fn pushed_in(value: &Value) -> Result<Event, DeliveryFault>
@@ -210,14 +207,16 @@ fn pushed_in(value: &Value) -> Result<Event, DeliveryFault>
 {
     let change = change_at(value)?;
     let head = commit_at(Field::Head, value)?;
-    Ok(Event::Pushed { change, head })
+    let fact = ChangeFact::Pushed { head };
+    Ok(Event::On { change, fact })
 }
 
 fn closed_in(value: &Value) -> Result<Event, DeliveryFault>
     ensures { Reads result (deliveries.closed_in (view value.now)) }
 {
     let change = change_at(value)?;
-    Ok(Event::Closed { change })
+    let fact = ChangeFact::Closed;
+    Ok(Event::On { change, fact })
 }
 
 fn labeled_in(alloc: Global, value: &Value) -> Result<Event, DeliveryFault>
@@ -225,7 +224,8 @@ fn labeled_in(alloc: Global, value: &Value) -> Result<Event, DeliveryFault>
 {
     let change = change_at(value)?;
     let label = label_at(alloc, value)?;
-    Ok(Event::Labeled { change, label })
+    let fact = ChangeFact::Labeled { label };
+    Ok(Event::On { change, fact })
 }
 
 fn unlabeled_in(alloc: Global, value: &Value) -> Result<Event, DeliveryFault>
@@ -233,7 +233,8 @@ fn unlabeled_in(alloc: Global, value: &Value) -> Result<Event, DeliveryFault>
 {
     let change = change_at(value)?;
     let label = label_at(alloc, value)?;
-    Ok(Event::Unlabeled { change, label })
+    let fact = ChangeFact::Unlabeled { label };
+    Ok(Event::On { change, fact })
 }
 
 fn review_in(alloc: Global, value: &Value) -> Result<Event, DeliveryFault>
@@ -243,12 +244,12 @@ fn review_in(alloc: Global, value: &Value) -> Result<Event, DeliveryFault>
     let person = name_at(alloc, Field::Person, value)?;
     let head = commit_at(Field::Head, value)?;
     let approves = approves_at(value)?;
-    Ok(Event::Review {
-        change,
+    let fact = ChangeFact::Review {
         person,
         head,
         approves,
-    })
+    };
+    Ok(Event::On { change, fact })
 }
 
 fn staged_in(value: &Value) -> Result<Event, DeliveryFault>
@@ -256,14 +257,14 @@ fn staged_in(value: &Value) -> Result<Event, DeliveryFault>
 {
     let batch = batch_at(value)?;
     let commit = commit_at(Field::Commit, value)?;
-    Ok(Event::Staged { batch, commit })
+    Ok(Event::Other(Fact::Staged { batch, commit }))
 }
 
 fn conflict_in(value: &Value) -> Result<Event, DeliveryFault>
     ensures { Reads result (deliveries.conflict_in (view value.now)) }
 {
     let batch = batch_at(value)?;
-    Ok(Event::Conflict { batch })
+    Ok(Event::Other(Fact::Conflict { batch }))
 }
 
 fn status_in(alloc: Global, value: &Value) -> Result<Event, DeliveryFault>
@@ -272,25 +273,25 @@ fn status_in(alloc: Global, value: &Value) -> Result<Event, DeliveryFault>
     let commit = commit_at(Field::Commit, value)?;
     let name = context_at(alloc, value)?;
     let state = state_at(value)?;
-    Ok(Event::Status {
+    Ok(Event::Other(Fact::Status {
         commit,
         name,
         state,
-    })
+    }))
 }
 
 fn refused_in(value: &Value) -> Result<Event, DeliveryFault>
     ensures { Reads result (deliveries.refused_in (view value.now)) }
 {
     let batch = batch_at(value)?;
-    Ok(Event::Refused { batch })
+    Ok(Event::Other(Fact::Refused { batch }))
 }
 
 fn tick_in(value: &Value) -> Result<Event, DeliveryFault>
     ensures { Reads result (deliveries.tick_in (view value.now)) }
 {
     let now = now_at(value)?;
-    Ok(Event::Tick { now })
+    Ok(Event::Other(Fact::Tick { now }))
 }
 
 fn event_called(alloc: Global, kind: &str, value: &Value) -> Result<Event, DeliveryFault>

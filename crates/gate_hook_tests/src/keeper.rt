@@ -2,7 +2,7 @@ ghost use Rattle.std.specs.Prelude.{◌≤◌};
 
 use crate::checks::check_words;
 use crate::parts::{cut, row_of};
-use gate_queue::{Fault, Gate};
+use gate_queue::{Fact, Fault, Gate};
 use gate_rules::Role;
 use gate_store::{Answer, Book, Delivery, Event, Keeper, PlainBook, answer_text};
 use gate_text::{ChangeNo, Commit, DeliveryId, Name, Text};
@@ -31,13 +31,13 @@ fn commit(rt: &impl Abort, alloc: Global, digit: &str) -> Commit {
 fn event(rt: &impl Abort, alloc: Global, line: &str) -> Event {
     let (word, rest) = cut(line);
     match word {
-        "base" => Event::Base {
+        "base" => Event::Other(Fact::Base {
             commit: commit(rt, alloc, rest),
-        },
-        "role" => Event::Role {
+        }),
+        "role" => Event::Other(Fact::Role {
             person: name(rt, alloc, rest),
             role: Role::Reviewer,
-        },
+        }),
         _ => Event::Comment {
             change: ChangeNo::from_number(1).expect(rt, "a number"),
             person: name(rt, alloc, "alice"),

@@ -29,15 +29,19 @@ use Rattle.gate_rules.specs.declared.role.Role.TheVariants.{Nobody, Member, Revi
 use Rattle.gate_rules.specs.declared.rule.Rule.{Rule}
 use Rattle.gate_rules.specs.declared.change.Phase.TheVariants as phase
 use Rattle.gate_state.specs.Counts.{uses}
-use Rattle.gate_state.specs.Acts.{subject, on}
-use Rattle.gate_state.specs.declared.act.Act.{Act}
-use Rattle.gate_state.specs.declared.act.Act.TheVariants.{Spoken, Role, Settings, Base, Opened, Pushed, Closed, Labeled, Unlabeled, Review, Staged, Conflict, Status, Refused, Tick}
+use Rattle.gate_state.specs.Acts.{on}
+use Rattle.gate_state.specs.declared.act.Act.TheVariants.{On, Other}
+use Rattle.gate_state.specs.declared.act.ChangeFact.TheVariants.{Opened, Pushed, Closed, Labeled, Unlabeled, Review}
+use Rattle.gate_state.specs.declared.act.Deed.{Deed}
+use Rattle.gate_state.specs.declared.act.Deed.TheVariants.{Said, Happened}
+use Rattle.gate_state.specs.declared.act.Fact.{Fact}
+use Rattle.gate_state.specs.declared.act.Fact.TheVariants.{Role, Settings, Base, Status, Refused, Tick}
 use Rattle.gate_state.specs.declared.reply.Order.{Order}
 use Rattle.gate_state.specs.declared.reply.Order.TheVariants.{Stage, Land, Notice}
 use Rattle.gate_state.specs.declared.reply.Why.{Why}
 use Rattle.gate_state.specs.declared.reply.Why.TheVariants as why
 use Rattle.gate_queue.specs.History.{ends_why, order_ends, tells_of_try, order_ends_try, tried_back, Event, did, gave, given, last_of, said_by, role_said, settings_back, labels_back, reviews_back, author_back, approvers_back, landing_back, landed_back, landings, change_of, change_back, look_back}
-use Rattle.gate_queue.specs.Machine.{broken, is_good, bad_settings, effect, notices, notice_if, settings_notices, are_present, losing_on, quiet, under, accepted, lone, lone_altered, lone_notices, failing, try_ended, head_on, first_order, starting, with_landing, to_land, landed, released, released_at, released_on, all_altered, altered, approved_by, with_try, without_try, with_priority, with_delegates, with_author_as_delegate, without_delegates, opened, closed, pushed, labeled, without_label, reviewed, with_settled, settled}
+use Rattle.gate_queue.specs.Machine.{broken, is_good, bad_settings, effect, notices, notice_if, settings_notices, are_present, losing_on, quiet, under, accepted, lone_altered, lone_notices, head_on, first_order, starting, with_landing, to_land, landed, released, released_at, released_on, all_altered, altered, approved_by, with_try, without_try, with_priority, with_delegates, with_author_as_delegate, without_delegates, opened, closed, pushed, labeled, without_label, reviewed, with_settled, settled, ending, spent, lone_on}
 use Rattle.gate_state.specs.declared.batch.Batch.{Batch}
 use Rattle.gate_state.specs.declared.batch.Branch.{Branch}
 use Rattle.gate_state.specs.declared.batch.Stage.{Stage as StageOf}
@@ -54,18 +58,16 @@ use Rattle.gate_queue.proofs.Next.{priority_next, author_next, names_next, none_
 use Rattle.gate_queue.proofs.Premises.{fits, shut, fresh, still_here, tried_here}
 use Rattle.gate_queue.proofs.States.{released_twice}
 use Rattle.gate_queue.proofs.Unseen.{Unseen}
+use Rattle.gate_state.specs.declared.batch.Branch.TheVariants.{Staging, Trying}
 
--- ONE ACT ON A CHANGE
-altered_next : (desk : DeskView) (events : List Event) (n : ℕ) (alter : Change → Change) (act : Act) → look desk ≡ look_back events
-    → look_back (did act ∷ events) ≡ record (look_back events) { change = change_back (did act ∷ events) }
-    → ((c : ℕ) → (on c act ≡ cond (eqb c n) (Some act) None) × (rest_after (did act) events c ≡ rest_back events c))
-    → ((c : ℕ) → eqb c n ≡ true → option_map alter (change_back events c) ≡ change_after events c (rest_back events c) (Some act))
-    → look (altered desk n alter) ≡ look_back (did act ∷ events)
-altered_next desk events n alter act same rest about next =
+-- ONE DEED ON A CHANGE
+altered_next : (desk : DeskView) (events : List Event) (n : ℕ) (alter : Change → Change) (deed : Deed) → look desk ≡ look_back events
+    → ((c : ℕ) → eqb c n ≡ true → option_map alter (change_back events c) ≡ change_after events c (rest_back events c) (Some deed))
+    → look (altered desk n alter) ≡ look_back (did (On n deed) ∷ events)
+altered_next desk events n alter deed same next =
     altered_look desk n alter
     ∙ ap (λ (s : Look). record s { change = λ c. cond (eqb c n) (option_map alter (s.change c)) (s.change c) }) same
-    ∙ (λ i. record (look_back events) { change = λ c. by_number events c n act (option_map alter) (about c).0 (about c).1 (next c) (eqb c n) refl i })
-    ∙ sym rest
+    ∙ (λ i. record (look_back events) { change = λ c. by_number events c n deed (option_map alter) (next c) (eqb c n) refl i })
 
 -- ROLES
 role_chosen : (b : Bool) (role : RoleOf) (had : Option RoleOf) → unwrap_or (cond b (Some role) had) Nobody ≡ cond b role (unwrap_or had Nobody)
@@ -86,13 +88,13 @@ roles_next roles person Nobody p = rw (get-remove nat_list_cmp_total roles perso
 roles_next roles person Member p = rw (get-insert nat_list_cmp_total roles person Member p, is_eq-slice_cmp p person) (role_chosen (bytes_eq p person) Member _)
 roles_next roles person Reviewer p = rw (get-insert nat_list_cmp_total roles person Reviewer p, is_eq-slice_cmp p person) (role_chosen (bytes_eq p person) Reviewer _)
 
-pub role_next : (desk : DeskView) (events : List Event) (person : List ℕ) (role : RoleOf) → look desk ≡ look_back events → look (with_role desk person role) ≡ look_back (did (Role person role) ∷ events)
+pub role_next : (desk : DeskView) (events : List Event) (person : List ℕ) (role : RoleOf) → look desk ≡ look_back events → look (with_role desk person role) ≡ look_back (did (Other (Role person role)) ∷ events)
 role_next desk events person role same =
     (λ i. record (look desk) { role = λ p. roles_next desk.roles person role p i })
     ∙ ap (λ (s : Look). record s { role = λ p. cond (bytes_eq p person) role (s.role p) }) same
     ∙ (λ i. record (look_back events) {
       role = λ p. (sym (role_told (bytes_eq p person) role (last_of (said_by (role_said p)) events))) i;
-      change = λ c. (sym (elsewhere events c (Role person role) refl refl)) i;
+      change = λ c. (sym (elsewhere events c (Other (Role person role)) refl refl)) i;
     })
 
 -- SETTINGS
@@ -100,28 +102,28 @@ changes_settled : (desk : DeskView) (settings : SettingsView) (c : ℕ) → fini
 changes_settled desk settings c = get-mapped nat_cmp (settled settings) nat_cmp_total desk.changes c
 
 new_settings_next : (desk : DeskView) (events : List Event) (text : List ℕ) (settings : SettingsView) → settings_of text ≡ Ok settings → look desk ≡ look_back events
-    → look (with_settings (with_settled desk settings) settings) ≡ look_back (did (Settings text) ∷ events)
+    → look (with_settings (with_settled desk settings) settings) ≡ look_back (did (Other (Settings text)) ∷ events)
 new_settings_next desk events text settings read same =
     (λ i. record (look desk) { change = λ c. changes_settled desk settings c i; settings = Some settings })
     ∙ ap (λ (s : Look). record s { change = λ c. option_map (settled settings) (s.change c); settings = Some settings }) same
     ∙ (λ i. record (look_back events) { change = λ c. settled_next events c text settings read i; settings = (sym (taken_settings events 0 text settings read)) i })
 
 old_settings_next : (desk : DeskView) (events : List Event) (text : List ℕ) (settings : SettingsView) → settings_of text ≡ Ok settings → look desk ≡ look_back events
-    → settings_back events ≡ Some settings → look desk ≡ look_back (did (Settings text) ∷ events)
+    → settings_back events ≡ Some settings → look desk ≡ look_back (did (Other (Settings text)) ∷ events)
 old_settings_next desk events text settings read same present =
     same
     ∙ (λ i. record (look_back events) { change = λ c. unsettled_next events c text settings read present i; settings = (present ∙ sym (taken_settings events 0 text settings read)) i })
 
 settings_by : (s : State) (events : List Event) (text : List ℕ) (settings : SettingsView) → settings_of text ≡ Ok settings → look s.desk ≡ look_back events
     → (present : Option SettingsView) → s.desk.settings ≡ present → (b : Bool) → option_map_or (λ p. same_settings p settings) present false ≡ b
-    → look (if b then quiet s else under settings s).state.desk ≡ look_back (did (Settings text) ∷ events)
+    → look (if b then quiet s else under settings s).state.desk ≡ look_back (did (Other (Settings text)) ∷ events)
 settings_by s events text settings read same present is false other = new_settings_next s.desk events text settings read same
 settings_by s events text settings read same None is true equal = cc equal
 settings_by s events text settings read same (Some present) is true equal =
     old_settings_next s.desk events text settings read same (sym (ap (λ (l : Look). l.settings) same) ∙ is ∙ ap Some (same_settings-is present settings equal))
 
 pub settings_next : (s : State) (events : List Event) (text : List ℕ) (read : Result SettingsView SettingsFault) → settings_of text ≡ read → bad_settings read ≡ None
-    → look s.desk ≡ look_back events → look (accepted s read).state.desk ≡ look_back (did (Settings text) ∷ events)
+    → look s.desk ≡ look_back events → look (accepted s read).state.desk ≡ look_back (did (Other (Settings text)) ∷ events)
 settings_next s events text (Ok settings) read good same = settings_by s events text settings read same s.desk.settings refl _ refl
 settings_next s events text (Err fault) read good same = cc good
 
@@ -131,26 +133,23 @@ one_rule (Some rule) holds = cc holds
 
 -- OPENING
 opening_next : (desk : DeskView) (events : List Event) (n : ℕ) (author head : List ℕ) → look desk ≡ look_back events
-    → ((c : ℕ) → eqb c n ≡ true → Some (opened author head (change_back events c)) ≡ change_after events c (rest_back events c) (Some (Opened n author head)))
-    → look (effect desk (Opened n author head)) ≡ look_back (did (Opened n author head) ∷ events)
+    → ((c : ℕ) → eqb c n ≡ true → Some (opened author head (change_back events c)) ≡ change_after events c (rest_back events c) (Some (Happened (Opened author head))))
+    → look (effect desk n (Happened (Opened author head))) ≡ look_back (did (On n (Happened (Opened author head))) ∷ events)
 opening_next desk events n author head same next =
     (λ i. record (look desk) { change = λ c. opened_at desk n author head c i })
     ∙ ap (λ (s : Look). record s { change = λ c. cond (eqb c n) (Some (opened author head (s.change c))) (s.change c) }) same
     ∙ (λ i. record (look_back events) {
-      change = λ c. by_number events c n (Opened n author head) (λ had. Some (opened author head had)) refl refl (next c) (eqb c n) refl i;
+      change = λ c. by_number events c n (Happened (Opened author head)) (λ had. Some (opened author head had)) (next c) (eqb c n) refl i;
     })
 
 -- ACTS THAT CHANGE NO CHANGE
 -- a line that does nothing
-quiet_next : (desk : DeskView) (events : List Event) (n : ℕ) (act : Act) → look desk ≡ look_back events
-    → look_back (did act ∷ events) ≡ record (look_back events) { change = change_back (did act ∷ events) }
-    → ((c : ℕ) → (on c act ≡ cond (eqb c n) (Some act) None) × (rest_after (did act) events c ≡ rest_back events c))
-    → ((c : ℕ) → eqb c n ≡ true → option_map (λ change. change) (change_back events c) ≡ change_after events c (rest_back events c) (Some act))
-    → look desk ≡ look_back (did act ∷ events)
-quiet_next desk events n act same rest about next =
+quiet_next : (desk : DeskView) (events : List Event) (n : ℕ) (deed : Deed) → look desk ≡ look_back events
+    → ((c : ℕ) → eqb c n ≡ true → option_map (λ change. change) (change_back events c) ≡ change_after events c (rest_back events c) (Some deed))
+    → look desk ≡ look_back (did (On n deed) ∷ events)
+quiet_next desk events n deed same next =
     same
-    ∙ (λ i. record (look_back events) { change = λ c. (kept_by (eqb c n) (change_back events c) ∙ by_number events c n act (option_map (λ change. change)) (about c).0 (about c).1 (next c) (eqb c n) refl) i })
-    ∙ sym rest where
+    ∙ (λ i. record (look_back events) { change = λ c. (kept_by (eqb c n) (change_back events c) ∙ by_number events c n deed (option_map (λ change. change)) (next c) (eqb c n) refl) i }) where
       kept_by : (b : Bool) (change : Option Change) → change ≡ cond b (option_map (λ c. c) change) change
       kept_by true None = refl
       kept_by true (Some change) = refl
@@ -158,21 +157,21 @@ quiet_next desk events n act same rest about next =
 
 -- a status, of which the open changes are told whose head its commit is
 pub status_look : (desk : DeskView) (events : List Event) (commit name : List ℕ) (state : StatusState) → look desk ≡ look_back events
-    → look (with_told commit name (is_good state) desk) ≡ look_back (did (Status commit name state) ∷ events)
+    → look (with_told commit name (is_good state) desk) ≡ look_back (did (Other (Status commit name state)) ∷ events)
 status_look desk events commit name state same =
     (λ i. record (look desk) { change = λ c. get-mapped nat_cmp (told_at commit name (is_good state)) nat_cmp_total desk.changes c i })
     ∙ ap (λ (s : Look). record s { change = λ c. option_map (told_at commit name (is_good state)) (s.change c) }) same
     ∙ (λ i. record (look_back events) { change = λ c. status_next events c commit name state i })
 
 -- a fact about a batch, of which the rules read nothing; and a tick, which sets the clock
-pub fact_next : (events : List Event) (act : Act) → look_back (did act ∷ events) ≡ record (look_back events) { change = change_back (did act ∷ events) }
-    → ((c : ℕ) → (on c act ≡ None) × (rest_after (did act) events c ≡ rest_back events c)) → look_back events ≡ look_back (did act ∷ events)
-fact_next events act rest about = (λ i. record (look_back events) { change = λ c. (sym (elsewhere events c act (about c).0 (about c).1)) i }) ∙ sym rest
+pub fact_next : (events : List Event) (fact : Fact) → look_back (did (Other fact) ∷ events) ≡ record (look_back events) { change = change_back (did (Other fact) ∷ events) }
+    → ((c : ℕ) → rest_after (did (Other fact)) events c ≡ rest_back events c) → look_back events ≡ look_back (did (Other fact) ∷ events)
+fact_next events fact rest about = (λ i. record (look_back events) { change = λ c. (sym (elsewhere events c (Other fact) refl (about c))) i }) ∙ sym rest
 
-pub tick_next : (desk : DeskView) (events : List Event) (now : ℕ) → look desk ≡ look_back events → look (with_clock desk now) ≡ look_back (did (Tick now) ∷ events)
+pub tick_next : (desk : DeskView) (events : List Event) (now : ℕ) → look desk ≡ look_back events → look (with_clock desk now) ≡ look_back (did (Other (Tick now)) ∷ events)
 tick_next desk events now same =
     ap (λ (s : Look). record s { clock = now }) same
-    ∙ (λ i. record (look_back events) { change = λ c. (sym (elsewhere events c (Tick now) refl refl)) i; clock = now })
+    ∙ (λ i. record (look_back events) { change = λ c. (sym (elsewhere events c (Other (Tick now)) refl refl)) i; clock = now })
 
 -- ORDERS that end no approval and no try, and leave what is landing and has landed, leave all that the rules read.
 abbrev pub AreMild : List Event → List Order → Type 0
@@ -217,9 +216,9 @@ stage_mild events desk None (batch ∷ waiting) never = by desk.base where
 
 pub starting_look : (branch : Branch) (s : State) (events : List Event) (now : ℕ) → look s.desk ≡ look_back events
     → ((number : ℕ) → 1 ≤ uses number (lane_of branch s.queue).waiting → landings number events ≡ 0)
-    → look (starting branch now s).state.desk ≡ look_back (given events (starting branch now s).orders)
+    → look (starting now branch s).state.desk ≡ look_back (given events (starting now branch s).orders)
 starting_look branch s events now same never =
-    same ∙ sym (look_given events (starting branch now s).orders (stage_mild events s.desk (lane_of branch s.queue).running (lane_of branch s.queue).waiting never))
+    same ∙ sym (look_given events (starting now branch s).orders (stage_mild events s.desk (lane_of branch s.queue).running (lane_of branch s.queue).waiting never))
 
 -- A BATCH FAILS, OR A TRY ENDS: the notice to its one change, if it has one, alters the change as it is altered on the desk.
 lone_look : (alter : Change → Change) (why : Why) (desk : DeskView) (events : List Event) (one : Option ℕ) → look desk ≡ look_back events
@@ -250,25 +249,20 @@ only_of_try why tells = by (ends_why why) refl where
   by true is = sym tells ∙ not_of_try why is
   by false is = refl
 
-pub failing_look : (s : State) (events : List Event) (why : Why) → ends_why why ≡ true → look s.desk ≡ look_back events
-    → look (failing why s).state.desk ≡ look_back (given events (failing why s).orders)
-failing_look s events why ends same = lone_look without_approval why s.desk events (lone s.queue.staging.running) same at where
-  no_try : (n c : ℕ) → order_ends_try c (Notice n why) ≡ false
-  no_try n c = λ i. not_of_try why ends i && eqb c n
+-- what a notice ends, by the branch of the batch that it tells of
+abbrev pub ends_on : Branch → Why → Bool
+ends_on Staging why = ends_why why
+ends_on Trying why = tells_of_try why
 
-  at : (n c : ℕ) (b : Bool) → eqb c n ≡ b → cond b (option_map without_approval (change_back events c)) (change_back events c) ≡ change_back (gave (Notice n why) ∷ events) c
-  at n c true is = sym (order_ended events c (Notice n why) ((λ i. ends i && eqb c n) ∙ is) (no_try n c) refl)
-  at n c false is = sym (order_elsewhere events c (Notice n why) ((λ i. ends i && eqb c n) ∙ is) (no_try n c) refl)
-
-pub try_ended_look : (s : State) (events : List Event) (why : Why) → tells_of_try why ≡ true → look s.desk ≡ look_back events
-    → look (try_ended why s).state.desk ≡ look_back (given events (try_ended why s).orders)
-try_ended_look s events why tells same = lone_look without_try why s.desk events (lone s.queue.trying.running) same at where
-  no_end : (n c : ℕ) → order_ends c (Notice n why) ≡ false
-  no_end n c = λ i. only_of_try why tells i && eqb c n
-
-  at : (n c : ℕ) (b : Bool) → eqb c n ≡ b → cond b (option_map without_try (change_back events c)) (change_back events c) ≡ change_back (gave (Notice n why) ∷ events) c
-  at n c true is = sym (order_ended_try events c (Notice n why) ((λ i. tells i && eqb c n) ∙ is) (no_end n c) refl)
-  at n c false is = sym (order_elsewhere events c (Notice n why) (no_end n c) ((λ i. tells i && eqb c n) ∙ is) refl)
+pub ending_look : (branch : Branch) (s : State) (events : List Event) (why : Why) → ends_on branch why ≡ true → look s.desk ≡ look_back events
+    → look (ending branch why s).state.desk ≡ look_back (given events (ending branch why s).orders)
+ending_look branch s events why ends same = lone_look (spent branch) why s.desk events (lone_on branch s) same (at branch ends) where
+  at : (b : Branch) → ends_on b why ≡ true → (n c : ℕ) (here : Bool) → eqb c n ≡ here
+      → cond here (option_map (spent b) (change_back events c)) (change_back events c) ≡ change_back (gave (Notice n why) ∷ events) c
+  at Staging ends n c true is = sym (order_ended events c (Notice n why) ((λ i. ends i && eqb c n) ∙ is) (λ i. not_of_try why ends i && eqb c n) refl)
+  at Staging ends n c false is = sym (order_elsewhere events c (Notice n why) ((λ i. ends i && eqb c n) ∙ is) (λ i. not_of_try why ends i && eqb c n) refl)
+  at Trying ends n c true is = sym (order_ended_try events c (Notice n why) ((λ i. ends i && eqb c n) ∙ is) (λ i. only_of_try why ends i && eqb c n) refl)
+  at Trying ends n c false is = sym (order_elsewhere events c (Notice n why) (λ i. only_of_try why ends i && eqb c n) ((λ i. ends i && eqb c n) ∙ is) refl)
 
 -- A BATCH IS TO LAND
 pub land_look : (s : State) (events : List Event) (batch : Batch) (base commit : List ℕ) → look s.desk ≡ look_back events → Lands events None → Members events (Some batch)
@@ -315,36 +309,36 @@ module _ (desk : DeskView) (events : List Event) (same : look desk ≡ look_back
     outside : landing_back events c ≡ false → change_back events c ≡ change_after events c (record (rest_back events c) { landing = false }) None
     outside none = sym (unaltered events c) ∙ (λ i. change_after events c (record (rest_back events c) { landing = none i }) None)
 
-  pub base_look : (base : List ℕ) (running : Option Batch) → Lands events running → Members events running → look (with_base (released_on (Some base) desk running) base) ≡ look_back (did (Base base) ∷ events)
+  pub base_look : (base : List ℕ) (running : Option Batch) → Lands events running → Members events running → look (with_base (released_on (Some base) desk running) base) ≡ look_back (did (Other (Base base)) ∷ events)
   base_look base None all members = nothing all where
-    nothing : Lands events None → look (with_base desk base) ≡ look_back (did (Base base) ∷ events)
+    nothing : Lands events None → look (with_base desk base) ≡ look_back (did (Other (Base base)) ∷ events)
     nothing none =
         ap (λ (l : Look). record l { base = Some base }) same
-        ∙ (λ i. record (look_back events) { change = λ c. (sym (elsewhere events c (Base base) refl (base_rest events base c none))) i; base = Some base })
+        ∙ (λ i. record (look_back events) { change = λ c. (sym (elsewhere events c (Other (Base base)) refl (base_rest events base c none))) i; base = Some base })
   base_look base (Some batch) all members = by batch.stage refl where
-    nothing : lands (Some batch) ≡ false → look (with_base desk base) ≡ look_back (did (Base base) ∷ events)
+    nothing : lands (Some batch) ≡ false → look (with_base desk base) ≡ look_back (did (Other (Base base)) ∷ events)
     nothing not_so =
         let none : Lands events None = λ n. all n ∙ none_lands n (Some batch) not_so in
         ap (λ (l : Look). record l { base = Some base }) same
-        ∙ (λ i. record (look_back events) { change = λ c. (sym (elsewhere events c (Base base) refl (base_rest events base c none))) i; base = Some base })
+        ∙ (λ i. record (look_back events) { change = λ c. (sym (elsewhere events c (Other (Base base)) refl (base_rest events base c none))) i; base = Some base })
 
-    by : (at : StageOf) → batch.stage ≡ at → look (with_base (released_at (Some base) desk batch.changes at) base) ≡ look_back (did (Base base) ∷ events)
+    by : (at : StageOf) → batch.stage ≡ at → look (with_base (released_at (Some base) desk batch.changes at) base) ≡ look_back (did (Other (Base base)) ∷ events)
     by stage.Waiting at = nothing (ap is_landing at)
     by (stage.Ordered since) at = nothing (ap is_landing at)
     by (stage.Staged since commit reports) at = nothing (ap is_landing at)
     by (stage.Landing commit) at =
         ap (λ (l : Look). record l { base = Some base })
-        (released_look (Some base) batch commit (did (Base base) ∷ events) (look (all_altered (released (Some base) commit) desk batch.changes)) (λ c b there. each c (bytes_eq base commit) refl b there) refl) where
-          none_later : (c : ℕ) → landing_back (did (Base base) ∷ events) c ≡ false
-          none_later c = not_landing_back (did (Base base) ∷ events) c (base_ends events base)
+        (released_look (Some base) batch commit (did (Other (Base base)) ∷ events) (look (all_altered (released (Some base) commit) desk batch.changes)) (λ c b there. each c (bytes_eq base commit) refl b there) refl) where
+          none_later : (c : ℕ) → landing_back (did (Other (Base base)) ∷ events) c ≡ false
+          none_later c = not_landing_back (did (Other (Base base)) ∷ events) c (base_ends events base)
 
           rest : (c : ℕ) (equal b : Bool) → bytes_eq base commit ≡ equal → list_any (eqb c) batch.changes ≡ b
-              → change_back (did (Base base) ∷ events) c ≡ change_after events c (record (rest_back events c) { landed = (equal && b) || landed_back events c; landing = false }) None
+              → change_back (did (Other (Base base)) ∷ events) c ≡ change_after events c (record (rest_back events c) { landed = (equal && b) || landed_back events c; landing = false }) None
           rest c equal b is there =
               λ i. change_after events c (record (rest_back events c) { landed = (base_landed events base batch commit c at all members ∙ (λ j. (is j && there j) || landed_back events c)) i; landing = none_later c i }) None
 
           each : (c : ℕ) (equal : Bool) → bytes_eq base commit ≡ equal → (b : Bool) → list_any (eqb c) batch.changes ≡ b
-              → cond b (option_map (released (Some base) commit) (change_back events c)) (change_back events c) ≡ change_back (did (Base base) ∷ events) c
+              → cond b (option_map (released (Some base) commit) (change_back events c)) (change_back events c) ≡ change_back (did (Other (Base base)) ∷ events) c
           each c true is true there = (λ i. option_map (λ change. cond (is i) (landed change) (with_landing false change)) (change_back events c)) ∙ come_in c ∙ sym (rest c true true is there)
           each c false is true there = (λ i. option_map (λ change. cond (is i) (landed change) (with_landing false change)) (change_back events c)) ∙ spared c ∙ sym (rest c false true is there)
           each c true is false there = outside c (landing_members events batch commit c at all members ∙ there) ∙ sym (rest c true false is there)
@@ -352,84 +346,68 @@ module _ (desk : DeskView) (events : List Event) (same : look desk ≡ look_back
 
   -- a refusal of the batch that is landing
   refused_look : (batch : Batch) (commit : List ℕ) → batch.stage ≡ stage.Landing commit → Lands events (Some batch) → Members events (Some batch)
-      → look (all_altered (released None commit) desk batch.changes) ≡ look_back (did (Refused batch.number) ∷ events)
+      → look (all_altered (released None commit) desk batch.changes) ≡ look_back (did (Other (Refused batch.number)) ∷ events)
   refused_look batch commit at all members =
-      released_look None batch commit (did (Refused batch.number) ∷ events) (look (all_altered (released None commit) desk batch.changes)) each refl where
-        rest : (c : ℕ) → change_back (did (Refused batch.number) ∷ events) c ≡ change_after events c (record (rest_back events c) { landing = false }) None
-        rest c = λ i. change_after events c (record (rest_back events c) { landing = not_landing_back (did (Refused batch.number) ∷ events) c (refused_ends events batch all) i }) None
+      released_look None batch commit (did (Other (Refused batch.number)) ∷ events) (look (all_altered (released None commit) desk batch.changes)) each refl where
+        rest : (c : ℕ) → change_back (did (Other (Refused batch.number)) ∷ events) c ≡ change_after events c (record (rest_back events c) { landing = false }) None
+        rest c = λ i. change_after events c (record (rest_back events c) { landing = not_landing_back (did (Other (Refused batch.number)) ∷ events) c (refused_ends events batch all) i }) None
 
         each : (c : ℕ) (b : Bool) → list_any (eqb c) batch.changes ≡ b
-            → cond b (option_map (released None commit) (change_back events c)) (change_back events c) ≡ change_back (did (Refused batch.number) ∷ events) c
+            → cond b (option_map (released None commit) (change_back events c)) (change_back events c) ≡ change_back (did (Other (Refused batch.number)) ∷ events) c
         each c true there = spared c ∙ sym (rest c)
         each c false there = outside c (landing_members events batch commit c at all members ∙ there) ∙ sym (rest c)
 
   pub refusal_look : (number : ℕ) (running : Option Batch) → option_map_or (λ (batch : Batch). eqb number batch.number && is_landing batch.stage) running false ≡ true → Lands events running → Members events running
-      → look (released_on None desk running) ≡ look_back (did (Refused number) ∷ events)
+      → look (released_on None desk running) ≡ look_back (did (Other (Refused number)) ∷ events)
   refusal_look number None there all members = cc there
   refusal_look number (Some batch) there all members = by (eqb number batch.number) refl batch.stage refl there where
     by : (b : Bool) → eqb number batch.number ≡ b → (at : StageOf) → batch.stage ≡ at → (b && is_landing at) ≡ true
-        → look (released_at None desk batch.changes at) ≡ look_back (did (Refused number) ∷ events)
+        → look (released_at None desk batch.changes at) ≡ look_back (did (Other (Refused number)) ∷ events)
     by true is stage.Waiting at so = cc so
     by true is (stage.Ordered since) at so = cc so
     by true is (stage.Staged since commit reports) at so = cc so
     by true is (stage.Landing commit) at so =
-        refused_look batch commit at all members ∙ ap (λ n. look_back (did (Refused n) ∷ events)) (sym ((Decides-eqb number batch.number).0 is))
+        refused_look batch commit at all members ∙ ap (λ n. look_back (did (Other (Refused n)) ∷ events)) (sym ((Decides-eqb number batch.number).0 is))
     by false is at is' so = cc so
 
--- ANY ACT ABOUT A CHANGE
-pub about_look : (desk : DeskView) (events : List Event) (act : Act) (n : ℕ) → subject act ≡ Some n → look desk ≡ look_back events → ((c : ℕ) → Unseen events c) → broken (look_back events) act ≡ None
-    → look (effect desk act) ≡ look_back (did act ∷ events)
-about_look desk events (Spoken n p (Known Approve)) m at same unseen holds =
-    altered_next desk events n (approved_by (p ∷ []) repeat.Approve) (Spoken n p (Known Approve)) same refl (λ c. (refl, refl)) (λ c is. approve_next events c n p (fits events p n Approve holds c is))
-about_look desk events (Spoken n p (Known (ApproveFor names))) m at same unseen holds =
-    altered_next desk events n (approved_by names (repeat.ApproveFor names)) (Spoken n p (Known (ApproveFor names))) same refl (λ c. (refl, refl)) (λ c is. approve_for_next events c n p names (fits events p n (ApproveFor names) holds c is))
-about_look desk events (Spoken n p (Known Withdraw)) m at same unseen holds = altered_next desk events n without_approval (Spoken n p (Known Withdraw)) same refl (λ c. (refl, refl)) (λ c is. withdraw_next events c n p)
-about_look desk events (Spoken n p (Known (Priority priority))) m at same unseen holds = altered_next desk events n (with_priority priority) (Spoken n p (Known (Priority priority))) same refl (λ c. (refl, refl)) (λ c is. priority_next events c n p priority)
-about_look desk events (Spoken n p (Known DelegateAuthor)) m at same unseen holds = altered_next desk events n with_author_as_delegate (Spoken n p (Known DelegateAuthor)) same refl (λ c. (refl, refl)) (λ c is. author_next events c n p)
-about_look desk events (Spoken n p (Known (DelegateTo names))) m at same unseen holds = altered_next desk events n (with_delegates names) (Spoken n p (Known (DelegateTo names))) same refl (λ c. (refl, refl)) (λ c is. names_next events c n p names)
-about_look desk events (Spoken n p (Known DelegateNone)) m at same unseen holds = altered_next desk events n without_delegates (Spoken n p (Known DelegateNone)) same refl (λ c. (refl, refl)) (λ c is. none_next events c n p)
-about_look desk events (Spoken n p (Known Ping)) m at same unseen holds = quiet_next desk events n (Spoken n p (Known Ping)) same refl (λ c. (refl, refl)) (λ c is. quiet_line events c (Spoken n p (Known Ping)) refl (λ author. refl) (stays events c (Spoken n p (Known Ping)) refl refl (λ fit. fit)))
-about_look desk events (Spoken n p (Known Try)) m at same unseen holds =
-    altered_next desk events n with_try (Spoken n p (Known Try)) same refl (λ c. (refl, refl)) (λ c is. try_next events c n p (tried_here events p n Try holds c is))
-about_look desk events (Spoken n p (Known TryCancel)) m at same unseen holds = altered_next desk events n without_try (Spoken n p (Known TryCancel)) same refl (λ c. (refl, refl)) (λ c is. try_cancel_next events c n p)
-about_look desk events (Spoken n p (Known Retry)) m at same unseen holds = quiet_next desk events n (Spoken n p (Known Retry)) same refl (λ c. (refl, refl)) (λ c is. quiet_line events c (Spoken n p (Known Retry)) refl (λ author. refl) (stays events c (Spoken n p (Known Retry)) refl refl (λ fit. fit)))
-about_look desk events (Spoken n p Unknown) m at same unseen holds = quiet_next desk events n (Spoken n p Unknown) same refl (λ c. (refl, refl)) (λ c is. quiet_line events c (Spoken n p Unknown) refl (λ author. refl) (stays events c (Spoken n p Unknown) refl refl (λ fit. fit)))
-about_look desk events (Opened n author head) m at same unseen holds =
-    opening_next desk events n author head same (λ c is. opened_next events c n author head (unseen c) (shut events n author head unseen holds c is) (fresh events n author head unseen holds c is))
-about_look desk events (Pushed n head) m at same unseen holds =
-    altered_next desk events n (pushed head) (Pushed n head) same refl (λ c. (refl, refl)) (λ c is. pushed_next events c n head)
-about_look desk events (Closed n) m at same unseen holds =
-    altered_next desk events n closed (Closed n) same refl (λ c. (refl, refl)) (λ c is. closed_next events c n (still_here events n holds c is))
-about_look desk events (Labeled n label) m at same unseen holds =
+-- ANY DEED ON A CHANGE
+pub about_look : (desk : DeskView) (events : List Event) (n : ℕ) (deed : Deed) → look desk ≡ look_back events → ((c : ℕ) → Unseen events c) → broken (look_back events) (On n deed) ≡ None
+    → look (effect desk n deed) ≡ look_back (did (On n deed) ∷ events)
+about_look desk events n (Said p (Known Approve)) same unseen holds =
+    altered_next desk events n (approved_by (p ∷ []) repeat.Approve) (Said p (Known Approve)) same (λ c is. approve_next events c p (fits events p n Approve holds c is))
+about_look desk events n (Said p (Known (ApproveFor names))) same unseen holds =
+    altered_next desk events n (approved_by names (repeat.ApproveFor names)) (Said p (Known (ApproveFor names))) same (λ c is. approve_for_next events c p names (fits events p n (ApproveFor names) holds c is))
+about_look desk events n (Said p (Known Withdraw)) same unseen holds = altered_next desk events n without_approval (Said p (Known Withdraw)) same (λ c is. withdraw_next events c p)
+about_look desk events n (Said p (Known (Priority priority))) same unseen holds = altered_next desk events n (with_priority priority) (Said p (Known (Priority priority))) same (λ c is. priority_next events c p priority)
+about_look desk events n (Said p (Known DelegateAuthor)) same unseen holds = altered_next desk events n with_author_as_delegate (Said p (Known DelegateAuthor)) same (λ c is. author_next events c p)
+about_look desk events n (Said p (Known (DelegateTo names))) same unseen holds = altered_next desk events n (with_delegates names) (Said p (Known (DelegateTo names))) same (λ c is. names_next events c p names)
+about_look desk events n (Said p (Known DelegateNone)) same unseen holds = altered_next desk events n without_delegates (Said p (Known DelegateNone)) same (λ c is. none_next events c p)
+about_look desk events n (Said p (Known Ping)) same unseen holds = quiet_next desk events n (Said p (Known Ping)) same (λ c is. quiet_line events c (Said p (Known Ping)) refl (λ author. refl) (stays events c (Said p (Known Ping)) refl refl (λ fit. fit)))
+about_look desk events n (Said p (Known Try)) same unseen holds =
+    altered_next desk events n with_try (Said p (Known Try)) same (λ c is. try_next events c p (tried_here events p n Try holds c is))
+about_look desk events n (Said p (Known TryCancel)) same unseen holds = altered_next desk events n without_try (Said p (Known TryCancel)) same (λ c is. try_cancel_next events c p)
+about_look desk events n (Said p (Known Retry)) same unseen holds = quiet_next desk events n (Said p (Known Retry)) same (λ c is. quiet_line events c (Said p (Known Retry)) refl (λ author. refl) (stays events c (Said p (Known Retry)) refl refl (λ fit. fit)))
+about_look desk events n (Said p Unknown) same unseen holds = quiet_next desk events n (Said p Unknown) same (λ c is. quiet_line events c (Said p Unknown) refl (λ author. refl) (stays events c (Said p Unknown) refl refl (λ fit. fit)))
+about_look desk events n (Happened (Opened author head)) same unseen holds =
+    opening_next desk events n author head same (λ c is. opened_next events c author head (unseen c) (shut events n author head unseen holds c is) (fresh events n author head unseen holds c is))
+about_look desk events n (Happened (Pushed head)) same unseen holds =
+    altered_next desk events n (pushed head) (Happened (Pushed head)) same (λ c is. pushed_next events c head)
+about_look desk events n (Happened Closed) same unseen holds =
+    altered_next desk events n closed (Happened Closed) same (λ c is. closed_next events c (still_here events n holds c is))
+about_look desk events n (Happened (Labeled label)) same unseen holds =
     ap (λ (l : Look). look (altered desk n (labeled l.settings label))) same
-    ∙ altered_next desk events n (labeled (settings_back events) label) (Labeled n label) same refl (λ c. (refl, refl)) (λ c is. labeled_next events c n label)
-about_look desk events (Unlabeled n label) m at same unseen holds = altered_next desk events n (without_label label) (Unlabeled n label) same refl (λ c. (refl, refl)) (λ c is. unlabeled_next events c n label)
-about_look desk events (Review n person head approves) m at same unseen holds =
+    ∙ altered_next desk events n (labeled (settings_back events) label) (Happened (Labeled label)) same (λ c is. labeled_next events c label)
+about_look desk events n (Happened (Unlabeled label)) same unseen holds = altered_next desk events n (without_label label) (Happened (Unlabeled label)) same (λ c is. unlabeled_next events c label)
+about_look desk events n (Happened (Review person head approves)) same unseen holds =
     ap (λ (l : Look). look (altered desk n (reviewed l.settings person approves))) same
-    ∙ altered_next desk events n (reviewed (settings_back events) person approves) (Review n person head approves) same refl (λ c. (refl, refl)) (λ c is. reviewed_next events c n person head approves)
-about_look desk events (Role person role) m at same unseen holds = cc at
-about_look desk events (Settings text) m at same unseen holds = cc at
-about_look desk events (Base commit) m at same unseen holds = cc at
-about_look desk events (Staged batch commit) m at same unseen holds = cc at
-about_look desk events (Conflict batch) m at same unseen holds = cc at
-about_look desk events (Status commit name state) m at same unseen holds = cc at
-about_look desk events (Refused batch) m at same unseen holds = cc at
-about_look desk events (Tick now) m at same unseen holds = cc at
+    ∙ altered_next desk events n (reviewed (settings_back events) person approves) (Happened (Review person head approves)) same (λ c is. reviewed_next events c person head approves)
 
 -- and its notices
-pub about_mild : (desk : DeskView) (events : List Event) (act : Act) → AreMild events (notices desk act)
-about_mild desk events (Pushed n head) = notice_mild events _ n why.Pushed refl refl
-about_mild desk events (Closed n) = notice_mild events _ n why.Closed refl refl
-about_mild desk events (Labeled n label) = notice_mild events _ n why.Labeled refl refl
-about_mild desk events (Review n person head approves) = notice_mild events _ n why.Reviews refl refl
-about_mild desk events (Spoken n person spoken) = tt
-about_mild desk events (Role person role) = tt
-about_mild desk events (Settings text) = tt
-about_mild desk events (Base commit) = tt
-about_mild desk events (Opened n author head) = tt
-about_mild desk events (Unlabeled n label) = tt
-about_mild desk events (Staged batch commit) = tt
-about_mild desk events (Conflict batch) = tt
-about_mild desk events (Status commit name state) = tt
-about_mild desk events (Refused batch) = tt
-about_mild desk events (Tick now) = tt
+pub about_mild : (desk : DeskView) (events : List Event) (n : ℕ) (deed : Deed) → AreMild events (notices desk n deed)
+about_mild desk events n (Happened (Pushed head)) = notice_mild events _ n why.Pushed refl refl
+about_mild desk events n (Happened Closed) = notice_mild events _ n why.Closed refl refl
+about_mild desk events n (Happened (Labeled label)) = notice_mild events _ n why.Labeled refl refl
+about_mild desk events n (Happened (Review person head approves)) = notice_mild events _ n why.Reviews refl refl
+about_mild desk events n (Said person spoken) = tt
+about_mild desk events n (Happened (Opened author head)) = tt
+about_mild desk events n (Happened (Unlabeled label)) = tt

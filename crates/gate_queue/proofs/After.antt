@@ -11,6 +11,8 @@ use Rattle.gate_rules.specs.declared.change.Repeat.{Repeat}
 use Rattle.gate_rules.specs.View.{without_approval}
 use Rattle.gate_state.specs.Acts.{on}
 use Rattle.gate_state.specs.declared.act.Act.{Act}
+use Rattle.gate_state.specs.declared.act.Act.TheVariants.{On}
+use Rattle.gate_state.specs.declared.act.Deed.{Deed}
 use Rattle.gate_state.specs.declared.reply.Order.{Order}
 use Rattle.gate_queue.specs.History.{Event, did, gave, Mark, head_back, status_said, told_back, last_of, said_by, said_on, author_said, author_back, head_said, moves_head, phase_said, phase_by, landing_back, landed_back, priority_said, repeat_said, marked, label_said, labels_back, review_said, reviews_back, delegation_said, delegated, delegates_back, settings_back, fit_back, approval_said, ends_it, order_ends, ends, standing_back, approvers_back, try_said, ends_its_try, order_ends_try, tried_back, change_of, change_back}
 use Rattle.gate_queue.specs.Machine.{without_try}
@@ -65,7 +67,7 @@ rest_after event events c = record {
   told = said_by (status_said (head_back events c)) event events;
 }
 
-module _ (events : List Event) (c : ℕ) (rest : Rest) (done : Option Act) where
+module _ (events : List Event) (c : ℕ) (rest : Rest) (done : Option Deed) where
   abbrev moves_after : Bool
   moves_after = option_map_or (moves_head c events) done false
 
@@ -97,7 +99,7 @@ module _ (events : List Event) (c : ℕ) (rest : Rest) (done : Option Act) where
   fit_after = is_fit rest.settings phase_after labels_after reviews_after
 
 -- if it ends the approval and the try, or doesn't
-module _ (events : List Event) (c : ℕ) (rest : Rest) (done : Option Act) (ending ending_try : Bool) where
+module _ (events : List Event) (c : ℕ) (rest : Rest) (done : Option Deed) (ending ending_try : Bool) where
   abbrev fit_now : Bool
   fit_now = fit_after events c rest done
 
@@ -130,7 +132,7 @@ module _ (events : List Event) (c : ℕ) (rest : Rest) (done : Option Act) (endi
   change_by = option_map change_of_by (author_after events c rest done)
 
 -- an act ends them by what it is
-module _ (events : List Event) (c : ℕ) (rest : Rest) (done : Option Act) where
+module _ (events : List Event) (c : ℕ) (rest : Rest) (done : Option Deed) where
   abbrev ending_by : Bool
   ending_by = option_map_or (ends_it c events) done false
 
@@ -182,46 +184,44 @@ module _ (events : List Event) (c : ℕ) where
   pub unless_unfit : (rest : Rest) → approvers_after events c rest None ≡ cond (fit_after events c rest None) (approvers_back events c) None
   unless_unfit rest = goes_on true (fit_after events c rest None) (standing_back events c) (last_of (said_on c approval_said) events)
 
-  -- AN ACT ON THE CHANGE
-  pub altered_here : (alter : Change → Change) (act : Act) → author_after events c (rest_back events c) (Some act) ≡ author_back events c
-      → ((author : List ℕ) → author_back events c ≡ Some author → alter (change_of events c author) ≡ change_of_after events c (rest_back events c) (Some act) author)
-      → option_map alter (change_back events c) ≡ change_after events c (rest_back events c) (Some act)
-  altered_here alter act author so =
-      altered_as alter (change_of events c) (change_of_after events c (rest_back events c) (Some act)) (author_back events c) so
-      ∙ ap (option_map (change_of_after events c (rest_back events c) (Some act))) (sym author)
+  -- A DEED ON THE CHANGE
+  pub altered_here : (alter : Change → Change) (deed : Deed) → author_after events c (rest_back events c) (Some deed) ≡ author_back events c
+      → ((author : List ℕ) → author_back events c ≡ Some author → alter (change_of events c author) ≡ change_of_after events c (rest_back events c) (Some deed) author)
+      → option_map alter (change_back events c) ≡ change_after events c (rest_back events c) (Some deed)
+  altered_here alter deed author so =
+      altered_as alter (change_of events c) (change_of_after events c (rest_back events c) (Some deed)) (author_back events c) so
+      ∙ ap (option_map (change_of_after events c (rest_back events c) (Some deed))) (sym author)
 
   -- one that approves nothing
-  pub silent : (act : Act) → approval_said act ≡ None
-      → approvers_after events c (rest_back events c) (Some act) ≡ cond (not (ends_it c events act) && fit_after events c (rest_back events c) (Some act)) (approvers_back events c) None
-  silent act none = rw none (goes_on (not (ends_it c events act)) (fit_after events c (rest_back events c) (Some act)) (standing_back events c) _)
+  pub silent : (deed : Deed) → approval_said deed ≡ None
+      → approvers_after events c (rest_back events c) (Some deed) ≡ cond (not (ends_it c events deed) && fit_after events c (rest_back events c) (Some deed)) (approvers_back events c) None
+  silent deed none = rw none (goes_on (not (ends_it c events deed)) (fit_after events c (rest_back events c) (Some deed)) (standing_back events c) _)
 
   -- and ends the approval
-  pub ended : (act : Act) → approval_said act ≡ None → ends_it c events act ≡ true → approvers_after events c (rest_back events c) (Some act) ≡ None
-  ended act none ending =
-      silent act none ∙ ap (λ (b : Bool). cond (not b && fit_after events c (rest_back events c) (Some act)) (approvers_back events c) None) ending
+  pub ended : (deed : Deed) → approval_said deed ≡ None → ends_it c events deed ≡ true → approvers_after events c (rest_back events c) (Some deed) ≡ None
+  ended deed none ending =
+      silent deed none ∙ ap (λ (b : Bool). cond (not b && fit_after events c (rest_back events c) (Some deed)) (approvers_back events c) None) ending
 
   -- or ends nothing, and leaves the change fit if it was
-  pub stays : (act : Act) → approval_said act ≡ None → ends_it c events act ≡ false
-      → (fit_back events c ≡ true → fit_after events c (rest_back events c) (Some act) ≡ true)
-      → approvers_after events c (rest_back events c) (Some act) ≡ approvers_back events c
-  stays act none goes fit =
-      silent act none
-      ∙ ap (λ (b : Bool). cond (not b && fit_after events c (rest_back events c) (Some act)) (approvers_back events c) None) goes
-      ∙ kept (fit_after events c (rest_back events c) (Some act)) (standing_back events c) _ (λ standing. fit (standing_fit events c standing))
+  pub stays : (deed : Deed) → approval_said deed ≡ None → ends_it c events deed ≡ false
+      → (fit_back events c ≡ true → fit_after events c (rest_back events c) (Some deed) ≡ true)
+      → approvers_after events c (rest_back events c) (Some deed) ≡ approvers_back events c
+  stays deed none goes fit =
+      silent deed none
+      ∙ ap (λ (b : Bool). cond (not b && fit_after events c (rest_back events c) (Some deed)) (approvers_back events c) None) goes
+      ∙ kept (fit_after events c (rest_back events c) (Some deed)) (standing_back events c) _ (λ standing. fit (standing_fit events c standing))
 
   -- a line that says nothing which is kept
-  pub quiet_line : (act : Act) → author_after events c (rest_back events c) (Some act) ≡ author_back events c
-      → ((author : List ℕ) → change_of_after events c (rest_back events c) (Some act) author ≡ record (change_of events c author) { approved = approvers_after events c (rest_back events c) (Some act) })
-      → approvers_after events c (rest_back events c) (Some act) ≡ approvers_back events c
-      → option_map (λ change. change) (change_back events c) ≡ change_after events c (rest_back events c) (Some act)
-  quiet_line act author so approvers =
-      altered_here (λ change. change) act author (λ a is. (λ i. record (change_of events c a) { approved = (sym approvers) i }) ∙ sym (so a))
+  pub quiet_line : (deed : Deed) → author_after events c (rest_back events c) (Some deed) ≡ author_back events c
+      → ((author : List ℕ) → change_of_after events c (rest_back events c) (Some deed) author ≡ record (change_of events c author) { approved = approvers_after events c (rest_back events c) (Some deed) })
+      → approvers_after events c (rest_back events c) (Some deed) ≡ approvers_back events c
+      → option_map (λ change. change) (change_back events c) ≡ change_after events c (rest_back events c) (Some deed)
+  quiet_line deed author so approvers =
+      altered_here (λ change. change) deed author (λ a is. (λ i. record (change_of events c a) { approved = (sym approvers) i }) ∙ sym (so a))
 
-  -- BY THE NUMBER: an act on one change, seen from this one
-  pub by_number : (n : ℕ) (act : Act) (after : Option Change → Option Change)
-      → on c act ≡ cond (eqb c n) (Some act) None → rest_after (did act) events c ≡ rest_back events c
-      → (eqb c n ≡ true → after (change_back events c) ≡ change_after events c (rest_back events c) (Some act))
-      → (b : Bool) → eqb c n ≡ b → cond b (after (change_back events c)) (change_back events c) ≡ change_back (did act ∷ events) c
-  by_number n act after about same here true is =
-      here is ∙ (λ i. change_after events c ((sym same) i) ((sym (about ∙ ap (λ (b : Bool). cond b (Some act) None) is)) i))
-  by_number n act after about same here false is = sym (elsewhere act (about ∙ ap (λ (b : Bool). cond b (Some act) None) is) same)
+  -- BY THE NUMBER: a deed on one change, seen from this one
+  pub by_number : (n : ℕ) (deed : Deed) (after : Option Change → Option Change)
+      → (eqb c n ≡ true → after (change_back events c) ≡ change_after events c (rest_back events c) (Some deed))
+      → (b : Bool) → eqb c n ≡ b → cond b (after (change_back events c)) (change_back events c) ≡ change_back (did (On n deed) ∷ events) c
+  by_number n deed after here true is = here is ∙ (λ i. change_after events c (rest_back events c) (cond ((sym is) i) (Some deed) None))
+  by_number n deed after here false is = sym (elsewhere (On n deed) (ap (λ (b : Bool). cond b (Some deed) None) is) refl)

@@ -9,7 +9,8 @@ use Rattle.std.specs.Option.{option_map_or, option_or}
 use Rattle.std.specs.Str.{bytes_eq}
 use Rattle.gate_text.specs.Settings.{SettingsView, same_settings}
 use Rattle.gate_text.specs.Same.{same_settings-is}
-use Rattle.gate_state.specs.declared.act.Act.TheVariants.{Base, Staged, Status}
+use Rattle.gate_state.specs.declared.act.Act.TheVariants.{On, Other}
+use Rattle.gate_state.specs.declared.act.Fact.TheVariants.{Base, Staged, Status}
 use Rattle.gate_state.specs.declared.act.StatusState.{StatusState}
 use Rattle.gate_state.specs.declared.act.StatusState.TheVariants.{Success, Failure, Error, Pending}
 use Rattle.gate_state.specs.declared.reply.Head.{Head}
@@ -69,28 +70,30 @@ staging_is number base (gave (Stage batch Trying other heads)) before so = cc so
 staging_is number base (gave (Land batch other commit)) before so = cc so
 staging_is number base (gave (Notice change why)) before so = cc so
 
-staged_is : (number : ℕ) (commit : List ℕ) (event : Event) (before : List Event) → is_staged_as number commit event before ≡ true → event ≡ did (Staged number commit)
+staged_is : (number : ℕ) (commit : List ℕ) (event : Event) (before : List Event) → is_staged_as number commit event before ≡ true → event ≡ did (Other (Staged number commit))
 staged_is number commit (gave order) before so = cc so
-staged_is number commit (did (Staged batch other)) before so =
+staged_is number commit (did (Other (Staged batch other))) before so =
     let of = (Decides-eqb number batch).0 (first_so (eqb number batch) (bytes_eq commit other) so) in
     let with = (bytes_eq-Decides commit other).0 (second_so (eqb number batch) (bytes_eq commit other) so) in
-    λ i. did (Staged (sym of i) (sym with i))
-staged_is number commit (did _) before so = cc so
+    λ i. did (Other (Staged (sym of i) (sym with i)))
+staged_is number commit (did (Other _)) before so = cc so
+staged_is number commit (did (On n deed)) before so = cc so
 
-success_is : (commit name : List ℕ) (event : Event) (before : List Event) → option_map_or is_good (said_by (state_said commit name) event before) false ≡ true → event ≡ did (Status commit name Success)
+success_is : (commit name : List ℕ) (event : Event) (before : List Event) → option_map_or is_good (said_by (state_said commit name) event before) false ≡ true → event ≡ did (Other (Status commit name Success))
 success_is commit name (gave order) before so = cc so
-success_is commit name (did (Status other status state)) before so = by (bytes_eq commit other) (bytes_eq name status) state refl refl so where
-  by : (b d : Bool) (s : StatusState) → bytes_eq commit other ≡ b → bytes_eq name status ≡ d → option_map_or is_good (then_some (b && d) s) false ≡ true → did (Status other status s) ≡ did (Status commit name Success)
+success_is commit name (did (Other (Status other status state))) before so = by (bytes_eq commit other) (bytes_eq name status) state refl refl so where
+  by : (b d : Bool) (s : StatusState) → bytes_eq commit other ≡ b → bytes_eq name status ≡ d → option_map_or is_good (then_some (b && d) s) false ≡ true → did (Other (Status other status s)) ≡ did (Other (Status commit name Success))
   by true true Success at of good =
       let same = (bytes_eq-Decides commit other).0 at in
       let called = (bytes_eq-Decides name status).0 of in
-      λ i. did (Status (sym same i) (sym called i) Success)
+      λ i. did (Other (Status (sym same i) (sym called i) Success))
   by true true Failure at of good = cc good
   by true true Error at of good = cc good
   by true true Pending at of good = cc good
   by true false s at of good = cc good
   by false d s at of good = cc good
-success_is commit name (did _) before so = cc so
+success_is commit name (did (Other _)) before so = cc so
+success_is commit name (did (On n deed)) before so = cc so
 
 -- SETTINGS that equal those before
 still_same : (said present : Option SettingsView) → option_map_or (λ (new : SettingsView). option_map_or (λ (old : SettingsView). same_settings old new) present false) said true ≡ true → option_or said present ≡ present
@@ -100,7 +103,8 @@ still_same (Some new) (Some old) so = ap Some (sym (same_settings-is old new so)
 
 settings_next : (event : Event) (before : List Event) → keeps_order event before ≡ true → settings_back (event ∷ before) ≡ settings_back before
 settings_next (gave order) before kept = refl
-settings_next (did act) before kept = still_same (settings_said act) (settings_back before) (second_so _ _ kept)
+settings_next (did (On n deed)) before kept = refl
+settings_next (did (Other fact)) before kept = still_same (settings_said fact) (settings_back before) (second_so _ _ kept)
 
 settings_kept : (newer older before : List Event) → AllKept keeps_order (newer ++ older) before → settings_back ((newer ++ older) ++ before) ≡ settings_back (older ++ before)
 settings_kept [] older before kept = refl
@@ -115,10 +119,10 @@ same_batch number = (Decides-eqb number number).1 refl
 
 module _ (number : ℕ) (commit name : List ℕ) where
   abbrev staging : Event
-  staging = did (Staged number commit)
+  staging = did (Other (Staged number commit))
 
   abbrev reported : StatusState → Event
-  reported state = did (Status commit name state)
+  reported state = did (Other (Status commit name state))
 
   joined : (after older later before oldest : List Event) → after ++ staging ∷ older ≡ later ++ reported Success ∷ (before ++ staging ∷ oldest)
       → Lacks after staging → Lacks later staging → Lacks before staging → after ≡ later ++ reported Success ∷ before
@@ -170,18 +174,18 @@ module _ (events : List Event) (number : ℕ) (base commit : List ℕ) (is : IsT
       ∙ is.accepted
 
   tested_in : (later before : List Event) (heads : List Head) → events ≡ later ++ gave (Stage number Staging base heads) ∷ before → AllKept keeps_order later (gave (Stage number Staging base heads) ∷ before)
-      → (after older staging : List Event) → events ≡ after ++ did (Staged number commit) ∷ older → AllKept (keeps_staged number) after staging → WasTested events number base commit
+      → (after older staging : List Event) → events ≡ after ++ did (Other (Staged number commit)) ∷ older → AllKept (keeps_staged number) after staging → WasTested events number base commit
   tested_in later before heads cut kept after older staging at since =
       let not_ordered = λ (branch : Branch) (other : List ℕ) (others : List Head).
       lacks (keeps_staged number) (gave (Stage number branch other others)) (λ rest. ap not (same_batch number)) after staging since in
-      let not_staged = λ (other : List ℕ). lacks (keeps_staged number) (did (Staged number other)) (λ rest. ap not (same_batch number)) after staging since in
-      let (between, inside) = nested later before after older (gave (Stage number Staging base heads)) (did (Staged number commit)) (sym cut ∙ at) (not_ordered Staging base heads) (λ so. cc so) in
+      let not_staged = λ (other : List ℕ). lacks (keeps_staged number) (did (Other (Staged number other))) (λ rest. ap not (same_batch number)) after staging since in
+      let (between, inside) = nested later before after older (gave (Stage number Staging base heads)) (did (Other (Staged number commit))) (sym cut ∙ at) (not_ordered Staging base heads) (λ so. cc so) in
       record {
         later = later;
         before = before;
         heads = heads;
         ordered = cut;
-        no_base = λ other. lacks keeps_order (did (Base other)) (λ rest. refl) later (gave (Stage number Staging base heads) ∷ before) kept;
+        no_base = λ other. lacks keeps_order (did (Other (Base other))) (λ rest. refl) later (gave (Stage number Staging base heads) ∷ before) kept;
         present = is.present;
         settings = is.settings;
         accepted = is.accepted;

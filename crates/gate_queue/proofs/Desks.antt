@@ -15,7 +15,8 @@ use Rattle.gate_rules.specs.declared.change.Change.{Change}
 use Rattle.gate_rules.specs.declared.change.Repeat.TheVariants as repeat
 use Rattle.gate_state.specs.Lanes.{has_several}
 use Rattle.gate_state.specs.State.{approved_on, priority_on}
-use Rattle.gate_state.specs.declared.act.Act.TheVariants.{Spoken, Opened}
+use Rattle.gate_state.specs.declared.act.ChangeFact.TheVariants.{Opened}
+use Rattle.gate_state.specs.declared.act.Deed.TheVariants.{Said, Happened}
 use Rattle.gate_state.specs.declared.batch.Batch.{Batch}
 use Rattle.gate_state.specs.declared.batch.Stage.{Stage}
 use Rattle.gate_state.specs.declared.batch.Stage.TheVariants.{Waiting, Ordered, Staged, Landing}
@@ -131,7 +132,7 @@ pushed_same head c = by (bytes_eq c.head head) where
   by true = refl
   by false = refl
 
-pub opened_effect : (change : ℕ) (desk : DeskView) (author head : List ℕ) → Effect change (priority_on desk change) desk (effect desk (Opened change author head))
+pub opened_effect : (change : ℕ) (desk : DeskView) (author head : List ℕ) → Effect change (priority_on desk change) desk (effect desk change (Happened (Opened author head)))
 opened_effect change desk author head = record {
   others = record { roles = refl; settings = refl; changes = opened_elsewhere desk change author head };
   priced = λ approved.
@@ -150,7 +151,7 @@ priority_effect change desk priority = altered_effect change desk (with_priority
   by (Some c) is approved = refl
 
 pub spoken_effect : (desk : DeskView) (change : ℕ) (person : List ℕ) (command : Command)
-    → Effect change (next_priority desk change (Spoken change person (Known command))) desk (command_effect desk person change command)
+    → Effect change (next_priority desk change (Said person (Known command))) desk (command_effect desk person change command)
 spoken_effect desk change person Approve = kept_effect change desk (approved_by (person ∷ []) repeat.Approve) (λ c. refl)
 spoken_effect desk change person (ApproveFor names) = kept_effect change desk (approved_by names (repeat.ApproveFor names)) (λ c. refl)
 spoken_effect desk change person Withdraw = kept_effect change desk without_approval (λ c. refl)

@@ -21,7 +21,9 @@ use Rattle.gate_rules.specs.declared.change.Repeat.TheVariants as repeat
 use Rattle.gate_rules.specs.declared.rule.Rule.TheVariants.{UnknownChange, NotPermitted, NotOpen, Landing, NoSettings, NoBase, AlreadyApproved, AlreadyTrying, AlreadyOpen}
 use Rattle.gate_state.specs.Counts.{occurs, inside, in_landing, held, held_by, of_any_priority}
 use Rattle.gate_state.specs.declared.act.Act.{Act}
-use Rattle.gate_state.specs.declared.act.Act.TheVariants.{Spoken, Opened, Pushed, Closed, Labeled, Unlabeled, Review}
+use Rattle.gate_state.specs.declared.act.Act.TheVariants.{On}
+use Rattle.gate_state.specs.declared.act.ChangeFact.TheVariants.{Opened, Pushed, Closed, Labeled, Unlabeled, Review}
+use Rattle.gate_state.specs.declared.act.Deed.TheVariants.{Said, Happened}
 use Rattle.gate_queue.specs.Following.{with, without, without_any, has_head, is_ended, Leaves, ActByAct, LawOfTheQueue}
 use Rattle.gate_state.specs.Lanes.{has_changes, is_landing, loses, back, back_uses, only, left, taken_out, taken_out_uses}
 use Rattle.gate_queue.specs.Machine.{broken, denial, meaning, done, unless_denied, missing, effect, altered, approved_by, with_try, without_try, with_priority, opened, pushed, moved_to, closed, unless_against, labeled, with_label, without_label, reviewed, with_review, size_on, all_but, followed, tried_by, approval_followed, followed_on, ends_approval, with_delegates, with_author_as_delegate, without_delegates}
@@ -357,9 +359,9 @@ module _ (s : State) (change : ℕ) (is : IsState s) where
         by (Some c) known wasnt = ap (λ (b : Bool). tried_by b true change s.queue) wasnt
 
   -- a change that is opened isn't open, so it is neither approved nor tried
-  opened_by : (author head : List ℕ) → is_open (look s.desk) change ≡ false → followed_on s.desk (effect s.desk (Opened change author head)) change s.queue ≡ s.queue
+  opened_by : (author head : List ℕ) → is_open (look s.desk) change ≡ false → followed_on s.desk (effect s.desk change (Happened (Opened author head))) change s.queue ≡ s.queue
   opened_by author head shut =
-      let there : finite.get (effect s.desk (Opened change author head)).changes change ≡ Some (opened author head (finite.get s.desk.changes change)) = opened_here s.desk change author head in
+      let there : finite.get (effect s.desk change (Happened (Opened author head))).changes change ≡ Some (opened author head (finite.get s.desk.changes change)) = opened_here s.desk change author head in
       (λ i. tried_by (trying_on s.desk change) (option_map_or (λ (c : Change). c.trying) (there i) false) change
       (followed (approved_on s.desk change) (option_map_or (λ (c : Change). is_some c.approved) (there i) false)
       (not (int_eq (priority_on s.desk change) (option_map_or (λ (c : Change). c.priority) (there i) (pos 0)))) (size_on s.desk) (option_map_or (λ (c : Change). c.priority) (there i) (pos 0)) change s.queue))
@@ -384,37 +386,37 @@ module _ (s : State) (change : ℕ) (is : IsState s) where
 
   pub act_by_act : ActByAct s change
   act_by_act = record {
-    approve = λ person. left_by (Spoken change person (Known Approve)) _ refl
-        (λ holds. approves_by Approve person (approved_by (person ∷ []) repeat.Approve) (λ c. refl) (λ c. refl) (λ c. refl) (holds_by (Spoken change person (Known Approve)) holds));
-    approve_for = λ person names. left_by (Spoken change person (Known (ApproveFor names))) _ refl
-        (λ holds. approves_by (ApproveFor names) person (approved_by names (repeat.ApproveFor names)) (λ c. refl) (λ c. refl) (λ c. refl) (holds_by (Spoken change person (Known (ApproveFor names))) holds));
-    withdraw = λ person. left_by (Spoken change person (Known Withdraw)) _ refl
+    approve = λ person. left_by (On change (Said person (Known Approve))) _ refl
+        (λ holds. approves_by Approve person (approved_by (person ∷ []) repeat.Approve) (λ c. refl) (λ c. refl) (λ c. refl) (holds_by (On change (Said person (Known Approve))) holds));
+    approve_for = λ person names. left_by (On change (Said person (Known (ApproveFor names)))) _ refl
+        (λ holds. approves_by (ApproveFor names) person (approved_by names (repeat.ApproveFor names)) (λ c. refl) (λ c. refl) (λ c. refl) (holds_by (On change (Said person (Known (ApproveFor names)))) holds));
+    withdraw = λ person. left_by (On change (Said person (Known Withdraw))) _ refl
         (λ holds. by_approval without_approval (without s change) (λ c. refl) (ended_followed without_approval (λ c. refl) (λ c. refl)));
-    priority = λ person priority. left_by (Spoken change person (Known (Priority priority))) _ refl (λ holds. by_approval (with_priority priority) _ (λ c. refl) (priority_by priority));
-    try = λ person. left_by (Spoken change person (Known Try)) _ refl (λ holds. try_by person (holds_by (Spoken change person (Known Try)) holds));
-    try_cancel = λ person. left_by (Spoken change person (Known TryCancel)) _ refl
+    priority = λ person priority. left_by (On change (Said person (Known (Priority priority)))) _ refl (λ holds. by_approval (with_priority priority) _ (λ c. refl) (priority_by priority));
+    try = λ person. left_by (On change (Said person (Known Try))) _ refl (λ holds. try_by person (holds_by (On change (Said person (Known Try))) holds));
+    try_cancel = λ person. left_by (On change (Said person (Known TryCancel))) _ refl
         (λ holds. tries_ended without_try s.queue is.queue.trying (λ c. refl) (quiet_by without_try (λ c. refl) (λ c. refl)));
-    pushed = λ head. left_by (Pushed change head) _ refl (λ holds. pushed_by head);
-    closed = left_by (Closed change) _ refl
+    pushed = λ head. left_by (On change (Happened (Pushed head))) _ refl (λ holds. pushed_by head);
+    closed = left_by (On change (Happened Closed)) _ refl
         (λ holds. tries_ended closed (without s change) is.queue.trying (λ c. refl) (ended_followed closed (λ c. refl) (λ c. refl)));
-    labeled = λ label. left_by (Labeled change label) _ refl
+    labeled = λ label. left_by (On change (Happened (Labeled label))) _ refl
         (λ holds. ended_by (labeled s.desk.settings label)
         (λ c. against_same (λ x. x.priority) (λ x. refl) _ s.desk.settings (with_label label c))
         (λ c. against_same (λ x. x.trying) (λ x. refl) _ s.desk.settings (with_label label c))
         (λ c some. against_fewer _ s.desk.settings (with_label label c) some));
-    reviewed = λ person head approves. left_by (Review change person head approves) _ refl
+    reviewed = λ person head approves. left_by (On change (Happened (Review person head approves))) _ refl
         (λ holds. ended_by (reviewed s.desk.settings person approves)
         (λ c. against_same (λ x. x.priority) (λ x. refl) _ s.desk.settings (with_review person approves c))
         (λ c. against_same (λ x. x.trying) (λ x. refl) _ s.desk.settings (with_review person approves c))
         (λ c some. against_fewer _ s.desk.settings (with_review person approves c) some));
     retry = λ person holds. retry_means s change person holds;
-    ping = λ person. left_by (Spoken change person (Known Ping)) _ refl (λ holds. kept_quiet);
-    delegate_author = λ person. left_by (Spoken change person (Known DelegateAuthor)) _ refl (λ holds. by_approval with_author_as_delegate s.queue (λ c. refl) (quiet_by with_author_as_delegate (λ c. refl) (λ c. refl)));
-    delegate_to = λ person names. left_by (Spoken change person (Known (DelegateTo names))) _ refl (λ holds. by_approval (with_delegates names) s.queue (λ c. refl) (quiet_by (with_delegates names) (λ c. refl) (λ c. refl)));
-    delegate_none = λ person. left_by (Spoken change person (Known DelegateNone)) _ refl (λ holds. by_approval without_delegates s.queue (λ c. refl) (quiet_by without_delegates (λ c. refl) (λ c. refl)));
-    opened = λ author head. left_by (Opened change author head) _ refl
-        (λ holds. opened_by author head (not-true (is_open (look s.desk) change) (passed (not (is_open (look s.desk) change)) AlreadyOpen _ (holds_by (Opened change author head) holds)).0));
-    unlabeled = λ label. left_by (Unlabeled change label) _ refl (λ holds. by_approval (without_label label) s.queue (λ c. refl) (quiet_by (without_label label) (λ c. refl) (λ c. refl)));
+    ping = λ person. left_by (On change (Said person (Known Ping))) _ refl (λ holds. kept_quiet);
+    delegate_author = λ person. left_by (On change (Said person (Known DelegateAuthor))) _ refl (λ holds. by_approval with_author_as_delegate s.queue (λ c. refl) (quiet_by with_author_as_delegate (λ c. refl) (λ c. refl)));
+    delegate_to = λ person names. left_by (On change (Said person (Known (DelegateTo names)))) _ refl (λ holds. by_approval (with_delegates names) s.queue (λ c. refl) (quiet_by (with_delegates names) (λ c. refl) (λ c. refl)));
+    delegate_none = λ person. left_by (On change (Said person (Known DelegateNone))) _ refl (λ holds. by_approval without_delegates s.queue (λ c. refl) (quiet_by without_delegates (λ c. refl) (λ c. refl)));
+    opened = λ author head. left_by (On change (Happened (Opened author head))) _ refl
+        (λ holds. opened_by author head (not-true (is_open (look s.desk) change) (passed (not (is_open (look s.desk) change)) AlreadyOpen _ (holds_by (On change (Happened (Opened author head))) holds)).0));
+    unlabeled = λ label. left_by (On change (Happened (Unlabeled label))) _ refl (λ holds. by_approval (without_label label) s.queue (λ c. refl) (quiet_by (without_label label) (λ c. refl) (λ c. refl)));
   }
 
 pub queue_law : LawOfTheQueue

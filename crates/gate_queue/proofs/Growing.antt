@@ -8,11 +8,13 @@ use Rattle.gate_state.specs.Counts.{uses}
 use Rattle.gate_state.specs.Lanes.{joins, has_changes, has_several, back_uses, stops_running, running_back_uses, loses, only, taken_out_uses, restarted_uses, requeued_uses, failed_uses}
 use Rattle.gate_state.specs.State.{trying_on}
 use Rattle.gate_state.specs.declared.act.Act.{Act}
-use Rattle.gate_state.specs.declared.act.Act.TheVariants.{Spoken, Role, Settings, Base, Opened, Pushed, Closed, Labeled, Unlabeled, Review, Staged, Conflict, Status, Refused, Tick}
+use Rattle.gate_state.specs.declared.act.Act.TheVariants.{On, Other}
+use Rattle.gate_state.specs.declared.act.Deed.{Deed}
+use Rattle.gate_state.specs.declared.act.Fact.TheVariants.{Role, Settings, Base, Staged, Conflict, Status, Refused, Tick}
 use Rattle.gate_state.specs.declared.act.StatusState.{StatusState}
 use Rattle.gate_state.specs.declared.act.StatusState.TheVariants.{Success, Failure, Error, Pending}
 use Rattle.gate_state.specs.declared.reply.Why.TheVariants as why
-use Rattle.gate_queue.specs.Machine.{heads_told, followed, tried_by, all_but, quiet, then_next, with_desk, with_queue, about, under, accepted, are_present, failing, try_ended, has_passed, has_staged, to_land, if_passed, goes_on, told_of, told_staging, try_if_passed, try_goes_on, try_told_of, told_trying, told, sent_back, tries_left, lands_with, has_overdue, timed_out, try_timed_out, ended_on_time, starting, all_starting, ordered_on, given_up, done}
+use Rattle.gate_queue.specs.Machine.{heads_told, followed, tried_by, all_but, quiet, then_next, with_desk, with_queue, about, under, accepted, are_present, failing, has_passed, has_staged, if_passed, goes_on, told_of, told, sent_back, tries_left, lands_with, has_overdue, timed_out, starting, ordered_on, done, ending, passing, on_both, told_on, told_as}
 use Rattle.gate_state.specs.Queue as specs
 use Rattle.gate_state.specs.Service.{OnlyNew}
 use Rattle.gate_state.specs.declared.batch.Batch.{Batch}
@@ -25,6 +27,8 @@ use Rattle.gate_state.specs.declared.queue.Queue.{Queue}
 use Rattle.gate_queue.specs.declared.outcome.Outcome.{Outcome}
 use Rattle.gate_state.specs.declared.state.State.{State}
 use Rattle.gate_state.specs.Lemmas.Numbers.{numbers_law}
+use Rattle.gate_queue.proofs.Choosing.{either_way}
+use Rattle.gate_state.specs.declared.reply.Why.{Why}
 
 -- how many batches wait under a number
 abbrev pub waits : ℕ → Queue → ℕ
@@ -140,11 +144,6 @@ module _ (branch : Branch) (queue : Queue) where
   pub dropped_grows : Grows 0 queue (specs.dropped branch queue)
   dropped_grows = lane_grows branch 0 queue _ 0 (numbers_law queue.next its_lane).drop (omega arith)
 
--- one step after the other
-then_grows : {few more : ℕ} (s : State) (first : Outcome) (next : State → Outcome) → Grows few s.queue first.state.queue
-    → ((t : State) → Grows more t.queue (next t).state.queue) → Grows (few + more) s.queue (then_next first next).state.queue
-then_grows s first next one other = both_grow one (other first.state)
-
 -- THE QUEUE FOLLOWS what an act does to a change.
 followed_grows : (was is moved : Bool) (size : Option ℕ) (priority : ℤ) (change : ℕ) (queue : Queue) → Grows 2 queue (followed was is moved size priority change queue)
 followed_grows false false moved size priority change queue = same_grows 2 queue
@@ -160,8 +159,8 @@ tried_by_grows false true change queue = tried_grows queue change
 tried_by_grows true false change queue = taken_out_grows Trying queue (all_but change)
 tried_by_grows true true change queue = same_grows 1 queue
 
-pub about_grows : (s : State) (change : ℕ) (act : Act) → Grows 4 s.queue (about s change act).state.queue
-about_grows s change act = more_grows 4 (omega arith) (both_grow (followed_grows _ _ _ _ _ change s.queue) (tried_by_grows _ _ change _))
+pub about_grows : (s : State) (change : ℕ) (deed : Deed) → Grows 4 s.queue (about s change deed).state.queue
+about_grows s change deed = more_grows 4 (omega arith) (both_grow (followed_grows _ _ _ _ _ change s.queue) (tried_by_grows _ _ change _))
 
 pub accepted_grows : (s : State) (read : Result SettingsView SettingsFault) → Grows 4 s.queue (accepted s read).state.queue
 accepted_grows s (Err fault) = same_grows 4 s.queue
@@ -181,99 +180,63 @@ tries_left_grows : (b : Bool) (desk : DeskView) (queue : Queue) → Grows 1 queu
 tries_left_grows true desk queue = taken_out_grows Trying queue (trying_on desk)
 tries_left_grows false desk queue = same_grows 1 queue
 
--- A STATUS
-if_passed_grows : (s : State) (running : Option Batch) → Grows 0 s.queue (if_passed s running).state.queue
-if_passed_grows s None = same_grows 0 s.queue
-if_passed_grows s (Some batch) = by (has_passed s.desk.settings batch.stage) where
-  by : (b : Bool) → Grows 0 s.queue (cond b (to_land batch s) (quiet s)).state.queue
-  by true = landing_grows Staging s.queue
-  by false = same_grows 0 s.queue
+-- ONE BATCH OF EACH BRANCH
+pub ending_grows : (branch : Branch) (why : Why) (s : State) → Grows 2 s.queue (ending branch why s).state.queue
+ending_grows Staging why s = failed_grows Staging s.queue
+ending_grows Trying why s = more_grows 2 (omega arith) (dropped_grows Trying s.queue)
 
-goes_on_grows : (s : State) (name : List ℕ) (report : Report) → Grows 2 s.queue (goes_on name report s).state.queue
-goes_on_grows s name report =
-    let after = with_queue s (specs.reported Staging name report s.queue) in
-    more_grows 2 (omega arith) (both_grow (reported_grows Staging s.queue name report) (if_passed_grows after after.queue.staging.running))
+on_both_grows : {few : ℕ} (does : Branch → State → Outcome) → ((branch : Branch) (s : State) → Grows few s.queue (does branch s).state.queue)
+    → (s : State) → Grows (few + few) s.queue (on_both does s).state.queue
+on_both_grows does each s = both_grow (each Staging s) (each Trying (does Staging s).state)
 
-told_of_grows : (s : State) (name : List ℕ) (state : StatusState) → Grows 2 s.queue (told_of name state s).state.queue
-told_of_grows s name Success = goes_on_grows s name report.Success
-told_of_grows s name Pending = goes_on_grows s name report.Pending
-told_of_grows s name Failure = failed_grows Staging s.queue
-told_of_grows s name Error = failed_grows Staging s.queue
+passing_grows : (branch : Branch) (batch : Batch) (s : State) → Grows 2 s.queue (passing branch batch s).state.queue
+passing_grows Staging batch s = more_grows 2 (omega arith) (landing_grows Staging s.queue)
+passing_grows Trying batch s = ending_grows Trying why.TryPassed s
 
-told_staging_grows : (s : State) (commit name : List ℕ) (state : StatusState) → Grows 2 s.queue (told_staging commit name state s).state.queue
-told_staging_grows s commit name state = by (has_staged commit s.queue.staging) where
-  by : (b : Bool) → Grows 2 s.queue (cond b (told_of name state s) (quiet s)).state.queue
-  by true = told_of_grows s name state
-  by false = same_grows 2 s.queue
+if_passed_grows : (branch : Branch) (s : State) (running : Option Batch) → Grows 2 s.queue (if_passed branch s running).state.queue
+if_passed_grows branch s None = same_grows 2 s.queue
+if_passed_grows branch s (Some batch) =
+    either_way (λ (o : Outcome). Grows 2 s.queue o.state.queue) (has_passed s.desk.settings batch.stage) (passing branch batch s) (quiet s) (λ so. passing_grows branch batch s) (λ so. same_grows 2 s.queue)
 
-try_if_passed_grows : (s : State) (running : Option Batch) → Grows 0 s.queue (try_if_passed s running).state.queue
-try_if_passed_grows s None = same_grows 0 s.queue
-try_if_passed_grows s (Some batch) = by (has_passed s.desk.settings batch.stage) where
-  by : (b : Bool) → Grows 0 s.queue (cond b (try_ended why.TryPassed s) (quiet s)).state.queue
-  by true = dropped_grows Trying s.queue
-  by false = same_grows 0 s.queue
+told_of_grows : (branch : Branch) (name : List ℕ) (state : StatusState) (s : State) → Grows 2 s.queue (told_of branch name state s).state.queue
+told_of_grows branch name state s = by state where
+  goes_on_grows : (report : Report) → Grows 2 s.queue (goes_on branch name report s).state.queue
+  goes_on_grows report =
+      let after = with_queue s (specs.reported branch name report s.queue) in
+      both_grow (reported_grows branch s.queue name report) (if_passed_grows branch after (specs.lane_of branch after.queue).running)
 
-try_goes_on_grows : (s : State) (name : List ℕ) (report : Report) → Grows 0 s.queue (try_goes_on name report s).state.queue
-try_goes_on_grows s name report =
-    let after = with_queue s (specs.reported Trying name report s.queue) in
-    both_grow (reported_grows Trying s.queue name report) (try_if_passed_grows after after.queue.trying.running)
+  by : (said : StatusState) → Grows 2 s.queue (told_of branch name said s).state.queue
+  by Success = goes_on_grows report.Success
+  by Pending = goes_on_grows report.Pending
+  by Failure = ending_grows branch (told_as branch (why.Failed name)) s
+  by Error = ending_grows branch (told_as branch (why.Failed name)) s
 
-try_told_of_grows : (s : State) (name : List ℕ) (state : StatusState) → Grows 0 s.queue (try_told_of name state s).state.queue
-try_told_of_grows s name Success = try_goes_on_grows s name report.Success
-try_told_of_grows s name Pending = try_goes_on_grows s name report.Pending
-try_told_of_grows s name Failure = dropped_grows Trying s.queue
-try_told_of_grows s name Error = dropped_grows Trying s.queue
+told_grows : (commit name : List ℕ) (state : StatusState) (s : State) → Grows 4 s.queue (told commit name state s).state.queue
+told_grows commit name state s =
+    either_way (λ (o : Outcome). Grows 4 s.queue o.state.queue) (is_required s.desk.settings name) (on_both (told_on commit name state) s) (quiet s)
+    (λ so. on_both_grows (told_on commit name state) one s) (λ so. same_grows 4 s.queue) where
+      one : (branch : Branch) (t : State) → Grows 2 t.queue (told_on commit name state branch t).state.queue
+      one branch t =
+          either_way (λ (o : Outcome). Grows 2 t.queue o.state.queue) (has_staged commit (specs.lane_of branch t.queue)) (told_of branch name state t) (quiet t)
+          (λ so. told_of_grows branch name state t) (λ so. same_grows 2 t.queue)
 
-told_trying_grows : (s : State) (commit name : List ℕ) (state : StatusState) → Grows 0 s.queue (told_trying commit name state s).state.queue
-told_trying_grows s commit name state = by (has_staged commit s.queue.trying) where
-  by : (b : Bool) → Grows 0 s.queue (cond b (try_told_of name state s) (quiet s)).state.queue
-  by true = try_told_of_grows s name state
-  by false = same_grows 0 s.queue
-
-told_grows : (s : State) (commit name : List ℕ) (state : StatusState) → Grows 2 s.queue (told commit name state s).state.queue
-told_grows s commit name state = by (is_required s.desk.settings name) where
-  by : (b : Bool) → Grows 2 s.queue (cond b (then_next (told_staging commit name state s) (told_trying commit name state)) (quiet s)).state.queue
-  by true = then_grows s (told_staging commit name state s) (told_trying commit name state) (told_staging_grows s commit name state) (λ t. told_trying_grows t commit name state)
-  by false = same_grows 2 s.queue
-
--- A TICK
-timed_out_grows : (s : State) (now : ℕ) → Grows 2 s.queue (timed_out now s).state.queue
-timed_out_grows s now = by (has_overdue now s.desk.settings s.queue.staging) where
-  by : (b : Bool) → Grows 2 s.queue (cond b (failing why.TimedOut s) (quiet s)).state.queue
-  by true = failed_grows Staging s.queue
-  by false = same_grows 2 s.queue
-
-try_timed_out_grows : (s : State) (now : ℕ) → Grows 0 s.queue (try_timed_out now s).state.queue
-try_timed_out_grows s now = by (has_overdue now s.desk.settings s.queue.trying) where
-  by : (b : Bool) → Grows 0 s.queue (cond b (try_ended why.TryFailed s) (quiet s)).state.queue
-  by true = dropped_grows Trying s.queue
-  by false = same_grows 0 s.queue
-
-tick_grows : (s : State) (now : ℕ) → Grows 2 s.queue (then_next (ended_on_time now s) (all_starting now)).state.queue
-tick_grows s now =
-    then_grows s (ended_on_time now s) (all_starting now)
-    (then_grows s (timed_out now s) (try_timed_out now) (timed_out_grows s now) (λ t. try_timed_out_grows t now))
-    (λ t. then_grows t (starting Staging now t) (starting Trying now) (started_grows Staging t.queue now) (λ u. started_grows Trying u.queue now))
-
-given_up_grows : (branch : Branch) (s : State) → Grows 2 s.queue (given_up branch s).state.queue
-given_up_grows Staging s = failed_grows Staging s.queue
-given_up_grows Trying s = more_grows 2 (omega arith) (dropped_grows Trying s.queue)
+tick_grows : (now : ℕ) (s : State) → Grows 4 s.queue (then_next (on_both (timed_out now) s) (on_both (starting now))).state.queue
+tick_grows now s =
+    both_grow (on_both_grows (timed_out now) late s) (on_both_grows (starting now) (λ branch t. started_grows branch t.queue now) (on_both (timed_out now) s).state) where
+      late : (branch : Branch) (t : State) → Grows 2 t.queue (timed_out now branch t).state.queue
+      late branch t =
+          either_way (λ (o : Outcome). Grows 2 t.queue o.state.queue) (has_overdue now t.desk.settings (specs.lane_of branch t.queue)) (failing branch why.TimedOut t) (quiet t)
+          (λ so. ending_grows branch (told_as branch why.TimedOut) t) (λ so. same_grows 2 t.queue)
 
 pub queue_grows : (s : State) (act : Act) → Grows 4 s.queue (done s act).state.queue
-queue_grows s (Spoken change person spoken) = about_grows s change (Spoken change person spoken)
-queue_grows s (Role person role) = same_grows 4 s.queue
-queue_grows s (Settings text) = accepted_grows s (settings_of text)
-queue_grows s (Base commit) =
+queue_grows s (On change deed) = about_grows s change deed
+queue_grows s (Other (Role person role)) = same_grows 4 s.queue
+queue_grows s (Other (Settings text)) = accepted_grows s (settings_of text)
+queue_grows s (Other (Base commit)) =
     let back = sent_back (Some commit) s in
     more_grows 4 (omega arith) (both_grow (sent_back_grows (Some commit) s) (tries_left_grows (lands_with commit s.queue.staging) back.desk back.queue))
-queue_grows s (Opened change author head) = about_grows s change (Opened change author head)
-queue_grows s (Pushed change head) = about_grows s change (Pushed change head)
-queue_grows s (Closed change) = about_grows s change (Closed change)
-queue_grows s (Labeled change label) = about_grows s change (Labeled change label)
-queue_grows s (Unlabeled change label) = about_grows s change (Unlabeled change label)
-queue_grows s (Review change person head approves) = about_grows s change (Review change person head approves)
-queue_grows s (Staged batch commit) = more_grows 4 (omega arith) (staged_grows (ordered_on batch s.queue) s.queue s.desk.clock commit)
-queue_grows s (Conflict batch) = more_grows 4 (omega arith) (given_up_grows (ordered_on batch s.queue) s)
-queue_grows s (Status commit name state) = more_grows 4 (omega arith) (told_grows (heads_told commit name state s) commit name state)
-queue_grows s (Refused batch) = more_grows 4 (omega arith) (sent_back_grows None s)
-queue_grows s (Tick now) = more_grows 4 (omega arith) (tick_grows (with_desk s (with_clock s.desk now)) now)
+queue_grows s (Other (Staged batch commit)) = more_grows 4 (omega arith) (staged_grows (ordered_on batch s.queue) s.queue s.desk.clock commit)
+queue_grows s (Other (Conflict batch)) = more_grows 4 (omega arith) (ending_grows (ordered_on batch s.queue) (told_as (ordered_on batch s.queue) why.Conflict) s)
+queue_grows s (Other (Status commit name state)) = told_grows commit name state (heads_told commit name state s)
+queue_grows s (Other (Refused batch)) = more_grows 4 (omega arith) (sent_back_grows None s)
+queue_grows s (Other (Tick now)) = tick_grows now (with_desk s (with_clock s.desk now))

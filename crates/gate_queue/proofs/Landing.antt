@@ -9,7 +9,8 @@ use Rattle.std.specs.Option.{option_flatten, option_map, option_or}
 use Rattle.std.specs.Str.{bytes_eq}
 use Rattle.gate_rules.specs.View.{DeskView}
 use Rattle.gate_rules.specs.declared.change.Change.{Change}
-use Rattle.gate_state.specs.declared.act.Act.TheVariants.{Base, Refused}
+use Rattle.gate_state.specs.declared.act.Act.TheVariants.{On, Other}
+use Rattle.gate_state.specs.declared.act.Fact.TheVariants.{Base, Refused}
 use Rattle.gate_state.specs.declared.reply.Head.{Head}
 use Rattle.gate_state.specs.declared.reply.Order.{Order}
 use Rattle.gate_state.specs.declared.reply.Order.TheVariants.{Stage, Land, Notice}
@@ -90,9 +91,10 @@ not_same (Some base) (Some commit) none = cc none
 
 pub never_landing : (number : ℕ) (events : List Event) → landings number events ≡ 0 → (landing_with events number ≡ None) × (has_landed events number ≡ false)
 never_landing number [] none = (refl, refl)
-never_landing number (did act ∷ events) none =
+never_landing number (did (On n deed) ∷ events) none = never_landing number events none
+never_landing number (did (Other fact) ∷ events) none =
     let rest = never_landing number events none in
-    (flat (ends_landing number act) (last_of (landing_said number) events) rest.0, (λ i. not_same (base_said act) (landing_with events number) rest.0 i || rest.1 i))
+    (flat (ends_landing number fact) (last_of (landing_said number) events) rest.0, (λ i. not_same (base_said fact) (landing_with events number) rest.0 i || rest.1 i))
 never_landing number (gave (Stage batch branch base heads) ∷ events) none = never_landing number events none
 never_landing number (gave (Notice change why) ∷ events) none = never_landing number events none
 never_landing number (gave (Land batch base commit) ∷ events) none =
@@ -170,18 +172,18 @@ landing_members events batch commit c at all members =
 
 -- A NEW BASE
 -- ends all landing
-pub base_ends : (events : List Event) (base : List ℕ) → Lands (did (Base base) ∷ events) None
+pub base_ends : (events : List Event) (base : List ℕ) → Lands (did (Other (Base base)) ∷ events) None
 base_ends events base number = refl
 
 -- on which nothing lands if nothing was landing
-pub base_rest : (events : List Event) (base : List ℕ) (c : ℕ) → Lands events None → rest_after (did (Base base)) events c ≡ rest_back events c
-base_rest events base c none = λ i. record (rest_back events c) { landed = still i; landing = (not_landing_back (did (Base base) ∷ events) c (base_ends events base) ∙ sym (not_landing_back events c none)) i } where
-  still : landed_back (did (Base base) ∷ events) c ≡ landed_back events c
+pub base_rest : (events : List Event) (base : List ℕ) (c : ℕ) → Lands events None → rest_after (did (Other (Base base))) events c ≡ rest_back events c
+base_rest events base c none = λ i. record (rest_back events c) { landed = still i; landing = (not_landing_back (did (Other (Base base)) ∷ events) c (base_ends events base) ∙ sym (not_landing_back events c none)) i } where
+  still : landed_back (did (Other (Base base)) ∷ events) c ≡ landed_back events c
   still = list_any_same _ (has_landed events) (λ n. ap (λ (o : Option (List ℕ)). are_same (Some base) o || has_landed events n) (none n)) (batches_back events c)
 
 -- and the batch that was landing has landed if the base is its commit
 pub base_landed : (events : List Event) (base : List ℕ) (batch : Batch) (commit : List ℕ) (c : ℕ) → batch.stage ≡ stage.Landing commit → Lands events (Some batch) → Members events (Some batch)
-    → landed_back (did (Base base) ∷ events) c ≡ ((bytes_eq base commit && list_any (eqb c) batch.changes) || landed_back events c)
+    → landed_back (did (Other (Base base)) ∷ events) c ≡ ((bytes_eq base commit && list_any (eqb c) batch.changes) || landed_back events c)
 base_landed events base batch commit c at all members =
     list_any_same _ (λ n. (bytes_eq base commit && eqb n batch.number) || has_landed events n) (λ n. ap (λ (b : Bool). b || has_landed events n) (ap (are_same (Some base)) (all n) ∙ test (eqb n batch.number))) (batches_back events c)
     ∙ list_any_or (λ n. bytes_eq base commit && eqb n batch.number) (has_landed events) (batches_back events c)
@@ -201,7 +203,7 @@ base_landed events base batch commit c at all members =
       named false = list_any_never (batches_back events c)
 
 -- A REFUSAL of the batch that is landing ends all landing, and lands nothing.
-pub refused_ends : (events : List Event) (batch : Batch) → Lands events (Some batch) → Lands (did (Refused batch.number) ∷ events) None
+pub refused_ends : (events : List Event) (batch : Batch) → Lands events (Some batch) → Lands (did (Other (Refused batch.number)) ∷ events) None
 refused_ends events batch all number = by (eqb number batch.number) refl where
   by : (b : Bool) → eqb number batch.number ≡ b → option_flatten (option_or (then_some b None) (last_of (landing_said number) events)) ≡ None
   by true is = refl

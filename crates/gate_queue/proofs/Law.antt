@@ -26,7 +26,9 @@ use Rattle.gate_state.specs.State.{IsMoment, approved_on, landing_on, trying_on,
 use Rattle.gate_state.specs.Counts.{occurs, in_landing, held, held_by, of_any_priority, uses}
 use Rattle.gate_state.specs.Acts.{ActKeepsLimits}
 use Rattle.gate_state.specs.declared.act.Act.{Act}
-use Rattle.gate_state.specs.declared.act.Act.TheVariants.{Spoken, Role, Settings, Base, Opened, Pushed, Closed, Labeled, Unlabeled, Review, Staged, Conflict, Status, Refused, Tick}
+use Rattle.gate_state.specs.declared.act.Act.TheVariants.{On, Other}
+use Rattle.gate_state.specs.declared.act.Deed.{Deed}
+use Rattle.gate_state.specs.declared.act.Fact.TheVariants.{Role, Settings, Base, Staged, Conflict, Status, Refused, Tick}
 use Rattle.gate_state.specs.declared.act.StatusState.{StatusState}
 use Rattle.gate_state.specs.declared.act.StatusState.TheVariants.{Success, Failure, Error, Pending}
 use Rattle.gate_state.specs.declared.reply.Order.{Order}
@@ -35,10 +37,10 @@ use Rattle.gate_state.specs.declared.reply.Reply.{Reply}
 use Rattle.gate_state.specs.declared.reply.Reply.TheVariants.{Denied}
 use Rattle.gate_state.specs.declared.reply.Why.{Why}
 use Rattle.gate_state.specs.declared.reply.Why.TheVariants as why
-use Rattle.gate_queue.specs.History.{Entry, Event, did, gave, given, ends_why, happened, events_of, last_of, said_on, author_back, head_back, settings_back, phase_back, labels_back, reviews_back, approval_said, standing_back, approvers_back, landing_back, trying_back, approvers_on, change_of, change_back, look_back, stages, keeps_order, keeps_staged, state_said, base_back, IsStandingAt, IsTriedAt, AreRightHeads, IsRightOrder, Legal, StateTells, EntryTells, entry_of, orders_in, denied_by}
+use Rattle.gate_queue.specs.History.{Entry, Event, did, gave, given, ends_why, happened, events_of, last_of, said_on, author_back, head_back, settings_back, phase_back, labels_back, reviews_back, approval_said, standing_back, approvers_back, landing_back, trying_back, approvers_on, change_of, change_back, look_back, stages, keeps_order, keeps_staged, state_said, base_back, IsStandingAt, IsTriedAt, AreRightHeads, IsRightOrder, Legal, StateTells, EntryTells, entry_of, orders_in, denied_by, said_by}
 use Rattle.gate_state.specs.Lanes as lanes
 use Rattle.gate_state.specs.Lanes.{batches_of, is_landing}
-use Rattle.gate_queue.specs.Machine.{broken, heads_told, denial, meaning, acted, missing, on_either, has_ordered, is_ordered, has_staged, is_staged_with, empty_state, answered, quiet, then_next, about, with_desk, with_queue, effect, notices, are_present, under, accepted, lone, lone_notices, failing, try_ended, given_up, ordered_on, has_passed, goes_on, told_of, told_staging, try_if_passed, try_goes_on, try_told_of, told_trying, told, lands_with, sent_back, has_overdue, timed_out, try_timed_out, ended_on_time, head_on, first_order, starting, all_starting, done, reply_to, unless_denied, after}
+use Rattle.gate_queue.specs.Machine.{broken, heads_told, denial, meaning, acted, missing, on_either, has_ordered, is_ordered, has_staged, is_staged_with, empty_state, answered, quiet, then_next, about, with_desk, with_queue, effect, notices, are_present, under, accepted, lone, lone_notices, failing, ordered_on, has_passed, goes_on, told_of, told, lands_with, sent_back, has_overdue, timed_out, head_on, first_order, starting, done, reply_to, unless_denied, after, ending, passing, on_both, told_on, told_as, lone_on, if_passed}
 use Rattle.gate_state.specs.Queue as specs
 use Rattle.gate_state.specs.Queue.{lane_of}
 use Rattle.gate_state.specs.Service.{IsAlone}
@@ -52,6 +54,7 @@ use Rattle.gate_state.specs.declared.batch.Stage.TheVariants as stage
 use Rattle.gate_state.specs.declared.lane.Lane.{Lane}
 use Rattle.gate_queue.specs.declared.outcome.Outcome.{Outcome}
 use Rattle.gate_state.specs.declared.state.State.{State}
+use Rattle.gate_queue.proofs.Choosing.{either_way}
 use Rattle.gate_queue.proofs.After.{standing_fit}
 use Rattle.gate_queue.proofs.Doing.{about_are, accepted_are, status_kept, clock_kept, done_kept}
 use Rattle.gate_queue.proofs.Fitness.{opened_so, passed, unless_so}
@@ -59,12 +62,13 @@ use Rattle.gate_queue.proofs.Meaning.{meaning_allowed, meaning_right}
 use Rattle.gate_queue.proofs.Growing.{waits}
 use Rattle.gate_state.specs.Lemmas.Numbers.{has_number}
 use Rattle.gate_queue.proofs.Held.{Holds, heads_told_holds}
-use Rattle.gate_queue.proofs.States.{clock_holds, ended_on_time_holds, starting_holds, still_clock, still_state, queued_held, tried_held}
+use Rattle.gate_queue.proofs.States.{clock_holds, ended_on_time_holds, starting_holds, still_clock, still_state, queued_held, tried_held, IsNow}
 use Rattle.gate_queue.proofs.Steps.{Kept, AreNotices, IsNext, stage_on, given-append, other_number, first_used, first_kind, first_based, still_runs, tries_left_staging, starting_kept, ended_on_time_kept}
 use Rattle.gate_queue.proofs.Tested.{Tests, TestsAt, IsAt, Elsewhere, EndNone, stage_tests, other_tests, staged_tests, unasked, elsewhere_told}
 use Rattle.gate_queue.proofs.Testing.{standing_approved, stands_all, report_of, followed_runs, notices_tests, act_tests, restarted_tests, failed_tests, requeued_tests, goes_on_tests, goes_on_right}
 use Rattle.gate_queue.proofs.Unseen.{Unseen, nothing_unseen, blank_phase, blank_landing, blank_trying}
 use Rattle.gate_queue.proofs.Wording.{none_both}
+use Rattle.gate_state.specs.Room.{HasRoom}
 
 -- WHAT A LEGAL HISTORY KEEPS with its state
 record Whole (events : List Event) (s : State) : Type 0 where
@@ -94,11 +98,10 @@ end_none_are (Notice change why ∷ orders) none = end_none_are orders none.1
 end_none_are (Stage batch branch base heads ∷ orders) none = absurd none
 end_none_are (Land batch base commit ∷ orders) none = absurd none
 
-timed_out_are : (s : State) (now : ℕ) → AreNotices (timed_out now s).orders
-timed_out_are s now = by (has_overdue now s.desk.settings s.queue.staging) where
-  by : (b : Bool) → AreNotices (if b then failing why.TimedOut s else quiet s).orders
-  by true = lone_are why.TimedOut (lone s.queue.staging.running)
-  by false = tt
+timed_out_are : (now : ℕ) (branch : Branch) (s : State) → AreNotices (timed_out now branch s).orders
+timed_out_are now branch s =
+    either_way (λ (o : Outcome). AreNotices o.orders) (has_overdue now s.desk.settings (lane_of branch s.queue)) (failing branch why.TimedOut s) (quiet s)
+    (λ overdue. lone_are (told_as branch why.TimedOut) (lone_on branch s)) (λ timely. tt)
 
 -- WHAT IS DONE TO TRIES leaves the other branch, and gives notices that end no approval.
 record IsAside (s : State) (is : Outcome) : Type 0 where
@@ -108,44 +111,39 @@ record IsAside (s : State) (is : Outcome) : Type 0 where
 quiet_aside : (s : State) → IsAside s (quiet s)
 quiet_aside s = record { staging = refl; orders = tt }
 
-try_ended_aside : (s : State) (why : Why) → ends_why why ≡ false → IsAside s (try_ended why s)
-try_ended_aside s why goes = record { staging = refl; orders = by (lone s.queue.trying.running) } where
+try_ended_aside : (s : State) (why : Why) → ends_why why ≡ false → IsAside s (ending Trying why s)
+try_ended_aside s why goes = record { staging = refl; orders = by (lone_on Trying s) } where
   by : (one : Option ℕ) → EndNone (lone_notices why one)
   by None = tt
   by (Some n) = (goes, tt)
 
-try_timed_out_aside : (s : State) (now : ℕ) → IsAside s (try_timed_out now s)
-try_timed_out_aside s now = by (has_overdue now s.desk.settings s.queue.trying) where
-  by : (b : Bool) → IsAside s (if b then try_ended why.TryFailed s else quiet s)
-  by true = try_ended_aside s why.TryFailed refl
-  by false = quiet_aside s
+try_timed_out_aside : (now : ℕ) (s : State) → IsAside s (timed_out now Trying s)
+try_timed_out_aside now s =
+    either_way (IsAside s) (has_overdue now s.desk.settings s.queue.trying) (failing Trying why.TimedOut s) (quiet s)
+    (λ overdue. try_ended_aside s why.TryFailed refl) (λ timely. quiet_aside s)
 
-told_trying_aside : (s : State) (commit name : List ℕ) (state : StatusState) → IsAside s (told_trying commit name state s)
-told_trying_aside s commit name state = by (has_staged commit s.queue.trying) where
-  passed_by : (t : State) → t.queue.staging ≡ s.queue.staging → (running : Option Batch) → IsAside s (try_if_passed t running)
-  passed_by t same None = record { staging = same; orders = tt }
-  passed_by t same (Some batch) = on (has_passed t.desk.settings batch.stage) where
-    on : (b : Bool) → IsAside s (if b then try_ended why.TryPassed t else quiet t)
-    on true = record { staging = same; orders = (try_ended_aside t why.TryPassed refl).orders }
-    on false = record { staging = same; orders = tt }
+told_trying_aside : (s : State) (commit name : List ℕ) (state : StatusState) → IsAside s (told_on commit name state Trying s)
+told_trying_aside s commit name state =
+    either_way (IsAside s) (has_staged commit s.queue.trying) (told_of Trying name state s) (quiet s) (λ there. of state) (λ elsewhere. quiet_aside s) where
+      passed_by : (t : State) → t.queue.staging ≡ s.queue.staging → (running : Option Batch) → IsAside s (if_passed Trying t running)
+      passed_by t same None = record { staging = same; orders = tt }
+      passed_by t same (Some batch) =
+          either_way (IsAside s) (has_passed t.desk.settings batch.stage) (passing Trying batch t) (quiet t)
+          (λ passes. record { staging = same; orders = (try_ended_aside t why.TryPassed refl).orders }) (λ fails. record { staging = same; orders = tt })
 
-  goes : (r : Report) → IsAside s (try_goes_on name r s)
-  goes r = let after = with_queue s (specs.reported Trying name r s.queue) in passed_by after refl after.queue.trying.running
+      goes : (r : Report) → IsAside s (goes_on Trying name r s)
+      goes r = let after = with_queue s (specs.reported Trying name r s.queue) in passed_by after refl after.queue.trying.running
 
-  of : (said : StatusState) → IsAside s (try_told_of name said s)
-  of Success = goes report.Success
-  of Pending = goes report.Pending
-  of Failure = try_ended_aside s why.TryFailed refl
-  of Error = try_ended_aside s why.TryFailed refl
+      of : (said : StatusState) → IsAside s (told_of Trying name said s)
+      of Success = goes report.Success
+      of Pending = goes report.Pending
+      of Failure = try_ended_aside s why.TryFailed refl
+      of Error = try_ended_aside s why.TryFailed refl
 
-  by : (b : Bool) → IsAside s (if b then try_told_of name state s else quiet s)
-  by true = of state
-  by false = quiet_aside s
-
-ended_are : (s : State) (now : ℕ) → AreNotices (ended_on_time now s).orders
-ended_are s now =
-    let later = try_timed_out now (timed_out now s).state in
-    both_are (timed_out now s).orders later.orders (timed_out_are s now) (end_none_are later.orders (try_timed_out_aside (timed_out now s).state now).orders)
+ended_are : (now : ℕ) (s : State) → AreNotices (on_both (timed_out now) s).orders
+ended_are now s =
+    let first = timed_out now Staging s in
+    both_are first.orders (timed_out now Trying first.state).orders (timed_out_are now Staging s) (timed_out_are now Trying first.state)
 
 -- one step after the other
 then_tests : (events : List Event) (first : Outcome) (next : State → Outcome)
@@ -269,9 +267,9 @@ first_heads Trying s is batch waiting idle events same =
     (λ c some. tried_held s is c
     (omega (arith, ap (λ (l : Lane). held of_any_priority c l) idle, sum_by-cons (held_by of_any_priority c) batch waiting, some)))
 
-starting_right : (branch : Branch) (events : List Event) (s : State) (now : ℕ) (act : Act) → Holds s → look s.desk ≡ look_back events
-    → All (IsRightOrder events act) (starting branch now s).orders
-starting_right branch events s now act is same = by (lane_of branch s.queue).running (lane_of branch s.queue).waiting refl where
+starting_right : (now : ℕ) (branch : Branch) (events : List Event) (s : State) (act : Act) → Holds s → look s.desk ≡ look_back events
+    → All (IsRightOrder events act) (starting now branch s).orders
+starting_right now branch events s act is same = by (lane_of branch s.queue).running (lane_of branch s.queue).waiting refl where
   by : (running : Option Batch) (waiting : List Batch) → lane_of branch s.queue ≡ record { running = running; waiting = waiting }
       → All (IsRightOrder events act) (first_order s.desk running waiting)
   by (Some batch) waiting at = All-nil (IsRightOrder events act)
@@ -291,9 +289,9 @@ starting_right branch events s now act is same = by (lane_of branch s.queue).run
 other_way : (a b : ℕ) → eqb a b ≡ false → eqb b a ≡ false
 other_way a b differs = grind (arith, nat_tests)
 
-starting_tests : (branch : Branch) (events : List Event) (s : State) (now : ℕ) → Holds s → Kept events s → Tests events s.queue.staging.running
-    → Tests (given events (starting branch now s).orders) (starting branch now s).state.queue.staging.running
-starting_tests branch events s now is kept tests = by (lane_of branch s.queue).running (lane_of branch s.queue).waiting refl where
+starting_tests : (now : ℕ) (branch : Branch) (events : List Event) (s : State) → Holds s → Kept events s → Tests events s.queue.staging.running
+    → Tests (given events (starting now branch s).orders) (starting now branch s).state.queue.staging.running
+starting_tests now branch events s is kept tests = by (lane_of branch s.queue).running (lane_of branch s.queue).waiting refl where
   by : (running : Option Batch) (waiting : List Batch) → lane_of branch s.queue ≡ record { running = running; waiting = waiting }
       → Tests (given events (first_order s.desk running waiting)) (specs.started branch now s.queue).staging.running
   by (Some batch) waiting at = subst (Tests events) (sym (still_runs branch s.queue now (Some batch) waiting at refl)) tests
@@ -317,24 +315,24 @@ starting_tests branch events s now is kept tests = by (lane_of branch s.queue).r
 -- A STATUS, after the open changes were told of it whose head its commit is
 module _ (events : List Event) (s : State) (commit name : List ℕ) (is : Holds s) (tests : Tests events s.queue.staging.running) (accepted : s.desk.settings ≡ settings_back events) where
   abbrev as_told : StatusState → List Event
-  as_told state = did (Status commit name state) ∷ events
+  as_told state = did (Other (Status commit name state)) ∷ events
 
   -- the orders are right, and stay so after notices that end no approval
   abbrev IsTold : StatusState → Outcome → List Order → Type 0
   IsTold state told later =
       Tests (given (as_told state) told.orders) told.state.queue.staging.running
-      × All (IsRightOrder (given (given (as_told state) told.orders) later) (Status commit name state)) told.orders
+      × All (IsRightOrder (given (given (as_told state) told.orders) later) (Other (Status commit name state))) told.orders
 
   told_of_whole : (state : StatusState) (later : List Order) → EndNone later → is_required s.desk.settings name ≡ true → has_staged commit s.queue.staging ≡ true
-      → look s.desk ≡ look_back (as_told state) → IsTold state (told_of name state s) later
+      → look s.desk ≡ look_back (as_told state) → IsTold state (told_of Staging name state s) later
   told_of_whole state later none required there same = of state same where
-    goes : (r : Report) → look s.desk ≡ look_back (as_told (report_of r)) → IsTold (report_of r) (goes_on name r s) later
+    goes : (r : Report) → look s.desk ≡ look_back (as_told (report_of r)) → IsTold (report_of r) (goes_on Staging name r s) later
     goes r same = on s.queue.staging.running refl there tests where
       on : (running : Option Batch) → s.queue.staging.running ≡ running → option_map_or (λ (batch : Batch). is_staged_with commit batch.stage) running false ≡ true → Tests events running
-          → IsTold (report_of r) (goes_on name r s) later
+          → IsTold (report_of r) (goes_on Staging name r s) later
       on None runs so tests = cc so
       on (Some batch) runs so tests = at batch.stage refl so tests where
-        at : (l : StageOf) → batch.stage ≡ l → is_staged_with commit l ≡ true → TestsAt events batch l → IsTold (report_of r) (goes_on name r s) later
+        at : (l : StageOf) → batch.stage ≡ l → is_staged_with commit l ≡ true → TestsAt events batch l → IsTold (report_of r) (goes_on Staging name r s) later
         at stage.Waiting stands so tests = cc so
         at (stage.Ordered since) stands so tests = cc so
         at (stage.Landing other) stands so tests = cc so
@@ -343,61 +341,60 @@ module _ (events : List Event) (s : State) (commit name : List ℕ) (is : Holds 
           goes_on_right events s commit name r is same batch runs since other reports stands so required tests later none,
         )
 
-    failed_whole : (said : StatusState) → IsTold said (failing (why.Failed name) s) later
+    failed_whole : (said : StatusState) → IsTold said (failing Staging (why.Failed name) s) later
     failed_whole said =
-        let orders = (failing (why.Failed name) s).orders in (
+        let orders = (failing Staging (why.Failed name) s).orders in (
           failed_tests (given (as_told said) orders) s.queue.next s.queue.staging,
-          notices_right (given (given (as_told said) orders) later) (Status commit name said) orders (lone_are (why.Failed name) (lone s.queue.staging.running)),
+          notices_right (given (given (as_told said) orders) later) (Other (Status commit name said)) orders (lone_are (why.Failed name) (lone s.queue.staging.running)),
         )
 
-    of : (said : StatusState) → look s.desk ≡ look_back (as_told said) → IsTold said (told_of name said s) later
+    of : (said : StatusState) → look s.desk ≡ look_back (as_told said) → IsTold said (told_of Staging name said s) later
     of Success same = goes report.Success same
     of Pending same = goes report.Pending same
     of Failure same = failed_whole Failure
     of Error same = failed_whole Error
 
   told_staging_whole : (state : StatusState) (later : List Order) → EndNone later → is_required s.desk.settings name ≡ true → look s.desk ≡ look_back (as_told state)
-      → IsTold state (told_staging commit name state s) later
-  told_staging_whole state later none required same = by (has_staged commit s.queue.staging) refl where
-    by : (b : Bool) → has_staged commit s.queue.staging ≡ b → IsTold state (if b then told_of name state s else quiet s) later
-    by true there = told_of_whole state later none required there same
-    by false elsewhere = (
-      act_tests events (Status commit name state) [] s.queue.staging.running s
-          (λ batch runs. elsewhere_told events commit name state batch.number batch.stage
-          (sym (ap (λ (o : Option Batch). option_map_or (λ (b : Batch). is_staged_with commit b.stage) o false) runs) ∙ elsewhere)) tt is same (inl refl) tests,
-      All-nil (IsRightOrder (given (as_told state) later) (Status commit name state)),
-    )
+      → IsTold state (told_on commit name state Staging s) later
+  told_staging_whole state later none required same =
+      either_way (λ (o : Outcome). IsTold state o later) (has_staged commit s.queue.staging) (told_of Staging name state s) (quiet s) (λ there. told_of_whole state later none required there same)
+      (λ elsewhere. (
+        act_tests events (Other (Status commit name state)) [] s.queue.staging.running s
+            (λ batch runs. elsewhere_told events commit name state batch.number batch.stage
+            (sym (ap (λ (o : Option Batch). option_map_or (λ (b : Batch). is_staged_with commit b.stage) o false) runs) ∙ elsewhere)) tt is same (inl refl) tests,
+        All-nil (IsRightOrder (given (as_told state) later) (Other (Status commit name state))),
+      ))
 
   told_whole : (state : StatusState) → look s.desk ≡ look_back (as_told state) → IsTold state (told commit name state s) []
-  told_whole state same = by (is_required s.desk.settings name) refl where
-    by : (b : Bool) → is_required s.desk.settings name ≡ b
-        → IsTold state (if b then then_next (told_staging commit name state s) (told_trying commit name state) else quiet s) []
-    by true required =
-        let first = told_staging commit name state s in
-        let later = told_trying commit name state first.state in
-        let aside = told_trying_aside first.state commit name state in
-        let one = told_staging_whole state later.orders aside.orders required same in (
-          then_tests (as_told state) first (told_trying commit name state) (aside_tests (given (as_told state) first.orders) first.state later aside one.0),
-          subst (λ (es : List Event). All (IsRightOrder es (Status commit name state)) (first.orders ++ later.orders)) (sym (given-append (as_told state) first.orders later.orders))
-              (All-append (IsRightOrder (given (given (as_told state) first.orders) later.orders) (Status commit name state)) first.orders later.orders one.1
-              (notices_right (given (given (as_told state) first.orders) later.orders) (Status commit name state) later.orders (end_none_are later.orders aside.orders))),
-        )
-    by false required = (
-      act_tests events (Status commit name state) [] s.queue.staging.running s
-          (λ batch runs. unasked events commit name state batch.number batch.stage (ap (λ (o : Option SettingsView). is_required o name) (sym accepted) ∙ required))
-          tt is same (inl refl) tests,
-      All-nil (IsRightOrder (as_told state) (Status commit name state)),
-    )
+  told_whole state same =
+      either_way (λ (o : Outcome). IsTold state o []) (is_required s.desk.settings name) (on_both (told_on commit name state) s) (quiet s) both
+      (λ required. (
+        act_tests events (Other (Status commit name state)) [] s.queue.staging.running s
+            (λ batch runs. unasked events commit name state batch.number batch.stage (ap (λ (o : Option SettingsView). is_required o name) (sym accepted) ∙ required))
+            tt is same (inl refl) tests,
+        All-nil (IsRightOrder (as_told state) (Other (Status commit name state))),
+      )) where
+        both : is_required s.desk.settings name ≡ true → IsTold state (on_both (told_on commit name state) s) []
+        both required =
+            let first = told_on commit name state Staging s in
+            let later = told_on commit name state Trying first.state in
+            let aside = told_trying_aside first.state commit name state in
+            let one = told_staging_whole state later.orders aside.orders required same in (
+              then_tests (as_told state) first (told_on commit name state Trying) (aside_tests (given (as_told state) first.orders) first.state later aside one.0),
+              subst (λ (es : List Event). All (IsRightOrder es (Other (Status commit name state))) (first.orders ++ later.orders)) (sym (given-append (as_told state) first.orders later.orders))
+                  (All-append (IsRightOrder (given (given (as_told state) first.orders) later.orders) (Other (Status commit name state))) first.orders later.orders one.1
+                  (notices_right (given (given (as_told state) first.orders) later.orders) (Other (Status commit name state)) later.orders (end_none_are later.orders aside.orders))),
+            )
 
 -- NEW SETTINGS
 settings_tests : (events : List Event) (s : State) (text : List ℕ) (read : Result SettingsView SettingsFault) → settings_of text ≡ read → Holds s → Whole events s
-    → look (accepted s read).state.desk ≡ look_back (given (did (Settings text) ∷ events) (accepted s read).orders)
-    → Tests (given (did (Settings text) ∷ events) (accepted s read).orders) (accepted s read).state.queue.staging.running
+    → look (accepted s read).state.desk ≡ look_back (given (did (Other (Settings text)) ∷ events) (accepted s read).orders)
+    → Tests (given (did (Other (Settings text)) ∷ events) (accepted s read).orders) (accepted s read).state.queue.staging.running
 settings_tests events s text read at is whole same = of read at same where
-  of : (r : Result SettingsView SettingsFault) → settings_of text ≡ r → look (accepted s r).state.desk ≡ look_back (given (did (Settings text) ∷ events) (accepted s r).orders)
-      → Tests (given (did (Settings text) ∷ events) (accepted s r).orders) (accepted s r).state.queue.staging.running
+  of : (r : Result SettingsView SettingsFault) → settings_of text ≡ r → look (accepted s r).state.desk ≡ look_back (given (did (Other (Settings text)) ∷ events) (accepted s r).orders)
+      → Tests (given (did (Other (Settings text)) ∷ events) (accepted s r).orders) (accepted s r).state.queue.staging.running
   of (Err fault) at same =
-      act_tests events (Settings text) [] s.queue.staging.running s
+      act_tests events (Other (Settings text)) [] s.queue.staging.running s
       (λ batch runs. record {
         ordered = ap (λ (r : Result SettingsView SettingsFault). option_map_or (λ (new : SettingsView). option_map_or (λ (old : SettingsView). same_settings old new) (settings_back events) false) (result_ok r) true) at;
         base = refl;
@@ -411,11 +408,11 @@ settings_tests events s text read at is whole same = of read at same where
     equal (Some present) so = ap Some (sym (same_settings-is present settings so))
 
     by : (b : Bool) → are_present s.desk settings ≡ b
-        → look (if b then quiet s else under settings s).state.desk ≡ look_back (given (did (Settings text) ∷ events) (if b then quiet s else under settings s).orders)
-        → Tests (given (did (Settings text) ∷ events) (if b then quiet s else under settings s).orders) (if b then quiet s else under settings s).state.queue.staging.running
+        → look (if b then quiet s else under settings s).state.desk ≡ look_back (given (did (Other (Settings text)) ∷ events) (if b then quiet s else under settings s).orders)
+        → Tests (given (did (Other (Settings text)) ∷ events) (if b then quiet s else under settings s).orders) (if b then quiet s else under settings s).state.queue.staging.running
     by true present same =
         let there = ap (λ (l : Look). option_map_or (λ (p : SettingsView). same_settings p settings) l.settings false) (sym whole.kept.same) ∙ present in
-        act_tests events (Settings text) [] s.queue.staging.running s
+        act_tests events (Other (Settings text)) [] s.queue.staging.running s
         (λ batch runs. record {
           ordered = ap (λ (r : Result SettingsView SettingsFault). option_map_or (λ (new : SettingsView). option_map_or (λ (old : SettingsView). same_settings old new) (settings_back events) false) (result_ok r) true) at ∙ there;
           base = refl;
@@ -423,7 +420,7 @@ settings_tests events s text read at is whole same = of read at same where
           staged = refl;
           said = λ commit name with_it required. refl;
         }) tt is same (inl refl) whole.tests
-    by false new same = restarted_tests (given (did (Settings text) ∷ events) (under settings s).orders) _ _
+    by false new same = restarted_tests (given (did (Other (Settings text)) ∷ events) (under settings s).orders) _ _
 
 -- a number under which a batch runs is used
 runs_used : (number : ℕ) (lane : Lane) → has_ordered number lane ≡ true → 1 ≤ uses number (batches_of lane)
@@ -445,15 +442,15 @@ module _ (events : List Event) (s : State) (is : Holds s) (whole : Whole events 
   IsSilent act = (number : ℕ) (at : StageOf) → Elsewhere events act number at
 
   silent_act : (act : Act) → keeps_order (did act) events ≡ true → base_back (did act ∷ events) ≡ base_back events → settings_back (did act ∷ events) ≡ settings_back events
-      → ((number : ℕ) → keeps_staged number (did act) events ≡ true) → ((commit name : List ℕ) → state_said commit name act ≡ None) → IsSilent act
+      → ((number : ℕ) → keeps_staged number (did act) events ≡ true) → ((commit name : List ℕ) → said_by (state_said commit name) (did act) events ≡ None) → IsSilent act
   silent_act act ordered base settings staged said number at =
       record { ordered = ordered; base = base; settings = settings; staged = staged number; said = λ commit name with_it required. said commit name }
 
   -- a batch that was ordered is staged, on its branch
-  staged_whole : (number : ℕ) (commit : List ℕ) → on_either (has_ordered number) s.queue ≡ true → look s.desk ≡ look_back (did (Staged number commit) ∷ events) → (b : Bool)
-      → has_ordered number s.queue.staging ≡ b → Tests (did (Staged number commit) ∷ events) (specs.staged (if b then Staging else Trying) s.desk.clock commit s.queue).staging.running
+  staged_whole : (number : ℕ) (commit : List ℕ) → on_either (has_ordered number) s.queue ≡ true → look s.desk ≡ look_back (did (Other (Staged number commit)) ∷ events) → (b : Bool)
+      → has_ordered number s.queue.staging ≡ b → Tests (did (Other (Staged number commit)) ∷ events) (specs.staged (if b then Staging else Trying) s.desk.clock commit s.queue).staging.running
   staged_whole number commit there same false elsewhere =
-      act_tests events (Staged number commit) [] s.queue.staging.running s
+      act_tests events (Other (Staged number commit)) [] s.queue.staging.running s
       (λ batch runs. record {
         ordered = refl;
         base = refl;
@@ -465,23 +462,22 @@ module _ (events : List Event) (s : State) (is : Holds s) (whole : Whole events 
         on_trying = ap (λ (b : Bool). b || has_ordered number s.queue.trying) (sym elsewhere) ∙ there
   staged_whole number commit there same true here = by s.queue.staging.running refl here whole.tests where
     by : (running : Option Batch) → s.queue.staging.running ≡ running → option_map_or (λ (batch : Batch). eqb number batch.number && is_ordered batch.stage) running false ≡ true → Tests events running
-        → Tests (did (Staged number commit) ∷ events) (option_map (lanes.staged_at s.desk.clock commit) running)
+        → Tests (did (Other (Staged number commit)) ∷ events) (option_map (lanes.staged_at s.desk.clock commit) running)
     by None runs so tests = tt
     by (Some batch) runs so tests = at batch.stage refl (eqb number batch.number) refl so tests where
       at : (l : StageOf) → batch.stage ≡ l → (b : Bool) → eqb number batch.number ≡ b → (b && is_ordered l) ≡ true → TestsAt events batch l
-          → Tests (did (Staged number commit) ∷ events) (Some (lanes.staged_at s.desk.clock commit batch))
+          → Tests (did (Other (Staged number commit)) ∷ events) (Some (lanes.staged_at s.desk.clock commit batch))
       at (stage.Ordered since) stands true same_number so tests =
-          staged_tests events s.desk.clock number commit batch (stands_all (did (Staged number commit) ∷ events) s is same batch runs (ap is_landing stands)) ((Decides-eqb number batch.number).0 same_number) tests
+          staged_tests events s.desk.clock number commit batch (stands_all (did (Other (Staged number commit)) ∷ events) s is same batch runs (ap is_landing stands)) ((Decides-eqb number batch.number).0 same_number) tests
       at stage.Waiting stands true same_number so tests = cc so
       at (stage.Staged since other reports) stands true same_number so tests = cc so
       at (stage.Landing other) stands true same_number so tests = cc so
       at l stands false same_number so tests = cc so
 
-  timed_out_tests : (es : List Event) (t : State) (now : ℕ) → Tests es t.queue.staging.running → Tests (given es (timed_out now t).orders) (timed_out now t).state.queue.staging.running
-  timed_out_tests es t now tests = by (has_overdue now t.desk.settings t.queue.staging) where
-    by : (b : Bool) → Tests (given es (if b then failing why.TimedOut t else quiet t).orders) (if b then failing why.TimedOut t else quiet t).state.queue.staging.running
-    by true = failed_tests (given es (failing why.TimedOut t).orders) t.queue.next t.queue.staging
-    by false = tests
+  timed_out_tests : (es : List Event) (t : State) (now : ℕ) → Tests es t.queue.staging.running → Tests (given es (timed_out now Staging t).orders) (timed_out now Staging t).state.queue.staging.running
+  timed_out_tests es t now tests =
+      either_way (λ (o : Outcome). Tests (given es o.orders) o.state.queue.staging.running) (has_overdue now t.desk.settings t.queue.staging) (failing Staging why.TimedOut t) (quiet t)
+      (λ overdue. failed_tests (given es (failing Staging why.TimedOut t).orders) t.queue.next t.queue.staging) (λ timely. tests)
 
   abbrev Comes : Act → Outcome → Type 0
   Comes act to = Tests (given (did act ∷ events) to.orders) to.state.queue.staging.running × All (IsRightOrder (given (did act ∷ events) to.orders) act) to.orders
@@ -489,96 +485,91 @@ module _ (events : List Event) (s : State) (is : Holds s) (whole : Whole events 
   abbrev Then : Act → Type 0
   Then act = Comes act (done s act)
 
-  -- an act that gives notices, and leaves what runs or stops it
-  about_then : (act : Act) (n : ℕ) → IsSilent act → Holds (about s n act).state → Kept (given (did act ∷ events) (about s n act).orders) (about s n act).state → Comes act (about s n act)
-  about_then act n leaves later kept = (
-    act_tests events act (notices s.desk act) s.queue.staging.running (about s n act).state (λ batch runs. leaves batch.number batch.stage) (about_are s.desk act) later kept.same
-        (followed_runs s.desk (effect s.desk act) n s.queue) whole.tests,
-    notices_right (given (did act ∷ events) (about s n act).orders) act (notices s.desk act) (about_are s.desk act),
-  )
-
-  -- a batch that was ordered can't be staged
-  given_up_then : (number : ℕ) (branch : Branch) → Holds (given_up branch s).state
-      → Kept (given (did (Conflict number) ∷ events) (given_up branch s).orders) (given_up branch s).state → Comes (Conflict number) (given_up branch s)
-  given_up_then number Staging later kept = (
-    failed_tests (given (did (Conflict number) ∷ events) (failing why.Conflict s).orders) s.queue.next s.queue.staging,
-    notices_right (given (did (Conflict number) ∷ events) (failing why.Conflict s).orders) (Conflict number) (failing why.Conflict s).orders (lone_are why.Conflict (lone s.queue.staging.running)),
-  )
-  given_up_then number Trying later kept =
-      let orders = (try_ended why.TryFailed s).orders in
-      let are = lone_are why.TryFailed (lone s.queue.trying.running) in (
-        act_tests events (Conflict number) orders s.queue.staging.running (try_ended why.TryFailed s).state
-            (λ batch runs. silent_act (Conflict number) refl refl refl (λ other. refl) (λ commit name. refl) batch.number batch.stage) are later kept.same (inl refl) whole.tests,
-        notices_right (given (did (Conflict number) ∷ events) orders) (Conflict number) orders are,
+  -- a deed on a change, which leaves what runs or stops it
+  about_then : (n : ℕ) (deed : Deed) → Holds (about s n deed).state → Kept (given (did (On n deed) ∷ events) (about s n deed).orders) (about s n deed).state → Comes (On n deed) (about s n deed)
+  about_then n deed later kept =
+      let act = On n deed in
+      let leaves = silent_act act refl refl refl (λ number. refl) (λ commit name. refl) in (
+        act_tests events act (notices s.desk n deed) s.queue.staging.running (about s n deed).state (λ batch runs. leaves batch.number batch.stage) (about_are s.desk n deed) later kept.same
+            (followed_runs s.desk (effect s.desk n deed) n s.queue) whole.tests,
+        notices_right (given (did act ∷ events) (about s n deed).orders) act (notices s.desk n deed) (about_are s.desk n deed),
       )
 
-  tick_then : (now : ℕ) → IsMoment now → broken (look s.desk) (Tick now) ≡ None → Kept (given (did (Tick now) ∷ events) (done s (Tick now)).orders) (done s (Tick now)).state → Then (Tick now)
+  -- a batch that was ordered can't be staged
+  given_up_then : (number : ℕ) (branch : Branch) → Holds (failing branch why.Conflict s).state
+      → Kept (given (did (Other (Conflict number)) ∷ events) (failing branch why.Conflict s).orders) (failing branch why.Conflict s).state → Comes (Other (Conflict number)) (failing branch why.Conflict s)
+  given_up_then number branch later kept = (tests branch later kept, notices_right (given (did (Other (Conflict number)) ∷ events) orders) (Other (Conflict number)) orders (are branch)) where
+    orders : List Order
+    orders = (failing branch why.Conflict s).orders
+
+    are : (b : Branch) → AreNotices (failing b why.Conflict s).orders
+    are b = lone_are (told_as b why.Conflict) (lone_on b s)
+
+    tests : (b : Branch) → Holds (failing b why.Conflict s).state → Kept (given (did (Other (Conflict number)) ∷ events) (failing b why.Conflict s).orders) (failing b why.Conflict s).state
+        → Tests (given (did (Other (Conflict number)) ∷ events) (failing b why.Conflict s).orders) (failing b why.Conflict s).state.queue.staging.running
+    tests Staging later kept = failed_tests (given (did (Other (Conflict number)) ∷ events) (failing Staging why.Conflict s).orders) s.queue.next s.queue.staging
+    tests Trying later kept =
+        act_tests events (Other (Conflict number)) (failing Trying why.Conflict s).orders s.queue.staging.running (failing Trying why.Conflict s).state
+        (λ batch runs. silent_act (Other (Conflict number)) refl refl refl (λ other. refl) (λ commit name. refl) batch.number batch.stage) (are Trying) later kept.same (inl refl) whole.tests
+
+  tick_then : (now : ℕ) → IsMoment now → broken (look s.desk) (Other (Tick now)) ≡ None → Kept (given (did (Other (Tick now)) ∷ events) (done s (Other (Tick now))).orders) (done s (Other (Tick now))).state → Then (Other (Tick now))
   tick_then now limit holds last =
-      let act = Tick now in
+      let act = Other (Tick now) in
       let t = with_desk s (with_clock s.desk now) in
       let set = clock_holds s now limit (leb-true s.desk.clock now (passed (leb s.desk.clock now) ClockBack [] holds).0) is in
       let first = clock_kept events s is whole.kept now holds in
-      let ended = ended_on_time now t in
+      let ended = on_both (timed_out now) t in
       let e = ended.state in
-      let e_is = ended_on_time_holds t now set in
-      let one = starting Staging now e in
-      let one_is = starting_holds Staging e now (still_clock t now) e_is in
+      let e_is : IsNow now e = (still_clock now t, ended_on_time_holds now t set) in
+      let one = starting now Staging e in
+      let one_is = starting_holds now Staging e e_is in
       let ended_events : List Event = given (did act ∷ events) ended.orders in
-      let ended_kept = ended_on_time_kept (did act ∷ events) t now first in
-      let one_kept = starting_kept Staging ended_events e now e_is ended_kept in
+      let ended_kept = ended_on_time_kept now (did act ∷ events) t set first in
+      let one_kept = starting_kept now Staging ended_events e e_is.1 ended_kept in
       let ticked =
       act_tests events act [] s.queue.staging.running t (λ batch runs. silent_act act refl refl refl (λ other. refl) (λ commit name. refl) batch.number batch.stage) tt set first.same (inl refl) whole.tests in
       let timed = timed_out_tests (did act ∷ events) t now ticked in
-      let late = timed_out now t in
-      let both_ended = then_tests (did act ∷ events) late (try_timed_out now)
-      (aside_tests (given (did act ∷ events) late.orders) late.state (try_timed_out now late.state) (try_timed_out_aside late.state now) timed) in
+      let late = timed_out now Staging t in
+      let both_ended = then_tests (did act ∷ events) late (timed_out now Trying)
+      (aside_tests (given (did act ∷ events) late.orders) late.state (timed_out now Trying late.state) (try_timed_out_aside now late.state) timed) in
       let all_events : List Event = given (did act ∷ events) (done s act).orders in (
-        then_tests (did act ∷ events) ended (all_starting now)
-            (then_tests ended_events one (starting Trying now)
-            (starting_tests Trying (given ended_events one.orders) one.state now one_is one_kept (starting_tests Staging ended_events e now e_is ended_kept both_ended))),
-        All-append (IsRightOrder all_events act) ended.orders (all_starting now e).orders (notices_right all_events act ended.orders (ended_are t now))
-            (All-append (IsRightOrder all_events act) one.orders (starting Trying now one.state).orders
-            (starting_right Staging all_events e now act e_is last.same) (starting_right Trying all_events one.state now act one_is last.same)),
+        then_tests (did act ∷ events) ended (on_both (starting now))
+            (then_tests ended_events one (starting now Trying)
+            (starting_tests now Trying (given ended_events one.orders) one.state one_is.1 one_kept (starting_tests now Staging ended_events e e_is.1 ended_kept both_ended))),
+        All-append (IsRightOrder all_events act) ended.orders (on_both (starting now) e).orders (notices_right all_events act ended.orders (ended_are now t))
+            (All-append (IsRightOrder all_events act) one.orders (starting now Trying one.state).orders
+            (starting_right now Staging all_events e act e_is.1 last.same) (starting_right now Trying all_events one.state act one_is.1 last.same)),
       )
 
-  done_then : (act : Act) → ((now : ℕ) → act ≡ Tick now → IsMoment now) → missing s act ≡ None → broken (look s.desk) act ≡ None → Holds (done s act).state
+  done_then : (act : Act) → ((now : ℕ) → act ≡ Other (Tick now) → IsMoment now) → missing s act ≡ None → broken (look s.desk) act ≡ None → Holds (done s act).state
       → Kept (given (did act ∷ events) (done s act).orders) (done s act).state → Then act
-  done_then (Spoken n person spoken) limit there holds later kept =
-      about_then (Spoken n person spoken) n (silent_act (Spoken n person spoken) refl refl refl (λ number. refl) (λ commit name. refl)) later kept
-  done_then (Opened n author head) limit there holds later kept =
-      about_then (Opened n author head) n (silent_act (Opened n author head) refl refl refl (λ number. refl) (λ commit name. refl)) later kept
-  done_then (Pushed n head) limit there holds later kept = about_then (Pushed n head) n (silent_act (Pushed n head) refl refl refl (λ number. refl) (λ commit name. refl)) later kept
-  done_then (Closed n) limit there holds later kept = about_then (Closed n) n (silent_act (Closed n) refl refl refl (λ number. refl) (λ commit name. refl)) later kept
-  done_then (Labeled n label) limit there holds later kept = about_then (Labeled n label) n (silent_act (Labeled n label) refl refl refl (λ number. refl) (λ commit name. refl)) later kept
-  done_then (Unlabeled n label) limit there holds later kept = about_then (Unlabeled n label) n (silent_act (Unlabeled n label) refl refl refl (λ number. refl) (λ commit name. refl)) later kept
-  done_then (Review n person head approves) limit there holds later kept =
-      about_then (Review n person head approves) n (silent_act (Review n person head approves) refl refl refl (λ number. refl) (λ commit name. refl)) later kept
-  done_then (Role person role) limit there holds later kept = (
-    act_tests events (Role person role) [] s.queue.staging.running (done s (Role person role)).state
-        (λ batch runs. silent_act (Role person role) refl refl refl (λ number. refl) (λ commit name. refl) batch.number batch.stage) tt later kept.same (inl refl) whole.tests,
-    All-nil (IsRightOrder (did (Role person role) ∷ events) (Role person role)),
+  done_then (On n deed) limit there holds later kept = about_then n deed later kept
+  done_then (Other (Role person role)) limit there holds later kept = (
+    act_tests events (Other (Role person role)) [] s.queue.staging.running (done s (Other (Role person role))).state
+        (λ batch runs. silent_act (Other (Role person role)) refl refl refl (λ number. refl) (λ commit name. refl) batch.number batch.stage) tt later kept.same (inl refl) whole.tests,
+    All-nil (IsRightOrder (did (Other (Role person role)) ∷ events) (Other (Role person role))),
   )
-  done_then (Settings text) limit there holds later kept = (
+  done_then (Other (Settings text)) limit there holds later kept = (
     settings_tests events s text (settings_of text) refl is whole kept.same,
-    notices_right (given (did (Settings text) ∷ events) (accepted s (settings_of text)).orders) (Settings text) (accepted s (settings_of text)).orders (accepted_are s (settings_of text)),
+    notices_right (given (did (Other (Settings text)) ∷ events) (accepted s (settings_of text)).orders) (Other (Settings text)) (accepted s (settings_of text)).orders (accepted_are s (settings_of text)),
   )
-  done_then (Base base) limit there holds later kept =
+  done_then (Other (Base base)) limit there holds later kept =
       let back = sent_back (Some base) s in (
-        subst (λ (l : Lane). Tests (did (Base base) ∷ events) l.running) (sym (tries_left_staging (lands_with base s.queue.staging) back.desk back.queue))
-            (requeued_tests (did (Base base) ∷ events) (approved_on back.desk) s.queue.next s.queue.staging),
-        All-nil (IsRightOrder (did (Base base) ∷ events) (Base base)),
+        subst (λ (l : Lane). Tests (did (Other (Base base)) ∷ events) l.running) (sym (tries_left_staging (lands_with base s.queue.staging) back.desk back.queue))
+            (requeued_tests (did (Other (Base base)) ∷ events) (approved_on back.desk) s.queue.next s.queue.staging),
+        All-nil (IsRightOrder (did (Other (Base base)) ∷ events) (Other (Base base))),
       )
-  done_then (Staged batch commit) limit there holds later kept = (
+  done_then (Other (Staged batch commit)) limit there holds later kept = (
     staged_whole batch commit (unless_so (on_either (has_ordered batch) s.queue) NoSuchBatch there) kept.same (has_ordered batch s.queue.staging) refl,
-    All-nil (IsRightOrder (did (Staged batch commit) ∷ events) (Staged batch commit)),
+    All-nil (IsRightOrder (did (Other (Staged batch commit)) ∷ events) (Other (Staged batch commit))),
   )
-  done_then (Conflict batch) limit there holds later kept = given_up_then batch (ordered_on batch s.queue) later kept
-  done_then (Status commit name state) limit there holds later kept =
+  done_then (Other (Conflict batch)) limit there holds later kept = given_up_then batch (ordered_on batch s.queue) later kept
+  done_then (Other (Status commit name state)) limit there holds later kept =
       told_whole events (heads_told commit name state s) commit name (heads_told_holds s commit name state is) whole.tests (ap (λ (l : Look). l.settings) whole.kept.same) state
       (status_kept events s is whole.kept commit name state).same
-  done_then (Refused batch) limit there holds later kept =
-      (requeued_tests (did (Refused batch) ∷ events) _ s.queue.next s.queue.staging, All-nil (IsRightOrder (did (Refused batch) ∷ events) (Refused batch)))
-  done_then (Tick now) limit there holds later kept = tick_then now (limit now refl) holds kept
+  done_then (Other (Refused batch)) limit there holds later kept =
+      (requeued_tests (did (Other (Refused batch)) ∷ events) _ s.queue.next s.queue.staging, All-nil (IsRightOrder (did (Other (Refused batch)) ∷ events) (Other (Refused batch))))
+  done_then (Other (Tick now)) limit there holds later kept = tick_then now (limit now refl) holds kept
 
 -- ENTRIES
 empty_look : look empty_desk ≡ look_back []
@@ -591,9 +582,9 @@ empty_look = λ i. record {
 }
 
 -- the reading of a tick that is done is within the limit, as the clock is then
-moment_of : (s : State) (act : Act) → Holds (done s act).state → (now : ℕ) → act ≡ Tick now → IsMoment now
+moment_of : (s : State) (act : Act) → Holds (done s act).state → (now : ℕ) → act ≡ Other (Tick now) → IsMoment now
 moment_of s act later now at =
-    let same : (done s act).state.desk.clock ≡ now = ap (λ (a : Act). (done s a).state.desk.clock) at ∙ still_clock (with_desk s (with_clock s.desk now)) now in
+    let same : (done s act).state.desk.clock ≡ now = ap (λ (a : Act). (done s a).state.desk.clock) at ∙ still_clock now (with_desk s (with_clock s.desk now)) in
     subst IsMoment same later.desk.clock
 
 whole_by : (events : List Event) (old : State) (act : Act) → IsState old → Whole events old → (rule : Option Rule) → denial old act ≡ rule → IsState (unless_denied rule old (acted old act).state)
@@ -737,6 +728,6 @@ tells history old act is legal =
       once true staged waiting few = omega (arith, few)
       once false staged waiting few = omega (arith, few)
 
-pub entries_law : (history : List Entry) (old : State) (act : Act) → Legal history old → old.queue.next ≤ 8_999_999_999_999_996 → ActKeepsLimits act
+pub entries_law : (history : List Entry) (old : State) (act : Act) → Legal history old → HasRoom old.queue → ActKeepsLimits act
     → EntryTells history old (entry_of act (reply_to old act)) (after old act)
 entries_law history old act legal room limits = tells history old act (still_state old (legal_state history old legal) room act limits) legal

@@ -2,6 +2,7 @@ pub mod Acting
 pub mod After
 pub mod Batches
 pub mod Changes
+pub mod Choosing
 pub mod Collecting
 pub mod Cuts
 pub mod Desks

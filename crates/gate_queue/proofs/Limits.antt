@@ -19,9 +19,11 @@ use Rattle.gate_rules.specs.declared.change.Repeat.TheVariants as repeat
 use Rattle.gate_rules.specs.declared.rule.Rule.TheVariants.{UnknownChange, NotPermitted, NotOpen, Landing, NoSettings, NoBase}
 use Rattle.gate_rules.specs.declared.role.Role.{Role as RoleOf}
 use Rattle.gate_state.specs.State.{IsMoment, IsChange, IsDesk}
-use Rattle.gate_state.specs.Acts.{ActKeepsLimits}
-use Rattle.gate_state.specs.declared.act.Act.{Act}
-use Rattle.gate_state.specs.declared.act.Act.TheVariants.{Spoken, Role, Settings, Base, Opened, Pushed, Closed, Labeled, Unlabeled, Review, Staged, Conflict, Status, Refused, Tick}
+use Rattle.gate_state.specs.Acts.{DeedKeepsLimits}
+use Rattle.gate_state.specs.declared.act.Act.TheVariants.{On}
+use Rattle.gate_state.specs.declared.act.ChangeFact.TheVariants.{Opened, Pushed, Closed, Labeled, Unlabeled, Review}
+use Rattle.gate_state.specs.declared.act.Deed.{Deed}
+use Rattle.gate_state.specs.declared.act.Deed.TheVariants.{Said, Happened}
 use Rattle.gate_queue.specs.Machine.{broken, effect, altered, lone_altered, all_altered, with_landing, released, landed, with_new_settings, unless_against, approved_by, with_try, without_try, with_priority, with_delegates, with_author_as_delegate, without_delegates, opened, pushed, moved_to, closed, labeled, with_label, without_label, reviewed, with_review, settled, loses_approval}
 use Rattle.gate_queue.proofs.Changes.{same_number, altered_look, opened_at}
 use Rattle.gate_queue.proofs.Fitness.{passed}
@@ -154,7 +156,7 @@ all_keep alter (n ∷ changes) desk so is =
     (subst (λ (l : Look). (change : Change) → IsChange l.settings l.base change → IsChange l.settings l.base (alter change)) (sym (altered_look desk n alter)) so)
     (altered_keeps desk n alter is (λ change here was. so change was))
 
-opening_keeps : (desk : DeskView) (n : ℕ) (author head : List ℕ) → IsDesk (look desk) → IsDesk (look (effect desk (Opened n author head)))
+opening_keeps : (desk : DeskView) (n : ℕ) (author head : List ℕ) → IsDesk (look desk) → IsDesk (look (effect desk n (Happened (Opened author head))))
 opening_keeps desk n author head is = record {
   changes = λ c. subst (λ (o : Option Change). IfSome o (IsChange desk.settings desk.base)) (sym (opened_at desk n author head c)) (at c (eqb c n));
   clock = is.clock;
@@ -206,7 +208,7 @@ approvable desk person n command holds change here =
     (sym (ap (λ (c : Option Change). option_map_or (λ (x : Change). is_open_phase x.phase) c false) here) ∙ opened.0, (settings.0, base.0))
 
 -- and so is a try
-tryable : (desk : DeskView) (person : List ℕ) (n : ℕ) → broken (look desk) (Spoken n person (Known Try)) ≡ None → (change : Change) → finite.get desk.changes n ≡ Some change
+tryable : (desk : DeskView) (person : List ℕ) (n : ℕ) → broken (look desk) (On n (Said person (Known Try))) ≡ None → (change : Change) → finite.get desk.changes n ≡ Some change
     → (is_open_phase change.phase ≡ true) × (is_some desk.settings ≡ true) × (is_some desk.base ≡ true)
 tryable desk person n holds change here =
     let s = look desk in
@@ -218,8 +220,8 @@ tryable desk person n holds change here =
     (sym (ap (λ (c : Option Change). option_map_or (λ (x : Change). is_open_phase x.phase) c false) here) ∙ opened.0, settings.0, base.0)
 
 -- ONE ACT
-command_keeps : (desk : DeskView) (person : List ℕ) (n : ℕ) (command : Command) → ActKeepsLimits (Spoken n person (Known command)) → IsDesk (look desk)
-    → broken (look desk) (Spoken n person (Known command)) ≡ None → IsDesk (look (effect desk (Spoken n person (Known command))))
+command_keeps : (desk : DeskView) (person : List ℕ) (n : ℕ) (command : Command) → DeedKeepsLimits (Said person (Known command)) → IsDesk (look desk)
+    → broken (look desk) (On n (Said person (Known command))) ≡ None → IsDesk (look (effect desk n (Said person (Known command))))
 command_keeps desk person n Approve limits is holds = altered_keeps desk n (approved_by (person ∷ []) repeat.Approve) is (λ change here was.
     let may = approvable desk person n Approve holds change here in
     record { priority = was.priority; opened = λ some. may.0; ready = λ some. may.1; approvers = (omega arith, one_name person); tried = was.tried; last = tt })
@@ -238,25 +240,17 @@ command_keeps desk person n Try limits is holds = altered_keeps desk n with_try 
 command_keeps desk person n TryCancel limits is holds = altered_keeps desk n without_try is (λ change here was. untried_keeps desk.settings desk.base change was)
 command_keeps desk person n Retry limits is holds = is
 
-pub effect_keeps : (desk : DeskView) (act : Act) → ActKeepsLimits act → IsDesk (look desk) → broken (look desk) act ≡ None → IsDesk (look (effect desk act))
-effect_keeps desk (Spoken n person (Known command)) limits is holds = command_keeps desk person n command limits is holds
-effect_keeps desk (Spoken n person Unknown) limits is holds = is
-effect_keeps desk (Opened n author head) limits is holds = opening_keeps desk n author head is
-effect_keeps desk (Pushed n head) limits is holds = altered_keeps desk n (pushed head) is (λ change here was. pushed_keeps desk.settings desk.base head (bytes_eq change.head head) change was)
-effect_keeps desk (Closed n) limits is holds = altered_keeps desk n closed is (λ change here was. closed_keeps desk.settings desk.base change was)
-effect_keeps desk (Labeled n label) limits is holds = altered_keeps desk n (labeled desk.settings label) is (λ change here was.
+pub effect_keeps : (desk : DeskView) (n : ℕ) (deed : Deed) → DeedKeepsLimits deed → IsDesk (look desk) → broken (look desk) (On n deed) ≡ None → IsDesk (look (effect desk n deed))
+effect_keeps desk n (Said person (Known command)) limits is holds = command_keeps desk person n command limits is holds
+effect_keeps desk n (Said person Unknown) limits is holds = is
+effect_keeps desk n (Happened (Opened author head)) limits is holds = opening_keeps desk n author head is
+effect_keeps desk n (Happened (Pushed head)) limits is holds = altered_keeps desk n (pushed head) is (λ change here was. pushed_keeps desk.settings desk.base head (bytes_eq change.head head) change was)
+effect_keeps desk n (Happened Closed) limits is holds = altered_keeps desk n closed is (λ change here was. closed_keeps desk.settings desk.base change was)
+effect_keeps desk n (Happened (Labeled label)) limits is holds = altered_keeps desk n (labeled desk.settings label) is (λ change here was.
     against_keeps desk.settings desk.base (λ s c. is_blocked s c.labels) desk.settings (with_label label change) (others_keep desk.settings desk.base change _ _ _ was))
-effect_keeps desk (Unlabeled n label) limits is holds = altered_keeps desk n (without_label label) is (λ change here was. others_keep desk.settings desk.base change _ _ _ was)
-effect_keeps desk (Review n person head approves) limits is holds = altered_keeps desk n (reviewed desk.settings person approves) is (λ change here was.
+effect_keeps desk n (Happened (Unlabeled label)) limits is holds = altered_keeps desk n (without_label label) is (λ change here was. others_keep desk.settings desk.base change _ _ _ was)
+effect_keeps desk n (Happened (Review person head approves)) limits is holds = altered_keeps desk n (reviewed desk.settings person approves) is (λ change here was.
     against_keeps desk.settings desk.base (λ s c. has_too_few_reviews s c.reviews) desk.settings (with_review person approves change) (others_keep desk.settings desk.base change _ _ _ was))
-effect_keeps desk (Role person role) limits is holds = is
-effect_keeps desk (Settings text) limits is holds = is
-effect_keeps desk (Base commit) limits is holds = is
-effect_keeps desk (Staged batch commit) limits is holds = is
-effect_keeps desk (Conflict batch) limits is holds = is
-effect_keeps desk (Status commit name state) limits is holds = is
-effect_keeps desk (Refused batch) limits is holds = is
-effect_keeps desk (Tick now) limits is holds = is
 
 pub empty_is_desk : IsDesk (look empty_desk)
 empty_is_desk = record { changes = λ c. subst (λ (o : Option Change). IfSome o (IsChange None None)) (sym (get-empty nat_cmp c)) tt; clock = omega arith }

@@ -15,7 +15,8 @@ use Rattle.gate_rules.specs.declared.rule.Rule.{Rule}
 use Rattle.gate_rules.specs.declared.rule.Rule.TheVariants.{UnknownChange, NotPermitted, NotOpen}
 use Rattle.gate_state.specs.Acts.{ActKeepsLimits}
 use Rattle.gate_state.specs.declared.act.Act.{Act}
-use Rattle.gate_state.specs.declared.act.Act.TheVariants.{Spoken, Role, Settings, Base, Opened, Pushed, Closed, Labeled, Unlabeled, Review, Staged, Conflict, Status, Refused, Tick}
+use Rattle.gate_state.specs.declared.act.Act.TheVariants.{On, Other}
+use Rattle.gate_state.specs.declared.act.Deed.TheVariants.{Said, Happened}
 use Rattle.gate_state.specs.declared.reply.Order.{Order}
 use Rattle.gate_state.specs.declared.reply.Order.TheVariants.{Stage, Land, Notice}
 use Rattle.gate_queue.specs.History.{Event, IsRightOrder}
@@ -25,33 +26,21 @@ use Rattle.gate_state.specs.declared.state.State.{State}
 use Rattle.gate_queue.proofs.Wording.{none_both}
 
 -- An act means itself, but for a `retry`.
-pub means : (P : Act → Type 0) (s : Look) (act : Act) → P act → ((n : ℕ) (person : List ℕ) → act ≡ Spoken n person (Known Retry) → P (Spoken n person (Known (repeated (last_command s n))))) → P (meaning s act)
-means P s (Spoken n person (Known Retry)) itself repeats = repeats n person refl
-means P s (Spoken n person (Known Ping)) itself repeats = itself
-means P s (Spoken n person (Known Approve)) itself repeats = itself
-means P s (Spoken n person (Known (ApproveFor names))) itself repeats = itself
-means P s (Spoken n person (Known Withdraw)) itself repeats = itself
-means P s (Spoken n person (Known (Priority priority))) itself repeats = itself
-means P s (Spoken n person (Known Try)) itself repeats = itself
-means P s (Spoken n person (Known TryCancel)) itself repeats = itself
-means P s (Spoken n person (Known DelegateAuthor)) itself repeats = itself
-means P s (Spoken n person (Known (DelegateTo names))) itself repeats = itself
-means P s (Spoken n person (Known DelegateNone)) itself repeats = itself
-means P s (Spoken n person Unknown) itself repeats = itself
-means P s (Role person role) itself repeats = itself
-means P s (Settings text) itself repeats = itself
-means P s (Base commit) itself repeats = itself
-means P s (Opened n author head) itself repeats = itself
-means P s (Pushed n head) itself repeats = itself
-means P s (Closed n) itself repeats = itself
-means P s (Labeled n label) itself repeats = itself
-means P s (Unlabeled n label) itself repeats = itself
-means P s (Review n person head approves) itself repeats = itself
-means P s (Staged batch commit) itself repeats = itself
-means P s (Conflict batch) itself repeats = itself
-means P s (Status commit name state) itself repeats = itself
-means P s (Refused batch) itself repeats = itself
-means P s (Tick now) itself repeats = itself
+pub means : (P : Act → Type 0) (s : Look) (act : Act) → P act → ((n : ℕ) (person : List ℕ) → act ≡ On n (Said person (Known Retry)) → P (On n (Said person (Known (repeated (last_command s n)))))) → P (meaning s act)
+means P s (On n (Said person (Known Retry))) itself repeats = repeats n person refl
+means P s (On n (Said person (Known Ping))) itself repeats = itself
+means P s (On n (Said person (Known Approve))) itself repeats = itself
+means P s (On n (Said person (Known (ApproveFor names)))) itself repeats = itself
+means P s (On n (Said person (Known Withdraw))) itself repeats = itself
+means P s (On n (Said person (Known (Priority priority)))) itself repeats = itself
+means P s (On n (Said person (Known Try))) itself repeats = itself
+means P s (On n (Said person (Known TryCancel))) itself repeats = itself
+means P s (On n (Said person (Known DelegateAuthor))) itself repeats = itself
+means P s (On n (Said person (Known (DelegateTo names)))) itself repeats = itself
+means P s (On n (Said person (Known DelegateNone))) itself repeats = itself
+means P s (On n (Said person Unknown)) itself repeats = itself
+means P s (On n (Happened fact)) itself repeats = itself
+means P s (Other fact) itself repeats = itself
 
 -- NO RULE DENIES what a `retry` repeats, if none denies the `retry`.
 abbrev retry_row : Look → List ℕ → ℕ → Option Repeat → List (Option Rule)
@@ -62,7 +51,7 @@ retry_row s person n last =
     ∷ repeated_rules s n last
 
 repeated_holds : (s : Look) (person : List ℕ) (n : ℕ) (last : Option Repeat) → last_command s n ≡ last → first_failing (retry_row s person n last) ≡ None
-    → broken s (Spoken n person (Known (repeated last))) ≡ None
+    → broken s (On n (Said person (Known (repeated last)))) ≡ None
 repeated_holds s person n None is holds = subst (λ l. first_failing (retry_row s person n l) ≡ None) (sym is) holds
 repeated_holds s person n (Some repeat.Approve) is holds = holds
 repeated_holds s person n (Some (repeat.ApproveFor names)) is holds = holds
@@ -81,22 +70,22 @@ meaning_allowed s act holds =
     λ i. option_or ((meaning_there (look s.desk) s act ∙ both.0) i) (meaning_holds (look s.desk) act both.1 i)
 
 -- What an act means, means itself.
-meaning_repeated : (s : Look) (n : ℕ) (person : List ℕ) (last : Option Repeat) → last_command s n ≡ last → meaning s (Spoken n person (Known (repeated last))) ≡ Spoken n person (Known (repeated last))
-meaning_repeated s n person None is = ap (λ (l : Option Repeat). Spoken n person (Known (repeated l))) is
+meaning_repeated : (s : Look) (n : ℕ) (person : List ℕ) (last : Option Repeat) → last_command s n ≡ last → meaning s (On n (Said person (Known (repeated last)))) ≡ On n (Said person (Known (repeated last)))
+meaning_repeated s n person None is = ap (λ (l : Option Repeat). On n (Said person (Known (repeated l)))) is
 meaning_repeated s n person (Some repeat.Approve) is = refl
 meaning_repeated s n person (Some (repeat.ApproveFor names)) is = refl
 meaning_repeated s n person (Some repeat.Try) is = refl
 
-pub retry_means : (s : State) (n : ℕ) (person : List ℕ) → denial s (Spoken n person (Known Retry)) ≡ None
-    → after s (Spoken n person (Known Retry)) ≡ after s (Spoken n person (Known (repeated (last_command (look s.desk) n))))
+pub retry_means : (s : State) (n : ℕ) (person : List ℕ) → denial s (On n (Said person (Known Retry))) ≡ None
+    → after s (On n (Said person (Known Retry))) ≡ after s (On n (Said person (Known (repeated (last_command (look s.desk) n)))))
 retry_means s n person holds =
     let last = last_command (look s.desk) n in
     let same = meaning_repeated (look s.desk) n person last refl in
-    (λ i. unless_denied (holds i) s (done s (Spoken n person (Known (repeated last)))).state)
-    ∙ sym (λ i. unless_denied (meaning_allowed s (Spoken n person (Known Retry)) holds i) s (done s (same i)).state)
+    (λ i. unless_denied (holds i) s (done s (On n (Said person (Known (repeated last))))).state)
+    ∙ sym (λ i. unless_denied (meaning_allowed s (On n (Said person (Known Retry))) holds i) s (done s (same i)).state)
 
 -- THE LIMITS: what a change keeps for a `retry` is within them.
-repeated_limits : (n : ℕ) (person : List ℕ) (last : Option Repeat) → RepeatKeepsLimits last → ActKeepsLimits (Spoken n person (Known (repeated last)))
+repeated_limits : (n : ℕ) (person : List ℕ) (last : Option Repeat) → RepeatKeepsLimits last → ActKeepsLimits (On n (Said person (Known (repeated last))))
 repeated_limits n person None keeps = tt
 repeated_limits n person (Some repeat.Approve) keeps = tt
 repeated_limits n person (Some (repeat.ApproveFor names)) keeps = keeps
@@ -113,7 +102,7 @@ meaning_limits s is act limits =
     means ActKeepsLimits (look s.desk) act limits (λ n person at. repeated_limits n person (last_command (look s.desk) n) (kept_limits s is n))
 
 -- AN ORDER is right by the act if it is by what the act means: no command orders a landing.
-spoken_right : (events : List Event) (n : ℕ) (person : List ℕ) (command : Command) (act : Act) (order : Order) → IsRightOrder events (Spoken n person (Known command)) order → IsRightOrder events act order
+spoken_right : (events : List Event) (n : ℕ) (person : List ℕ) (command : Command) (act : Act) (order : Order) → IsRightOrder events (On n (Said person (Known command))) order → IsRightOrder events act order
 spoken_right events n person command act (Stage batch branch base heads) right = right
 spoken_right events n person command act (Land batch base commit) right = cc right.success
 spoken_right events n person command act (Notice change why) right = tt

@@ -8,7 +8,8 @@ use Rattle.gate_state.specs.Lanes as lanes
 use Rattle.gate_state.specs.Lanes.{staged_at, reported_on, to_land as landing_from}
 use Rattle.gate_state.specs.Queue.{batch_numbered, lane_of, with_lane, staged, reported}
 use Rattle.gate_state.specs.State.{approved_on}
-use Rattle.gate_state.specs.declared.act.Act.TheVariants.{Tick}
+use Rattle.gate_state.specs.declared.act.Act.TheVariants.{Other}
+use Rattle.gate_state.specs.declared.act.Fact.TheVariants.{Tick}
 use Rattle.gate_state.specs.declared.act.StatusState.{StatusState}
 use Rattle.gate_state.specs.declared.act.StatusState.TheVariants.{Success, Failure, Error, Pending}
 use Rattle.gate_state.specs.declared.batch.Batch.{Batch}
@@ -22,8 +23,9 @@ use Rattle.gate_state.specs.declared.reply.Why.{Why}
 use Rattle.gate_state.specs.declared.reply.Why.TheVariants as why
 use Rattle.gate_state.specs.declared.state.State.{State}
 use Rattle.gate_queue.specs.declared.outcome.Outcome.{Outcome}
-use Rattle.gate_queue.specs.Machine.{quiet, with_queue, with_desk, failing, try_ended, with_landing, to_land, if_passed, goes_on, told_of, told_staging, try_if_passed, try_goes_on, try_told_of, told_trying, told, has_staged, has_passed, released_on, sent_back, has_overdue, timed_out, ended_on_time, all_starting, without_try, given_up, then_next, done}
+use Rattle.gate_queue.specs.Machine.{quiet, with_queue, with_desk, failing, with_landing, to_land, if_passed, goes_on, told_of, told, has_staged, has_passed, released_on, sent_back, has_overdue, timed_out, without_try, done, ending, passing, on_both, told_on, starting, told_as}
 use Rattle.gate_queue.specs.MayChange.{Parts, Untouched, in_front, is_run, is_in_front}
+use Rattle.gate_queue.proofs.Choosing.{either_way}
 use Rattle.gate_queue.proofs.Desks.{DeskLeft, same_desk, later_desk, all_desk, run_only, lone_desk, released_desk}
 use Rattle.gate_queue.proofs.Lanes.{find-filter, Same, started_same, IsNews, no_news, later_news, failed_news, requeued_news, dropped_news, altered_news}
 
@@ -108,17 +110,11 @@ module _ (s : State) where
   reported_news : (branch : Branch) (name : List ℕ) (report : Report) → IsNewsOf s (with_queue s (reported branch name report s.queue))
   reported_news branch name report = alters branch (reported_on name report) (λ batch. refl) (λ batch. refl)
 
-  failing_news : (why : Why) → IsNewsOf s (failing why s).state
-  failing_news why =
+  pub ending_news : (branch : Branch) (why : Why) → IsNewsOf s (ending branch why s).state
+  ending_news Staging why =
       on_branch Staging _ _ _ (lone_desk (in_front s).change s.queue.staging (runs_not Staging) without_approval s.desk) (failed_news s.queue.next s.queue.staging)
-
-  ended_news : (why : Why) → IsNewsOf s (try_ended why s).state
-  ended_news why =
+  ending_news Trying why =
       on_branch Trying _ _ _ (lone_desk (in_front s).change s.queue.trying (runs_not Trying) without_try s.desk) (dropped_news s.queue.next s.queue.trying)
-
-  pub given_up_news : (branch : Branch) → IsNewsOf s (given_up branch s).state
-  given_up_news Staging = failing_news why.Conflict
-  given_up_news Trying = ended_news why.TryFailed
 
   land_news : (batch : Batch) → s.queue.staging.running ≡ Some batch → IsNewsOf s (to_land batch s).state
   land_news batch is =
@@ -133,59 +129,51 @@ module _ (s : State) where
       (requeued_news (approved_on (released_on base s.desk s.queue.staging.running)) s.queue.next s.queue.staging)
 
 -- A STATUS
-if_news : (b : Bool) (s : State) (outcome : Outcome) → IsNewsOf s outcome.state → IsNewsOf s (if b then outcome else quiet s).state
-if_news true s outcome news = news
-if_news false s outcome news = none s
+both_news : (does : Branch → State → Outcome) → ((branch : Branch) (s : State) → IsNewsOf s (does branch s).state) → (s : State) → IsNewsOf s (on_both does s).state
+both_news does each s = more s (does Staging s).state _ (each Staging s) (each Trying (does Staging s).state)
 
-goes_on_news : (name : List ℕ) (report : Report) (s : State) → IsNewsOf s (goes_on name report s).state
-goes_on_news name report s = more s next _ (reported_news s Staging name report) (by next.queue.staging.running refl) where
-  next : State
-  next = with_queue s (reported Staging name report s.queue)
+passing_news : (branch : Branch) (batch : Batch) (s : State) → (lane_of branch s.queue).running ≡ Some batch → IsNewsOf s (passing branch batch s).state
+passing_news Staging batch s runs = land_news s batch runs
+passing_news Trying batch s runs = ending_news s Trying why.TryPassed
 
-  by : (running : Option Batch) → next.queue.staging.running ≡ running → IsNewsOf next (if_passed next running).state
-  by None is = none next
-  by (Some batch) is = if_news (has_passed next.desk.settings batch.stage) next (to_land batch next) (land_news next batch is)
+told_of_news : (branch : Branch) (name : List ℕ) (state : StatusState) (s : State) → IsNewsOf s (told_of branch name state s).state
+told_of_news branch name state s = by state where
+  goes_on_news : (report : Report) → IsNewsOf s (goes_on branch name report s).state
+  goes_on_news report = more s next _ (reported_news s branch name report) (on (lane_of branch next.queue).running refl) where
+    next : State
+    next = with_queue s (reported branch name report s.queue)
 
-try_goes_on_news : (name : List ℕ) (report : Report) (s : State) → IsNewsOf s (try_goes_on name report s).state
-try_goes_on_news name report s = more s next _ (reported_news s Trying name report) (by next.queue.trying.running) where
-  next : State
-  next = with_queue s (reported Trying name report s.queue)
+    on : (running : Option Batch) → (lane_of branch next.queue).running ≡ running → IsNewsOf next (if_passed branch next running).state
+    on None runs = none next
+    on (Some batch) runs =
+        either_way (λ (o : Outcome). IsNewsOf next o.state) (has_passed next.desk.settings batch.stage) (passing branch batch next) (quiet next)
+        (λ passes. passing_news branch batch next runs) (λ fails. none next)
 
-  by : (running : Option Batch) → IsNewsOf next (try_if_passed next running).state
-  by None = none next
-  by (Some batch) = if_news (has_passed next.desk.settings batch.stage) next (try_ended why.TryPassed next) (ended_news next why.TryPassed)
-
-told_of_news : (name : List ℕ) (state : StatusState) (s : State) → IsNewsOf s (told_of name state s).state
-told_of_news name Success s = goes_on_news name report.Success s
-told_of_news name Pending s = goes_on_news name report.Pending s
-told_of_news name Failure s = failing_news s (why.Failed name)
-told_of_news name Error s = failing_news s (why.Failed name)
-
-try_told_of_news : (name : List ℕ) (state : StatusState) (s : State) → IsNewsOf s (try_told_of name state s).state
-try_told_of_news name Success s = try_goes_on_news name report.Success s
-try_told_of_news name Pending s = try_goes_on_news name report.Pending s
-try_told_of_news name Failure s = ended_news s why.TryFailed
-try_told_of_news name Error s = ended_news s why.TryFailed
+  by : (said : StatusState) → IsNewsOf s (told_of branch name said s).state
+  by Success = goes_on_news report.Success
+  by Pending = goes_on_news report.Pending
+  by Failure = ending_news s branch (told_as branch (why.Failed name))
+  by Error = ending_news s branch (told_as branch (why.Failed name))
 
 pub told_news : (commit name : List ℕ) (state : StatusState) (s : State) → IsNewsOf s (told commit name state s).state
 told_news commit name state s =
-    let first = told_staging commit name state s in
-    if_news (is_required s.desk.settings name) s (then_next first (told_trying commit name state))
-    (more s first.state _
-    (if_news (has_staged commit s.queue.staging) s (told_of name state s) (told_of_news name state s))
-    (if_news (has_staged commit first.state.queue.trying) first.state (try_told_of name state first.state) (try_told_of_news name state first.state)))
+    either_way (λ (o : Outcome). IsNewsOf s o.state) (is_required s.desk.settings name) (on_both (told_on commit name state) s) (quiet s)
+    (λ required. both_news (told_on commit name state) each s) (λ other. none s) where
+      each : (branch : Branch) (t : State) → IsNewsOf t (told_on commit name state branch t).state
+      each branch t =
+          either_way (λ (o : Outcome). IsNewsOf t o.state) (has_staged commit (lane_of branch t.queue)) (told_of branch name state t) (quiet t)
+          (λ there. told_of_news branch name state t) (λ elsewhere. none t)
 
 -- A TICK: what takes too long ends, and then the first batch that waits is started on each branch
-ended_on_time_news : (now : ℕ) (s : State) → IsNewsOf s (ended_on_time now s).state
-ended_on_time_news now s =
-    let first = timed_out now s in
-    more s first.state _
-    (if_news (has_overdue now s.desk.settings s.queue.staging) s (failing why.TimedOut s) (failing_news s why.TimedOut))
-    (if_news (has_overdue now first.state.desk.settings first.state.queue.trying) first.state (try_ended why.TryFailed first.state) (ended_news first.state why.TryFailed))
+ended_on_time_news : (now : ℕ) (s : State) → IsNewsOf s (on_both (timed_out now) s).state
+ended_on_time_news now = both_news (timed_out now)
+    (λ branch t.
+    either_way (λ (o : Outcome). IsNewsOf t o.state) (has_overdue now t.desk.settings (lane_of branch t.queue)) (failing branch why.TimedOut t) (quiet t)
+    (λ overdue. ending_news t branch (told_as branch why.TimedOut)) (λ timely. none t))
 
-pub started_untouched : (now : ℕ) (s t : State) → IsNewsOf s t → Untouched (in_front s) s (all_starting now t).state
+pub started_untouched : (now : ℕ) (s t : State) → IsNewsOf s t → Untouched (in_front s) s (on_both (starting now) t).state
 started_untouched now s t news =
-    untouched_by (in_front s) s (all_starting now t).state news.desk
+    untouched_by (in_front s) s (on_both (starting now) t).state news.desk
     (λ n old other.
     let parts = or_parts (is_in_front s.queue.staging n) (is_in_front s.queue.trying n) other in (
       started_same n now t.queue.staging (news.staging.front n old parts.0) ∙ news.staging.same n old parts.0,
@@ -193,8 +181,8 @@ started_untouched now s t news =
     ))
     (omega (arith, news.next))
 
-pub tick_untouched : (now : ℕ) (s : State) → Untouched (in_front s) s (done s (Tick now)).state
+pub tick_untouched : (now : ℕ) (s : State) → Untouched (in_front s) s (done s (Other (Tick now))).state
 tick_untouched now s =
     let set = with_desk s (with_clock s.desk now) in
-    let same = started_untouched now set (ended_on_time now set).state (ended_on_time_news now set) in
+    let same = started_untouched now set (on_both (timed_out now) set).state (ended_on_time_news now set) in
     record { people = same.people; changes = same.changes; batches = same.batches; settings = same.settings; next = same.next }

@@ -15,7 +15,9 @@ use Rattle.gate_rules.specs.declared.change.Change.{Change}
 use Rattle.gate_rules.specs.declared.change.Repeat.TheVariants as repeat
 use Rattle.gate_rules.specs.declared.rule.Rule.{Rule}
 use Rattle.gate_rules.specs.declared.rule.Rule.TheVariants.{UnknownChange, NotPermitted, NotOpen, Landing as IsLandingRule}
-use Rattle.gate_state.specs.declared.act.Act.TheVariants.{Spoken, Opened}
+use Rattle.gate_state.specs.declared.act.Act.TheVariants.{On}
+use Rattle.gate_state.specs.declared.act.ChangeFact.TheVariants.{Opened}
+use Rattle.gate_state.specs.declared.act.Deed.TheVariants.{Said, Happened}
 use Rattle.gate_queue.specs.Machine.{broken, effect, altered, approved_by, with_try, without_try, with_priority, with_delegates, with_author_as_delegate, without_delegates, opened, pushed, moved_to, unless_against}
 use Rattle.gate_state.specs.State.{approved_on, priority_on}
 use Rattle.gate_queue.proofs.Changes.{altered_look, altered_here, altered_elsewhere, opened_here, opened_elsewhere}
@@ -67,7 +69,7 @@ free_only desk n alter lands_as free =
 same_only : (desk : DeskView) (n : ℕ) → OnlyAt n desk desk
 same_only desk n = record { settings = refl; clock = refl; others = λ other differs. refl; landing = refl; final = λ so. (λ some. some, refl) }
 
-pub opened_only : (desk : DeskView) (n : ℕ) (author head : List ℕ) → OnlyAt n desk (effect desk (Opened n author head))
+pub opened_only : (desk : DeskView) (n : ℕ) (author head : List ℕ) → OnlyAt n desk (effect desk n (Happened (Opened author head)))
 opened_only desk n author head = record {
   settings = refl;
   clock = refl;
@@ -75,7 +77,7 @@ opened_only desk n author head = record {
   landing = ap (λ (c : Option Change). option_map_or (λ (x : Change). x.landing) c false) here ∙ lands (finite.get desk.changes n);
   final = λ so. subst (λ (c : Option Change). (option_map_or (λ (x : Change). is_some x.approved) c false ≡ true → approved_on desk n ≡ true) × (option_map_or (λ (x : Change). x.priority) c (pos 0) ≡ priority_on desk n)) (sym here) (finally (finite.get desk.changes n) so);
 } where
-  here : finite.get (effect desk (Opened n author head)).changes n ≡ Some (opened author head (finite.get desk.changes n))
+  here : finite.get (effect desk n (Happened (Opened author head))).changes n ≡ Some (opened author head (finite.get desk.changes n))
   here = opened_here desk n author head
 
   lands : (had : Option Change) → (opened author head had).landing ≡ option_map_or (λ (x : Change). x.landing) had false
@@ -98,7 +100,7 @@ free_by desk person n command others holds =
     let opened = passed (is_open s n) NotOpen _ permitted.1 in
     not-true (is_landing_on s n) (passed (not (is_landing_on s n)) IsLandingRule _ opened.1).0
 
-pub line_only : (desk : DeskView) (n : ℕ) (person : List ℕ) (spoken : SpokenOf) → broken (look desk) (Spoken n person spoken) ≡ None → OnlyAt n desk (effect desk (Spoken n person spoken))
+pub line_only : (desk : DeskView) (n : ℕ) (person : List ℕ) (spoken : SpokenOf) → broken (look desk) (On n (Said person spoken)) ≡ None → OnlyAt n desk (effect desk n (Said person spoken))
 line_only desk n person (Known Approve) holds = free_only desk n (approved_by (person ∷ []) repeat.Approve) (λ change. refl) (free_by desk person n Approve _ holds)
 line_only desk n person (Known (ApproveFor names)) holds = free_only desk n (approved_by names (repeat.ApproveFor names)) (λ change. refl) (free_by desk person n (ApproveFor names) _ holds)
 line_only desk n person (Known Withdraw) holds = free_only desk n without_approval (λ change. refl) (free_by desk person n Withdraw _ holds)

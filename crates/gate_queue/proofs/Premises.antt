@@ -7,7 +7,9 @@ use Rattle.gate_rules.specs.Rules.{first_failing, begins_with_rules, approval_ru
 use Rattle.gate_rules.specs.declared.change.Change.{Change}
 use Rattle.gate_rules.specs.declared.change.Phase.{Phase}
 use Rattle.gate_rules.specs.declared.rule.Rule.TheVariants.{UnknownChange, NotPermitted, NotOpen, Landing, NoSettings, NoBase, AlreadyApproved, AlreadyOpen, ChangeLanded}
-use Rattle.gate_state.specs.declared.act.Act.TheVariants.{Opened}
+use Rattle.gate_state.specs.declared.act.Act.TheVariants.{On}
+use Rattle.gate_state.specs.declared.act.ChangeFact.TheVariants.{Opened}
+use Rattle.gate_state.specs.declared.act.Deed.TheVariants.{Happened}
 use Rattle.gate_queue.specs.History.{Event, last_of, said_on, author_back, landed_back, phase_said, phase_by, phase_back, settings_back, fit_back, change_of, change_back, look_back}
 use Rattle.gate_queue.specs.Machine.{broken, of_open_change}
 use Rattle.gate_queue.proofs.Changes.{same_number}
@@ -45,7 +47,7 @@ pub fits : (events : List Event) (person : List ℕ) (n : ℕ) (command : Comman
 fits events person n command holds c same = subst (λ m. fit_back events m ≡ true) (sym (same_number c n same)) (fits_at events person n command holds (author_back events n) refl)
 
 -- a change that may be opened isn't open, and hasn't landed
-opened_at : (events : List Event) (n : ℕ) (author head : List ℕ) → broken (look_back events) (Opened n author head) ≡ None → (had : Option (List ℕ)) → author_back events n ≡ had
+opened_at : (events : List Event) (n : ℕ) (author head : List ℕ) → broken (look_back events) (On n (Happened (Opened author head))) ≡ None → (had : Option (List ℕ)) → author_back events n ≡ had
     → (option_map_or (λ (x : Change). is_open_phase x.phase) (option_map (change_of events n) had) false ≡ false)
     × (option_map_or (λ (x : Change). is_landed_phase x.phase) (option_map (change_of events n) had) false ≡ false)
 opened_at events n author head holds had is =
@@ -57,12 +59,12 @@ opened_at events n author head holds had is =
       sym (ap (λ (c : Option Change). option_map_or (λ (x : Change). is_landed_phase x.phase) c false) there) ∙ not-true (is_landed s n) fresh.0,
     )
 
-shut_at : (events : List Event) (n : ℕ) (author head : List ℕ) → Unseen events n → broken (look_back events) (Opened n author head) ≡ None
+shut_at : (events : List Event) (n : ℕ) (author head : List ℕ) → Unseen events n → broken (look_back events) (On n (Happened (Opened author head))) ≡ None
     → (had : Option (List ℕ)) → author_back events n ≡ had → is_open_phase (phase_back events n) ≡ false
 shut_at events n author head unseen holds None is = ap is_open_phase (blank_phase events n (unseen is))
 shut_at events n author head unseen holds (Some had) is = (opened_at events n author head holds (Some had) is).0
 
-pub shut : (events : List Event) (n : ℕ) (author head : List ℕ) → ((c : ℕ) → Unseen events c) → broken (look_back events) (Opened n author head) ≡ None
+pub shut : (events : List Event) (n : ℕ) (author head : List ℕ) → ((c : ℕ) → Unseen events c) → broken (look_back events) (On n (Happened (Opened author head))) ≡ None
     → (c : ℕ) → eqb c n ≡ true → is_open_phase (phase_back events c) ≡ false
 shut events n author head unseen holds c same =
     subst (λ m. is_open_phase (phase_back events m) ≡ false) (sym (same_number c n same)) (shut_at events n author head (unseen n) holds (author_back events n) refl)
@@ -71,12 +73,12 @@ landed_by_phase : (b : Bool) (said : Option Phase) → is_landed_phase (phase_by
 landed_by_phase true said is = cc is
 landed_by_phase false said is = refl
 
-fresh_at : (events : List Event) (n : ℕ) (author head : List ℕ) → Unseen events n → broken (look_back events) (Opened n author head) ≡ None
+fresh_at : (events : List Event) (n : ℕ) (author head : List ℕ) → Unseen events n → broken (look_back events) (On n (Happened (Opened author head))) ≡ None
     → (had : Option (List ℕ)) → author_back events n ≡ had → landed_back events n ≡ false
 fresh_at events n author head unseen holds None is = blank_landed events n (unseen is)
 fresh_at events n author head unseen holds (Some had) is = landed_by_phase (landed_back events n) (last_of (said_on n phase_said) events) (opened_at events n author head holds (Some had) is).1
 
-pub fresh : (events : List Event) (n : ℕ) (author head : List ℕ) → ((c : ℕ) → Unseen events c) → broken (look_back events) (Opened n author head) ≡ None
+pub fresh : (events : List Event) (n : ℕ) (author head : List ℕ) → ((c : ℕ) → Unseen events c) → broken (look_back events) (On n (Happened (Opened author head))) ≡ None
     → (c : ℕ) → eqb c n ≡ true → landed_back events c ≡ false
 fresh events n author head unseen holds c same =
     subst (λ m. landed_back events m ≡ false) (sym (same_number c n same)) (fresh_at events n author head (unseen n) holds (author_back events n) refl)

@@ -23,14 +23,18 @@ use Rattle.gate_state.specs.State.{IsMoment, approved_on, landing_on, priority_o
 use Rattle.gate_state.specs.Counts.{occurs, held, held_by, in_landing, of_any_priority}
 use Rattle.gate_state.specs.Lanes as lanes
 use Rattle.gate_state.specs.Lanes.{empty_lane, is_landing}
-use Rattle.gate_state.specs.Acts.{ActKeepsLimits}
+use Rattle.gate_state.specs.Acts.{ActKeepsLimits, DeedKeepsLimits}
 use Rattle.gate_state.specs.declared.act.Act.{Act}
-use Rattle.gate_state.specs.declared.act.Act.TheVariants.{Spoken, Role, Settings, Base, Opened, Pushed, Closed, Labeled, Unlabeled, Review, Staged as StagedAct, Conflict, Status, Refused, Tick}
+use Rattle.gate_state.specs.declared.act.Act.TheVariants.{On, Other}
+use Rattle.gate_state.specs.declared.act.ChangeFact.TheVariants.{Opened, Pushed, Closed, Labeled, Unlabeled, Review}
+use Rattle.gate_state.specs.declared.act.Deed.{Deed}
+use Rattle.gate_state.specs.declared.act.Deed.TheVariants.{Said, Happened}
+use Rattle.gate_state.specs.declared.act.Fact.TheVariants.{Role, Settings, Base, Staged as StagedFact, Conflict, Status, Refused, Tick}
 use Rattle.gate_state.specs.declared.act.StatusState.{StatusState}
 use Rattle.gate_state.specs.declared.act.StatusState.TheVariants.{Success, Failure, Error, Pending}
 use Rattle.gate_state.specs.declared.reply.Why.{Why}
 use Rattle.gate_state.specs.declared.reply.Why.TheVariants as why
-use Rattle.gate_queue.specs.Machine.{empty_state, heads_told, broken, denial, meaning, missing, has_ordered, is_ordered, has_staged, is_staged_with, effect, all_altered, without_try, closed, with_label, without_label, with_review, quiet, then_next, with_desk, with_queue, about, with_settled, settled, loses_approval, are_present, with_new_settings, under, accepted, lone, lone_altered, failing, has_passed, with_landing, to_land, if_passed, goes_on, told_of, told_staging, told_trying, try_told_of, try_goes_on, try_if_passed, try_ended, told, given_up, landed, released, released_at, released_on, sent_back, is_landing_with, lands_with, tries_left, rebased, is_overdue, has_overdue, timed_out, try_timed_out, ended_on_time, starting, done, unless_denied, after}
+use Rattle.gate_queue.specs.Machine.{empty_state, heads_told, broken, denial, meaning, missing, has_ordered, is_ordered, has_staged, is_staged_with, effect, all_altered, without_try, closed, with_label, without_label, with_review, quiet, with_desk, with_queue, about, with_settled, settled, loses_approval, are_present, with_new_settings, under, accepted, lone, lone_altered, failing, has_passed, with_landing, to_land, if_passed, goes_on, told_of, told, landed, released, released_at, released_on, sent_back, is_landing_with, lands_with, tries_left, rebased, is_overdue, has_overdue, timed_out, starting, done, unless_denied, after, ending, passing, on_both, told_on, told_as, spent, lone_on, ordered_on}
 use Rattle.gate_state.specs.Queue as specs
 use Rattle.gate_state.specs.Service.{IsInOrder, QueueIsInOrder, IsAlone, AreAlone}
 use Rattle.gate_state.specs.declared.batch.Batch.{Batch}
@@ -43,6 +47,7 @@ use Rattle.gate_state.specs.declared.batch.Stage.TheVariants.{Waiting, Ordered, 
 use Rattle.gate_state.specs.declared.lane.Lane.{Lane}
 use Rattle.gate_state.specs.declared.queue.Queue.{Queue}
 use Rattle.gate_state.specs.declared.state.State.{State}
+use Rattle.gate_queue.proofs.Choosing.{either_way}
 use Rattle.gate_queue.proofs.Changes.{all_look, lone_rest, lone_same, lone_ends}
 use Rattle.gate_queue.proofs.Fitness.{passed}
 use Rattle.gate_queue.proofs.Growing.{queue_grows}
@@ -54,12 +59,26 @@ use Rattle.gate_queue.proofs.Meaning.{meaning_allowed, meaning_limits}
 use Rattle.gate_queue.proofs.Only.{opened_only, line_only, pushed_only, fewer_only, against_only}
 use Rattle.gate_queue.proofs.Wording.{none_both}
 use Rattle.gate_queue.proofs.Held.{Holds, still_branch, heads_told_holds}
+use Rattle.gate_state.specs.Room.{HasRoom}
+use Rattle.gate_state.specs.Queue.{lane_of}
+use Rattle.gate_queue.specs.declared.outcome.Outcome.{Outcome}
 
--- AN ACT ABOUT A CHANGE
-about_holds : (s : State) (act : Act) (n : ℕ) → Holds s → ActKeepsLimits act → broken (look s.desk) act ≡ None → OnlyAt n s.desk (effect s.desk act) → Holds (about s n act).state
-about_holds s act n is limits holds only = record {
-  desk = effect_keeps s.desk act limits is.desk holds;
-  queue = follow_keeps s.desk (effect s.desk act) n only s.queue is.queue;
+-- A DEED ON A CHANGE
+only_at : (desk : DeskView) (n : ℕ) (deed : Deed) → broken (look desk) (On n deed) ≡ None → OnlyAt n desk (effect desk n deed)
+only_at desk n (Said person spoken) holds = line_only desk n person spoken holds
+only_at desk n (Happened (Opened author head)) holds = opened_only desk n author head
+only_at desk n (Happened (Pushed head)) holds = pushed_only desk n head
+only_at desk n (Happened Closed) holds = fewer_only desk n closed (λ change. refl) (λ change some. cc some) (λ change. refl)
+only_at desk n (Happened (Labeled label)) holds =
+    against_only desk n (λ settings c. is_blocked settings c.labels) (with_label label) (λ change. refl) (λ change. refl) (λ change. refl) desk.settings
+only_at desk n (Happened (Unlabeled label)) holds = fewer_only desk n (without_label label) (λ change. refl) (λ change some. some) (λ change. refl)
+only_at desk n (Happened (Review person head approves)) holds =
+    against_only desk n (λ settings c. has_too_few_reviews settings c.reviews) (with_review person approves) (λ change. refl) (λ change. refl) (λ change. refl) desk.settings
+
+about_holds : (s : State) (n : ℕ) (deed : Deed) → Holds s → DeedKeepsLimits deed → broken (look s.desk) (On n deed) ≡ None → Holds (about s n deed).state
+about_holds s n deed is limits holds = record {
+  desk = effect_keeps s.desk n deed limits is.desk holds;
+  queue = follow_keeps s.desk (effect s.desk n deed) n (only_at s.desk n deed holds) s.queue is.queue;
 }
 
 -- NEW SETTINGS
@@ -141,9 +160,16 @@ accepted_holds s (Ok settings) is = by (are_present s.desk settings) where
   by true = is
   by false = under_holds s settings is
 
--- A BATCH FAILS, or a try ends
-pub failing_holds : (s : State) (why : Why) → Holds s → lands s.queue.staging.running ≡ false → Holds (failing why s).state
-failing_holds s why is not_so = record {
+-- No try is landing, so that one that fails is dropped.
+pub try_not_landing : (lane : Lane) → AreAlone lane → lands lane.running ≡ false
+try_not_landing lane alone = by lane.running alone.running where
+  by : (running : Option Batch) → IfSome running (λ batch. IsAlone batch × (is_landing batch.stage ≡ false)) → lands running ≡ false
+  by None is = refl
+  by (Some batch) is = is.1
+
+-- A BATCH ENDS
+pub ending_holds : (branch : Branch) (s : State) (why : Why) → Holds s → lands (lane_of branch s.queue).running ≡ false → Holds (ending branch why s).state
+ending_holds Staging s why is not_so = record {
   desk = lone_keeps without_approval s.desk one (λ change was. ended_keeps s.desk.settings s.desk.base change was) is.desk;
   queue = record {
     order = (queue_law s.queue is.queue.order).fail Staging;
@@ -165,16 +191,7 @@ failing_holds s why is not_so = record {
 
   rest : (new.settings ≡ s.desk.settings) × (new.clock ≡ s.desk.clock)
   rest = lone_rest without_approval s.desk one
-
--- No try is landing, so that one that fails is dropped.
-try_not_landing : (lane : Lane) → AreAlone lane → lands lane.running ≡ false
-try_not_landing lane alone = by lane.running alone.running where
-  by : (running : Option Batch) → IfSome running (λ batch. IsAlone batch × (is_landing batch.stage ≡ false)) → lands running ≡ false
-  by None is = refl
-  by (Some batch) is = is.1
-
-pub try_ended_holds : (s : State) (why : Why) → Holds s → Holds (try_ended why s).state
-try_ended_holds s why is = record {
+ending_holds Trying s why is not_so = record {
   desk = lone_keeps without_try s.desk one (λ change was. untried_keeps s.desk.settings s.desk.base change was) is.desk;
   queue = record {
     order = (queue_law s.queue is.queue.order).drop Trying;
@@ -189,7 +206,7 @@ try_ended_holds s why is = record {
         is.queue.staging;
     trying = on_time Trying s.desk new (lanes.dropped s.queue.trying) rest.0 rest.1
         (subst (IsBranch Trying s.desk.clock s.desk.settings (marks_on Trying new)) (singles_law s.queue.next s.queue.trying is.queue.alone).fail.0
-        (failed_keeps Trying s.desk.clock s.desk.settings (marks_on Trying s.desk) (marks_on Trying new) s.queue.next s.queue.trying is.queue.trying (try_not_landing s.queue.trying is.queue.alone)
+        (failed_keeps Trying s.desk.clock s.desk.settings (marks_on Trying s.desk) (marks_on Trying new) s.queue.next s.queue.trying is.queue.trying not_so
         (λ c. lone_ends without_try s.desk one (λ (x : Change). x.trying) (λ change. refl) c) (λ c. (refl, refl))));
     alone = (singles_law s.queue.next s.queue.trying is.queue.alone).drop;
   };
@@ -329,105 +346,81 @@ module _ (s : State) (is : Holds s) (batch : Batch) (runs : s.queue.staging.runn
         by true (Some change) at queued = refl
         by false had at queued = refl
 
-pub if_passed_holds : (s : State) (running : Option Batch) → s.queue.staging.running ≡ running → Holds s → Holds (if_passed s running).state
-if_passed_holds s None runs is = is
-if_passed_holds s (Some batch) runs is = by batch.stage refl where
-  by : (at : Stage) → batch.stage ≡ at → Holds (if has_passed s.desk.settings at then to_land batch s else quiet s).state
-  by Waiting stage = is
-  by (Ordered since) stage = is
-  by (Landing commit) stage = is
-  by (Staged since commit reports) stage = on (has_passed s.desk.settings (Staged since commit reports)) where
-    on : (b : Bool) → Holds (if b then to_land batch s else quiet s).state
-    on true = to_land_holds s is batch runs since commit reports stage
-    on false = is
+passed_holds : (branch : Branch) (s : State) (batch : Batch) → (lane_of branch s.queue).running ≡ Some batch → has_passed s.desk.settings batch.stage ≡ true → Holds s
+    → Holds (passing branch batch s).state
+passed_holds Trying s batch runs passes is = ending_holds Trying s why.TryPassed is (try_not_landing s.queue.trying is.queue.alone)
+passed_holds Staging s batch runs passes is = by batch.stage refl passes where
+  by : (at : Stage) → batch.stage ≡ at → has_passed s.desk.settings at ≡ true → Holds (to_land batch s).state
+  by Waiting stage passes = cc passes
+  by (Ordered since) stage passes = cc passes
+  by (Landing commit) stage passes = cc passes
+  by (Staged since commit reports) stage passes = to_land_holds s is batch runs since commit reports stage
+
+if_passed_holds : (branch : Branch) (s : State) (running : Option Batch) → (lane_of branch s.queue).running ≡ running → Holds s → Holds (if_passed branch s running).state
+if_passed_holds branch s None runs is = is
+if_passed_holds branch s (Some batch) runs is =
+    either_way (λ (o : Outcome). Holds o.state) (has_passed s.desk.settings batch.stage) (passing branch batch s) (quiet s) (λ passes. passed_holds branch s batch runs passes is) (λ fails. is)
 
 -- A STATUS of a commit that is tested
+-- a lane that is another one, and keeps what the state keeps of it
+pub its_branch : (branch : Branch) (s : State) → Holds s → IsBranch branch s.desk.clock s.desk.settings (marks_on branch s.desk) (lane_of branch s.queue)
+its_branch Staging s is = is.queue.staging
+its_branch Trying s is = is.queue.trying
+
+one_lane : (branch : Branch) (s : State) → Holds s → (alter : Lane → Lane) → QueueIsInOrder (specs.with_lane branch (alter (lane_of branch s.queue)) 0 s.queue)
+    → IsBranch branch s.desk.clock s.desk.settings (marks_on branch s.desk) (alter (lane_of branch s.queue)) → AreAlone (alter s.queue.trying)
+    → Holds (with_queue s (specs.with_lane branch (alter (lane_of branch s.queue)) 0 s.queue))
+one_lane Staging s is alter order keeps alone = record { desk = is.desk; queue = record { order = order; staging = keeps; trying = is.queue.trying; alone = is.queue.alone } }
+one_lane Trying s is alter order keeps alone = record { desk = is.desk; queue = record { order = order; staging = is.queue.staging; trying = keeps; alone = alone } }
+
 pub reported_holds : (branch : Branch) (s : State) (name : List ℕ) (report : Report) → is_required s.desk.settings name ≡ true → Holds s
     → Holds (with_queue s (specs.reported branch name report s.queue))
-reported_holds Staging s name report required is = record {
-  desk = is.desk;
-  queue = record {
-    order = (queue_law s.queue is.queue.order).report Staging name report;
-    staging = reported_keeps Staging s.desk.clock s.desk.settings (marks_on Staging s.desk) s.queue.next s.queue.staging is.queue.staging name report required;
-    trying = is.queue.trying;
-    alone = is.queue.alone;
-  };
-}
-reported_holds Trying s name report required is = record {
-  desk = is.desk;
-  queue = record {
-    order = (queue_law s.queue is.queue.order).report Trying name report;
-    staging = is.queue.staging;
-    trying = reported_keeps Trying s.desk.clock s.desk.settings (marks_on Trying s.desk) s.queue.next s.queue.trying is.queue.trying name report required;
-    alone = (singles_law s.queue.next s.queue.trying is.queue.alone).report name report;
-  };
-}
-
-pub told_staging_holds : (s : State) (commit name : List ℕ) (state : StatusState) → is_required s.desk.settings name ≡ true → Holds s → Holds (told_staging commit name state s).state
-told_staging_holds s commit name state required is = by (has_staged commit s.queue.staging) refl where
-  goes : (report : Report) → Holds (goes_on name report s).state
-  goes report = if_passed_holds (with_queue s (specs.reported Staging name report s.queue)) _ refl (reported_holds Staging s name report required is)
-
-  of : (said : StatusState) → lands s.queue.staging.running ≡ false → Holds (told_of name said s).state
-  of Success not_so = goes report.Success
-  of Pending not_so = goes report.Pending
-  of Failure not_so = failing_holds s (why.Failed name) is not_so
-  of Error not_so = failing_holds s (why.Failed name) is not_so
-
-  by : (b : Bool) → has_staged commit s.queue.staging ≡ b → Holds (if b then told_of name state s else quiet s).state
-  by true there = of state (staged_so s.queue.staging commit there)
-  by false there = is
-
-pub told_trying_holds : (s : State) (commit name : List ℕ) (state : StatusState) → is_required s.desk.settings name ≡ true → Holds s → Holds (told_trying commit name state s).state
-told_trying_holds s commit name state required is = by (has_staged commit s.queue.trying) where
-  passing : (t : State) (running : Option Batch) → Holds t → Holds (try_if_passed t running).state
-  passing t None will = will
-  passing t (Some batch) will = on (has_passed t.desk.settings batch.stage) where
-    on : (b : Bool) → Holds (if b then try_ended why.TryPassed t else quiet t).state
-    on true = try_ended_holds t why.TryPassed will
-    on false = will
-
-  goes : (report : Report) → Holds (try_goes_on name report s).state
-  goes report = passing (with_queue s (specs.reported Trying name report s.queue)) _ (reported_holds Trying s name report required is)
-
-  of : (said : StatusState) → Holds (try_told_of name said s).state
-  of Success = goes report.Success
-  of Pending = goes report.Pending
-  of Failure = try_ended_holds s why.TryFailed is
-  of Error = try_ended_holds s why.TryFailed is
-
-  by : (b : Bool) → Holds (if b then try_told_of name state s else quiet s).state
-  by true = of state
-  by false = is
+reported_holds branch s name report required is =
+    one_lane branch s is (lanes.reported name report) ((queue_law s.queue is.queue.order).report branch name report)
+    (reported_keeps branch s.desk.clock s.desk.settings (marks_on branch s.desk) s.queue.next (lane_of branch s.queue) (its_branch branch s is) name report required)
+    ((singles_law s.queue.next s.queue.trying is.queue.alone).report name report)
 
 -- what it leaves
-pub told_same : (s : State) (commit name : List ℕ) (state : StatusState) → (told_staging commit name state s).state.desk.settings ≡ s.desk.settings
-told_same s commit name state = by (has_staged commit s.queue.staging) where
-  if_passed_same : (t : State) (running : Option Batch) → (if_passed t running).state.desk.settings ≡ t.desk.settings
-  if_passed_same t None = refl
-  if_passed_same t (Some batch) = on (has_passed t.desk.settings batch.stage) where
-    on : (b : Bool) → (if b then to_land batch t else quiet t).state.desk.settings ≡ t.desk.settings
-    on true = ap (λ (l : Look). l.settings) (all_look (with_landing true) (λ change. refl) batch.changes t.desk)
-    on false = refl
+if_passed_settings : (branch : Branch) (s : State) (running : Option Batch) → (if_passed branch s running).state.desk.settings ≡ s.desk.settings
+if_passed_settings branch s None = refl
+if_passed_settings branch s (Some batch) =
+    either_way (λ (o : Outcome). o.state.desk.settings ≡ s.desk.settings) (has_passed s.desk.settings batch.stage) (passing branch batch s) (quiet s) (λ passes. by branch) (λ fails. refl) where
+      by : (b : Branch) → (passing b batch s).state.desk.settings ≡ s.desk.settings
+      by Staging = ap (λ (l : Look). l.settings) (all_look (with_landing true) (λ change. refl) batch.changes s.desk)
+      by Trying = (lone_rest without_try s.desk (lone_on Trying s)).0
 
-  of : (said : StatusState) → (told_of name said s).state.desk.settings ≡ s.desk.settings
-  of Success = if_passed_same (with_queue s (specs.reported Staging name report.Success s.queue)) _
-  of Pending = if_passed_same (with_queue s (specs.reported Staging name report.Pending s.queue)) _
-  of Failure = (lone_rest without_approval s.desk (lone s.queue.staging.running)).0
-  of Error = (lone_rest without_approval s.desk (lone s.queue.staging.running)).0
+-- a status whose name is required
+abbrev pub IsAsked : List ℕ → State → Type 0
+IsAsked name s = (is_required s.desk.settings name ≡ true) × Holds s
 
-  by : (b : Bool) → (if b then told_of name state s else quiet s).state.desk.settings ≡ s.desk.settings
-  by true = of state
-  by false = refl
+told_of_holds : (branch : Branch) (s : State) (name : List ℕ) (state : StatusState) → lands (lane_of branch s.queue).running ≡ false → IsAsked name s → IsAsked name (told_of branch name state s).state
+told_of_holds branch s name state not_so is = by state where
+  still : (t : State) → t.desk.settings ≡ s.desk.settings → is_required t.desk.settings name ≡ true
+  still t same = ap (λ (o : Option SettingsView). is_required o name) same ∙ is.0
+
+  goes : (report : Report) → IsAsked name (goes_on branch name report s).state
+  goes report =
+      let after = with_queue s (specs.reported branch name report s.queue) in
+      (still (goes_on branch name report s).state (if_passed_settings branch after (lane_of branch after.queue).running), if_passed_holds branch after (lane_of branch after.queue).running refl (reported_holds branch s name report is.0 is.1))
+
+  ends : (cause : Why) → IsAsked name (failing branch cause s).state
+  ends cause = (still (failing branch cause s).state (lone_rest (spent branch) s.desk (lone_on branch s)).0, ending_holds branch s (told_as branch cause) is.1 not_so)
+
+  by : (said : StatusState) → IsAsked name (told_of branch name said s).state
+  by Success = goes report.Success
+  by Pending = goes report.Pending
+  by Failure = ends (why.Failed name)
+  by Error = ends (why.Failed name)
+
+pub told_on_holds : (commit name : List ℕ) (state : StatusState) (branch : Branch) (s : State) → IsAsked name s → IsAsked name (told_on commit name state branch s).state
+told_on_holds commit name state branch s is =
+    either_way (λ (o : Outcome). IsAsked name o.state) (has_staged commit (lane_of branch s.queue)) (told_of branch name state s) (quiet s)
+    (λ there. told_of_holds branch s name state (staged_so (lane_of branch s.queue) commit there) is) (λ elsewhere. is)
 
 told_holds : (s : State) (commit name : List ℕ) (state : StatusState) → Holds s → Holds (told commit name state s).state
-told_holds s commit name state is = by (is_required s.desk.settings name) refl where
-  by : (b : Bool) → is_required s.desk.settings name ≡ b
-      → Holds (if b then then_next (told_staging commit name state s) (told_trying commit name state) else quiet s).state
-  by true required =
-      told_trying_holds (told_staging commit name state s).state commit name state (ap (λ (o : Option SettingsView). is_required o name) (told_same s commit name state) ∙ required)
-      (told_staging_holds s commit name state required is)
-  by false required = is
+told_holds s commit name state is =
+    either_way (λ (o : Outcome). Holds o.state) (is_required s.desk.settings name) (on_both (told_on commit name state) s) (quiet s)
+    (λ required. (told_on_holds commit name state Trying _ (told_on_holds commit name state Staging s (required, is))).1) (λ other. is)
 
 -- THE RUNNING BATCH GOES BACK
 pub released_twice : (on : Option (List ℕ)) (commit : List ℕ) (change : Change) → released on commit (released on commit change) ≡ released on commit change
@@ -597,17 +590,10 @@ rebased_holds base s is = record { desk = base_keeps new base back.desk; queue =
   }
 
 -- A TICK
-pub timed_out_holds : (s : State) (now : ℕ) → Holds s → Holds (timed_out now s).state
-timed_out_holds s now is = by (has_overdue now s.desk.settings s.queue.staging) refl where
-  by : (b : Bool) → has_overdue now s.desk.settings s.queue.staging ≡ b → Holds (if b then failing why.TimedOut s else quiet s).state
-  by true overdue = failing_holds s why.TimedOut is (overdue_so now s.desk.settings s.queue.staging overdue)
-  by false overdue = is
-
-pub try_timed_out_holds : (s : State) (now : ℕ) → Holds s → Holds (try_timed_out now s).state
-try_timed_out_holds s now is = by (has_overdue now s.desk.settings s.queue.trying) where
-  by : (b : Bool) → Holds (if b then try_ended why.TryFailed s else quiet s).state
-  by true = try_ended_holds s why.TryFailed is
-  by false = is
+pub timed_out_holds : (now : ℕ) (branch : Branch) (s : State) → Holds s → Holds (timed_out now branch s).state
+timed_out_holds now branch s is =
+    either_way (λ (o : Outcome). Holds o.state) (has_overdue now s.desk.settings (lane_of branch s.queue)) (failing branch why.TimedOut s) (quiet s)
+    (λ overdue. ending_holds branch s (told_as branch why.TimedOut) is (overdue_so now s.desk.settings (lane_of branch s.queue) overdue)) (λ timely. is)
 
 pub clock_holds : (s : State) (now : ℕ) → IsMoment now → s.desk.clock ≤ now → Holds s → Holds (with_desk s (with_clock s.desk now))
 clock_holds s now limit past is = record {
@@ -620,95 +606,67 @@ clock_holds s now limit past is = record {
   };
 }
 
-pub starting_holds : (branch : Branch) (s : State) (now : ℕ) → s.desk.clock ≡ now → Holds s → Holds (starting branch now s).state
-starting_holds branch s now at is = record { desk = is.desk; queue = by branch } where
-  started : (on : Branch) (lane : Lane) → IsBranch on s.desk.clock s.desk.settings (marks_on on s.desk) lane → IsBranch on s.desk.clock s.desk.settings (marks_on on s.desk) (lanes.started now lane)
-  started on lane was =
-      subst (λ (clock : ℕ). IsBranch on clock s.desk.settings (marks_on on s.desk) (lanes.started now lane)) (sym at)
-      (started_keeps on s.desk.clock s.desk.settings (marks_on on s.desk) s.queue.next lane was now (omega (arith, at)))
+-- one whose clock is this
+abbrev pub IsNow : ℕ → State → Type 0
+IsNow now s = (s.desk.clock ≡ now) × Holds s
 
-  by : (on : Branch) → IsQueue s.desk (specs.started on now s.queue)
-  by Staging = record { order = (queue_law s.queue is.queue.order).start Staging now; staging = started Staging s.queue.staging is.queue.staging; trying = is.queue.trying; alone = is.queue.alone }
-  by Trying = record {
-    order = (queue_law s.queue is.queue.order).start Trying now;
-    staging = is.queue.staging;
-    trying = started Trying s.queue.trying is.queue.trying;
-    alone = (singles_law s.queue.next s.queue.trying is.queue.alone).start now;
-  }
+pub starting_holds : (now : ℕ) (branch : Branch) (s : State) → IsNow now s → IsNow now (starting now branch s).state
+starting_holds now branch s is =
+    let started = started_keeps branch s.desk.clock s.desk.settings (marks_on branch s.desk) s.queue.next (lane_of branch s.queue) (its_branch branch s is.1) now (omega (arith, is.0)) in (
+      is.0,
+      one_lane branch s is.1 (lanes.started now) ((queue_law s.queue is.1.queue.order).start branch now)
+          (subst (λ (clock : ℕ). IsBranch branch clock s.desk.settings (marks_on branch s.desk) (lanes.started now (lane_of branch s.queue))) (sym is.0) started)
+          ((singles_law s.queue.next s.queue.trying is.1.queue.alone).start now),
+    )
 
--- the ends of what has taken too long leave the clock
-pub timed_out_clock : (s : State) (now : ℕ) → (timed_out now s).state.desk.clock ≡ s.desk.clock
-timed_out_clock s now = by (has_overdue now s.desk.settings s.queue.staging) where
-  by : (b : Bool) → (if b then failing why.TimedOut s else quiet s).state.desk.clock ≡ s.desk.clock
-  by true = (lone_rest without_approval s.desk (lone s.queue.staging.running)).1
-  by false = refl
+-- the end of what has taken too long leaves the clock
+timed_out_clock : (now : ℕ) (branch : Branch) (s : State) → (timed_out now branch s).state.desk.clock ≡ s.desk.clock
+timed_out_clock now branch s =
+    either_way (λ (o : Outcome). o.state.desk.clock ≡ s.desk.clock) (has_overdue now s.desk.settings (lane_of branch s.queue)) (failing branch why.TimedOut s) (quiet s)
+    (λ overdue. (lone_rest (spent branch) s.desk (lone_on branch s)).1) (λ timely. refl)
 
-pub try_timed_out_clock : (s : State) (now : ℕ) → (try_timed_out now s).state.desk.clock ≡ s.desk.clock
-try_timed_out_clock s now = by (has_overdue now s.desk.settings s.queue.trying) where
-  by : (b : Bool) → (if b then try_ended why.TryFailed s else quiet s).state.desk.clock ≡ s.desk.clock
-  by true = (lone_rest without_try s.desk (lone s.queue.trying.running)).1
-  by false = refl
+pub still_clock : (now : ℕ) (s : State) → (on_both (timed_out now) s).state.desk.clock ≡ s.desk.clock
+still_clock now s = timed_out_clock now Trying (timed_out now Staging s).state ∙ timed_out_clock now Staging s
 
-pub still_clock : (s : State) (now : ℕ) → (ended_on_time now s).state.desk.clock ≡ s.desk.clock
-still_clock s now = try_timed_out_clock (timed_out now s).state now ∙ timed_out_clock s now
+pub ended_on_time_holds : (now : ℕ) (s : State) → Holds s → Holds (on_both (timed_out now) s).state
+ended_on_time_holds now s is = timed_out_holds now Trying (timed_out now Staging s).state (timed_out_holds now Staging s is)
 
-pub ended_on_time_holds : (s : State) (now : ℕ) → Holds s → Holds (ended_on_time now s).state
-ended_on_time_holds s now is = try_timed_out_holds (timed_out now s).state now (timed_out_holds s now is)
-
-tick_holds : (s : State) (now : ℕ) → IsMoment now → s.desk.clock ≤ now → Holds s → Holds (done s (Tick now)).state
+tick_holds : (s : State) (now : ℕ) → IsMoment now → s.desk.clock ≤ now → Holds s → Holds (done s (Other (Tick now))).state
 tick_holds s now limit past is =
     let t = with_desk s (with_clock s.desk now) in
-    let later = (ended_on_time now t).state in
-    let at = still_clock t now in
-    starting_holds Trying (starting Staging now later).state now at (starting_holds Staging later now at (ended_on_time_holds t now (clock_holds s now limit past is)))
+    let ended : IsNow now (on_both (timed_out now) t).state = (still_clock now t, ended_on_time_holds now t (clock_holds s now limit past is)) in
+    (starting_holds now Trying _ (starting_holds now Staging (on_both (timed_out now) t).state ended)).1
 
--- A BATCH IS STAGED that was ordered
-staged_holds : (s : State) (batch : ℕ) (commit : List ℕ) → Holds s → Holds (done s (StagedAct batch commit)).state
-staged_holds s batch commit is = record { desk = is.desk; queue = by (has_ordered batch s.queue.staging) refl } where
-  by : (b : Bool) → has_ordered batch s.queue.staging ≡ b → IsQueue s.desk (specs.staged (if b then Staging else Trying) s.desk.clock commit s.queue)
-  by true ordered = record {
-    order = (queue_law s.queue is.queue.order).stage Staging s.desk.clock commit;
-    staging = staged_keeps Staging s.desk.clock s.desk.settings (marks_on Staging s.desk) s.queue.next s.queue.staging is.queue.staging commit (ordered_so s.queue.staging batch ordered);
-    trying = is.queue.trying;
-    alone = is.queue.alone;
-  }
-  by false ordered = record {
-    order = (queue_law s.queue is.queue.order).stage Trying s.desk.clock commit;
-    staging = is.queue.staging;
-    trying = staged_keeps Trying s.desk.clock s.desk.settings (marks_on Trying s.desk) s.queue.next s.queue.trying is.queue.trying commit (try_not_landing s.queue.trying is.queue.alone);
-    alone = (singles_law s.queue.next s.queue.trying is.queue.alone).stage s.desk.clock commit;
-  }
+-- A BATCH IS STAGED that was ordered, on its branch. It isn't landing.
+pub ordered_on_so : (s : State) → Holds s → (number : ℕ) → lands (lane_of (ordered_on number s.queue) s.queue).running ≡ false
+ordered_on_so s is number = by (has_ordered number s.queue.staging) refl where
+  by : (b : Bool) → has_ordered number s.queue.staging ≡ b → lands (lane_of (if b then Staging else Trying) s.queue).running ≡ false
+  by true there = ordered_so s.queue.staging number there
+  by false there = try_not_landing s.queue.trying is.queue.alone
+
+staged_holds : (s : State) (batch : ℕ) (commit : List ℕ) → Holds s → Holds (done s (Other (StagedFact batch commit))).state
+staged_holds s batch commit is =
+    let branch = ordered_on batch s.queue in
+    one_lane branch s is (lanes.staged s.desk.clock commit) ((queue_law s.queue is.queue.order).stage branch s.desk.clock commit)
+    (staged_keeps branch s.desk.clock s.desk.settings (marks_on branch s.desk) s.queue.next (lane_of branch s.queue) (its_branch branch s is) commit (ordered_on_so s is batch))
+    ((singles_law s.queue.next s.queue.trying is.queue.alone).stage s.desk.clock commit)
 
 -- ANY ACT
 pub done_holds : (s : State) (act : Act) → Holds s → ActKeepsLimits act → missing s act ≡ None → broken (look s.desk) act ≡ None → Holds (done s act).state
-done_holds s (Spoken n person spoken) is limits there holds = about_holds s (Spoken n person spoken) n is limits holds (line_only s.desk n person spoken holds)
-done_holds s (Opened n author head) is limits there holds = about_holds s (Opened n author head) n is limits holds (opened_only s.desk n author head)
-done_holds s (Pushed n head) is limits there holds = about_holds s (Pushed n head) n is limits holds (pushed_only s.desk n head)
-done_holds s (Closed n) is limits there holds = about_holds s (Closed n) n is limits holds (fewer_only s.desk n closed (λ change. refl) (λ change some. cc some) (λ change. refl))
-done_holds s (Labeled n label) is limits there holds =
-    about_holds s (Labeled n label) n is limits holds
-    (against_only s.desk n (λ settings c. is_blocked settings c.labels) (with_label label) (λ change. refl) (λ change. refl) (λ change. refl) s.desk.settings)
-done_holds s (Unlabeled n label) is limits there holds =
-    about_holds s (Unlabeled n label) n is limits holds (fewer_only s.desk n (without_label label) (λ change. refl) (λ change some. some) (λ change. refl))
-done_holds s (Review n person head approves) is limits there holds =
-    about_holds s (Review n person head approves) n is limits holds
-    (against_only s.desk n (λ settings c. has_too_few_reviews settings c.reviews) (with_review person approves) (λ change. refl) (λ change. refl) (λ change. refl) s.desk.settings)
-done_holds s (Role person role) is limits there holds = record {
+done_holds s (On n deed) is limits there holds = about_holds s n deed is limits holds
+done_holds s (Other (Role person role)) is limits there holds = record {
   desk = role_keeps s.desk person role is.desk;
   queue = record { order = is.queue.order; staging = is.queue.staging; trying = is.queue.trying; alone = is.queue.alone };
 }
-done_holds s (Settings text) is limits there holds = accepted_holds s (settings_of text) is
-done_holds s (Base base) is limits there holds = rebased_holds base s is
-done_holds s (StagedAct batch commit) is limits there holds = staged_holds s batch commit is
-done_holds s (Conflict batch) is limits there holds = by (has_ordered batch s.queue.staging) refl where
-  by : (b : Bool) → has_ordered batch s.queue.staging ≡ b → Holds (given_up (if b then Staging else Trying) s).state
-  by true ordered = failing_holds s why.Conflict is (ordered_so s.queue.staging batch ordered)
-  by false ordered = try_ended_holds s why.TryFailed is
-done_holds s (Status commit name state) is limits there holds = told_holds (heads_told commit name state s) commit name state (heads_told_holds s commit name state is)
-done_holds s (Refused batch) is limits there holds = refused_holds s is
-done_holds s (Tick now) is limits there holds = tick_holds s now limits (leb-true s.desk.clock now (passed (leb s.desk.clock now) ClockBack [] holds).0) is
+done_holds s (Other (Settings text)) is limits there holds = accepted_holds s (settings_of text) is
+done_holds s (Other (Base base)) is limits there holds = rebased_holds base s is
+done_holds s (Other (StagedFact batch commit)) is limits there holds = staged_holds s batch commit is
+done_holds s (Other (Conflict batch)) is limits there holds = ending_holds (ordered_on batch s.queue) s (told_as (ordered_on batch s.queue) why.Conflict) is (ordered_on_so s is batch)
+done_holds s (Other (Status commit name state)) is limits there holds = told_holds (heads_told commit name state s) commit name state (heads_told_holds s commit name state is)
+done_holds s (Other (Refused batch)) is limits there holds = refused_holds s is
+done_holds s (Other (Tick now)) is limits there holds = tick_holds s now limits (leb-true s.desk.clock now (passed (leb s.desk.clock now) ClockBack [] holds).0) is
 
-pub still_state : (s : State) → IsState s → s.queue.next ≤ 8_999_999_999_999_996 → (act : Act) → ActKeepsLimits act → IsState (after s act)
+pub still_state : (s : State) → IsState s → HasRoom s.queue → (act : Act) → ActKeepsLimits act → IsState (after s act)
 still_state s is room act limits = by (denial s act) refl where
   means : Act
   means = meaning (look s.desk) act

@@ -21,10 +21,10 @@ use Rattle.gate_state.specs.declared.reply.Order.{Order}
 use Rattle.gate_state.specs.declared.reply.Order.TheVariants.{Stage, Land, Notice}
 use Rattle.gate_state.specs.declared.reply.Why.{Why}
 use Rattle.gate_state.specs.declared.reply.Why.TheVariants as why
-use Rattle.gate_queue.specs.History.{Event, did, gave, given, last_of, landing_said, author_back, change_of, names_change, batches_back, landing_with, is_order, is_stage_of, is_land_of, stages, landings, ends_why, tells_of_try, look_back}
+use Rattle.gate_queue.specs.History.{Event, did, gave, given, last_of, landing_said, author_back, change_of, names_change, batches_back, landing_with, is_order, is_stage_of, is_land_of, stages, landings, ends_why, look_back}
 use Rattle.gate_state.specs.Lanes as lanes
 use Rattle.gate_state.specs.Lanes.{batches_of, is_landing, ordered_at, back, only, left, loses, stops_running, with_report, reported_on, staged_at, to_landing, to_land as lanes_to_land, taken_out, restarted, failed}
-use Rattle.gate_queue.specs.Machine.{broken, size_on, all_but, followed, approval_followed, followed_on, quiet, then_next, are_present, under, accepted, lone, lone_notices, failing, try_ended, has_passed, has_staged, to_land, land_order, if_passed, goes_on, told_of, told_staging, try_if_passed, try_goes_on, try_told_of, told_trying, told, tries_left, head_on, first_order, starting, all_starting, with_queue, has_overdue, timed_out, try_timed_out, ended_on_time}
+use Rattle.gate_queue.specs.Machine.{broken, size_on, all_but, followed, approval_followed, followed_on, quiet, then_next, are_present, under, accepted, lone_notices, failing, has_passed, has_staged, to_land, land_order, if_passed, goes_on, told_of, told, tries_left, head_on, first_order, starting, with_queue, has_overdue, timed_out, ending, passing, on_both, told_on, lone_on}
 use Rattle.gate_state.specs.State.{approved_on, trying_on, priority_on, IsWaiting}
 use Rattle.gate_state.specs.Queue as specs
 use Rattle.gate_state.specs.Queue.{lane_of}
@@ -39,14 +39,15 @@ use Rattle.gate_state.specs.declared.lane.Lane.{Lane}
 use Rattle.gate_state.specs.declared.queue.Queue.{Queue}
 use Rattle.gate_queue.specs.declared.outcome.Outcome.{Outcome}
 use Rattle.gate_state.specs.declared.state.State.{State}
-use Rattle.gate_queue.proofs.Acting.{AreMild, failing_look, try_ended_look, starting_look, land_look}
+use Rattle.gate_queue.proofs.Choosing.{either_way}
+use Rattle.gate_queue.proofs.Acting.{AreMild, starting_look, land_look, ending_look, ends_on}
 use Rattle.gate_queue.proofs.After.{order_elsewhere}
-use Rattle.gate_queue.proofs.Growing.{waits, Grows, same_grows, failed_grows, started_grows, reported_grows, dropped_grows}
+use Rattle.gate_queue.proofs.Growing.{waits, Grows, same_grows, started_grows, reported_grows, ending_grows}
 use Rattle.gate_queue.proofs.Keeping.{lands, some_there, tried_by_staging}
 use Rattle.gate_queue.proofs.Landing.{Lands, Members, list_any_skip, commit_of, landing_of, none_lands, named_heads, staged_named}
 use Rattle.gate_state.specs.Lemmas.Numbers.{has_number, all_uses}
 use Rattle.gate_queue.proofs.Held.{Holds}
-use Rattle.gate_queue.proofs.States.{ready, tried_ready, running_ready, queued_held, tried_held, staged_so, overdue_so, reported_holds, starting_holds}
+use Rattle.gate_queue.proofs.States.{ready, tried_ready, running_ready, queued_held, tried_held, staged_so, overdue_so, reported_holds, starting_holds, timed_out_holds, IsNow, IsAsked, try_not_landing, told_on_holds}
 use Rattle.gate_queue.proofs.Unseen.{Unseen, order_unseen, still_unseen}
 
 abbrev once : Bool → ℕ
@@ -287,16 +288,18 @@ lone_kept : {few : ℕ} (events : List Event) (s t : State) (why : Why) (one : O
 lone_kept events s t why None kept same grows goes = quietly events s t kept same grows goes
 lone_kept events s t why (Some n) kept same grows goes = noticed events n why s t kept same grows goes
 
-pub failing_kept : (events : List Event) (s : State) (why : Why) → ends_why why ≡ true → lands s.queue.staging.running ≡ false → Kept events s
-    → Kept (given events (failing why s).orders) (failing why s).state
-failing_kept events s why ends not_so kept =
-    lone_kept events s (failing why s).state why (lone s.queue.staging.running) kept (failing_look s events why ends kept.same) (failed_grows Staging s.queue)
-    (failed_goes s.queue.next s.queue.staging not_so)
+pub ending_kept : (branch : Branch) (events : List Event) (s : State) (why : Why) → ends_on branch why ≡ true → lands (lane_of branch s.queue).running ≡ false → Kept events s
+    → Kept (given events (ending branch why s).orders) (ending branch why s).state
+ending_kept branch events s why ends not_so kept =
+    lone_kept events s (ending branch why s).state why (lone_on branch s) kept (ending_look branch s events why ends kept.same) (ending_grows branch why s) (goes branch not_so) where
+      goes : (b : Branch) → lands (lane_of b s.queue).running ≡ false → Goes s.queue.staging.running (ending b why s).state.queue.staging.running
+      goes Staging not_so = failed_goes s.queue.next s.queue.staging not_so
+      goes Trying not_so = same_goes s.queue.staging.running
 
-pub try_ended_kept : (events : List Event) (s : State) (why : Why) → tells_of_try why ≡ true → Kept events s → Kept (given events (try_ended why s).orders) (try_ended why s).state
-try_ended_kept events s why tells kept =
-    lone_kept events s (try_ended why s).state why (lone s.queue.trying.running) kept (try_ended_look s events why tells kept.same) (dropped_grows Trying s.queue)
-    (same_goes s.queue.staging.running)
+pub failing_kept : (branch : Branch) (events : List Event) (s : State) (cause : Why) → ends_why cause ≡ true → lands (lane_of branch s.queue).running ≡ false → Kept events s
+    → Kept (given events (failing branch cause s).orders) (failing branch cause s).state
+failing_kept Staging events s cause ends not_so kept = ending_kept Staging events s cause ends not_so kept
+failing_kept Trying events s cause ends not_so kept = ending_kept Trying events s why.TryFailed refl not_so kept
 
 -- THE FIRST WAITING BATCH OF A BRANCH RUNS
 -- none runs, and this one is next
@@ -484,8 +487,8 @@ module _ (branch : Branch) (events : List Event) (s : State) (kept : Kept events
         members = started_members now base;
       }
 
-pub starting_kept : (branch : Branch) (events : List Event) (s : State) (now : ℕ) → Holds s → Kept events s → Kept (given events (starting branch now s).orders) (starting branch now s).state
-starting_kept branch events s now is kept =
+pub starting_kept : (now : ℕ) (branch : Branch) (events : List Event) (s : State) → Holds s → Kept events s → Kept (given events (starting now branch s).orders) (starting now branch s).state
+starting_kept now branch events s is kept =
     by (lane_of branch s.queue).running (lane_of branch s.queue).waiting refl
     (starting_look branch s events now kept.same (λ number there. (never events s.queue kept.numbered branch number there).1)) where
       still : (running : Option Batch) (waiting : List Batch) → lane_of branch s.queue ≡ record { running = running; waiting = waiting }
@@ -544,118 +547,90 @@ land_kept events s batch since base commit reports runs at kept =
         by true = sym (ap (λ (l : StageOf). commit_of (to_landing l)) at)
         by false = none number
 
-if_passed_kept : (events : List Event) (s : State) (running : Option Batch) → s.queue.staging.running ≡ running → Holds s → Kept events s
-    → Kept (given events (if_passed s running).orders) (if_passed s running).state
-if_passed_kept events s None runs is kept = kept
-if_passed_kept events s (Some batch) runs is kept = by batch.stage refl where
-  by : (at : StageOf) → batch.stage ≡ at
-      → Kept (given events (if has_passed s.desk.settings at then to_land batch s else quiet s).orders) (if has_passed s.desk.settings at then to_land batch s else quiet s).state
-  by stage.Waiting at = kept
-  by (stage.Ordered since) at = kept
-  by (stage.Landing commit) at = kept
-  by (stage.Staged since commit reports) at = on (has_passed s.desk.settings (stage.Staged since commit reports)) where
-    ordered : (base : Option (List ℕ)) → is_some base ≡ true → Kept (given events (option_map_or (λ b. Land batch.number b commit ∷ []) base [])) (to_land batch s).state
-    ordered None some = cc some
-    ordered (Some base) some = land_kept events s batch since base commit reports runs at kept
-
-    on : (b : Bool) → Kept (given events (if b then to_land batch s else quiet s).orders) (if b then to_land batch s else quiet s).state
-    on true =
-        subst (λ (l : StageOf). Kept (given events (land_order s.desk batch.number l)) (to_land batch s).state) (sym at) (ordered s.desk.base (running_ready s is batch runs).1)
-    on false = kept
-
 -- ONE STEP AFTER THE OTHER
 pub given-append : (events : List Event) (first second : List Order) → given events (first ++ second) ≡ given (given events first) second
 given-append events [] second = refl
 given-append events (order ∷ first) second = given-append (gave order ∷ events) first second
 
+-- what keeps
+abbrev Keeps : List Event → Outcome → Type 0
+Keeps events to = Kept (given events to.orders) to.state
+
 pub then_kept : (events : List Event) (first : Outcome) (next : State → Outcome) → Kept (given (given events first.orders) (next first.state).orders) (next first.state).state
     → Kept (given events (then_next first next).orders) (then_next first next).state
 then_kept events first next kept = subst (λ (es : List Event). Kept es (next first.state).state) (sym (given-append events first.orders (next first.state).orders)) kept
 
--- A STATUS of a commit that is tested on staging, or for a try
-told_of_kept : (events : List Event) (s : State) (name : List ℕ) (state : StatusState) → is_required s.desk.settings name ≡ true → lands s.queue.staging.running ≡ false → Holds s → Kept events s
-    → Kept (given events (told_of name state s).orders) (told_of name state s).state
-told_of_kept events s name state required not_so is kept = of state where
-  goes : (report : Report) → Kept (given events (goes_on name report s).orders) (goes_on name report s).state
-  goes report =
-      let after = with_queue s (specs.reported Staging name report s.queue) in
-      if_passed_kept events after after.queue.staging.running refl (reported_holds Staging s name report required is)
-      (quietly events s after kept kept.same (reported_grows Staging s.queue name report) (reported_goes name report s.queue.staging.running))
+-- what each branch keeps of a state of which P holds, both do
+pub both_kept : (P : State → Type 0) (does : Branch → State → Outcome) → ((branch : Branch) (s : State) → P s → P (does branch s).state)
+    → ((branch : Branch) (events : List Event) (s : State) → P s → Kept events s → Kept (given events (does branch s).orders) (does branch s).state)
+    → (events : List Event) (s : State) → P s → Kept events s → Kept (given events (on_both does s).orders) (on_both does s).state
+both_kept P does still each events s is kept =
+    let first = does Staging s in
+    then_kept events first (does Trying) (each Trying (given events first.orders) first.state (still Staging s is) (each Staging events s is kept))
 
-  of : (said : StatusState) → Kept (given events (told_of name said s).orders) (told_of name said s).state
-  of Success = goes report.Success
-  of Pending = goes report.Pending
-  of Failure = failing_kept events s (why.Failed name) refl not_so kept
-  of Error = failing_kept events s (why.Failed name) refl not_so kept
+-- A BATCH HAS PASSED
+passed_kept : (branch : Branch) (events : List Event) (s : State) (batch : Batch) → (lane_of branch s.queue).running ≡ Some batch → has_passed s.desk.settings batch.stage ≡ true
+    → Holds s → Kept events s → Kept (given events (passing branch batch s).orders) (passing branch batch s).state
+passed_kept Trying events s batch runs passes is kept = ending_kept Trying events s why.TryPassed refl (try_not_landing s.queue.trying is.queue.alone) kept
+passed_kept Staging events s batch runs passes is kept = by batch.stage refl passes where
+  ordered : (since : ℕ) (commit : List ℕ) (reports : finite.FinMap _ Report) → batch.stage ≡ stage.Staged since commit reports → (base : Option (List ℕ)) → is_some base ≡ true
+      → Kept (given events (option_map_or (λ b. Land batch.number b commit ∷ []) base [])) (to_land batch s).state
+  ordered since commit reports at None some = cc some
+  ordered since commit reports at (Some base) some = land_kept events s batch since base commit reports runs at kept
 
-pub told_staging_kept : (events : List Event) (s : State) (commit name : List ℕ) (state : StatusState) → is_required s.desk.settings name ≡ true → Holds s → Kept events s
-    → Kept (given events (told_staging commit name state s).orders) (told_staging commit name state s).state
-told_staging_kept events s commit name state required is kept = by (has_staged commit s.queue.staging) refl where
-  by : (b : Bool) → has_staged commit s.queue.staging ≡ b
-      → Kept (given events (if b then told_of name state s else quiet s).orders) (if b then told_of name state s else quiet s).state
-  by true there = told_of_kept events s name state required (staged_so s.queue.staging commit there) is kept
-  by false there = kept
+  by : (at : StageOf) → batch.stage ≡ at → has_passed s.desk.settings at ≡ true → Kept (given events (land_order s.desk batch.number batch.stage)) (to_land batch s).state
+  by stage.Waiting at passes = cc passes
+  by (stage.Ordered since) at passes = cc passes
+  by (stage.Landing commit) at passes = cc passes
+  by (stage.Staged since commit reports) at passes =
+      subst (λ (l : StageOf). Kept (given events (land_order s.desk batch.number l)) (to_land batch s).state) (sym at)
+      (ordered since commit reports at s.desk.base (running_ready s is batch runs).1)
 
-try_if_passed_kept : (events : List Event) (s : State) (running : Option Batch) → Kept events s → Kept (given events (try_if_passed s running).orders) (try_if_passed s running).state
-try_if_passed_kept events s None kept = kept
-try_if_passed_kept events s (Some batch) kept = by (has_passed s.desk.settings batch.stage) where
-  by : (b : Bool) → Kept (given events (if b then try_ended why.TryPassed s else quiet s).orders) (if b then try_ended why.TryPassed s else quiet s).state
-  by true = try_ended_kept events s why.TryPassed refl kept
-  by false = kept
+if_passed_kept : (branch : Branch) (events : List Event) (s : State) (running : Option Batch) → (lane_of branch s.queue).running ≡ running → Holds s → Kept events s
+    → Kept (given events (if_passed branch s running).orders) (if_passed branch s running).state
+if_passed_kept branch events s None runs is kept = kept
+if_passed_kept branch events s (Some batch) runs is kept =
+    either_way (Keeps events) (has_passed s.desk.settings batch.stage) (passing branch batch s) (quiet s) (λ passes. passed_kept branch events s batch runs passes is kept) (λ fails. kept)
 
-try_told_of_kept : (events : List Event) (s : State) (name : List ℕ) (state : StatusState) → Kept events s → Kept (given events (try_told_of name state s).orders) (try_told_of name state s).state
-try_told_of_kept events s name state kept = of state where
-  goes : (report : Report) → Kept (given events (try_goes_on name report s).orders) (try_goes_on name report s).state
-  goes report =
-      let after = with_queue s (specs.reported Trying name report s.queue) in
-      try_if_passed_kept events after after.queue.trying.running
-      (quietly events s after kept kept.same (reported_grows Trying s.queue name report) (same_goes s.queue.staging.running))
+-- A STATUS of a commit that is tested
+told_of_kept : (branch : Branch) (events : List Event) (s : State) (name : List ℕ) (state : StatusState) → is_required s.desk.settings name ≡ true
+    → lands (lane_of branch s.queue).running ≡ false → Holds s → Kept events s → Kept (given events (told_of branch name state s).orders) (told_of branch name state s).state
+told_of_kept branch events s name state required not_so is kept = of state where
+  goes : (b : Branch) (report : Report) → Goes s.queue.staging.running (specs.reported b name report s.queue).staging.running
+  goes Staging report = reported_goes name report s.queue.staging.running
+  goes Trying report = same_goes s.queue.staging.running
 
-  of : (said : StatusState) → Kept (given events (try_told_of name said s).orders) (try_told_of name said s).state
-  of Success = goes report.Success
-  of Pending = goes report.Pending
-  of Failure = try_ended_kept events s why.TryFailed refl kept
-  of Error = try_ended_kept events s why.TryFailed refl kept
+  on : (report : Report) → Kept (given events (goes_on branch name report s).orders) (goes_on branch name report s).state
+  on report =
+      let after = with_queue s (specs.reported branch name report s.queue) in
+      if_passed_kept branch events after (lane_of branch after.queue).running refl (reported_holds branch s name report required is)
+      (quietly events s after kept kept.same (reported_grows branch s.queue name report) (goes branch report))
 
-pub told_trying_kept : (events : List Event) (s : State) (commit name : List ℕ) (state : StatusState) → Kept events s
-    → Kept (given events (told_trying commit name state s).orders) (told_trying commit name state s).state
-told_trying_kept events s commit name state kept = by (has_staged commit s.queue.trying) where
-  by : (b : Bool) → Kept (given events (if b then try_told_of name state s else quiet s).orders) (if b then try_told_of name state s else quiet s).state
-  by true = try_told_of_kept events s name state kept
-  by false = kept
+  of : (said : StatusState) → Kept (given events (told_of branch name said s).orders) (told_of branch name said s).state
+  of Success = on report.Success
+  of Pending = on report.Pending
+  of Failure = failing_kept branch events s (why.Failed name) refl not_so kept
+  of Error = failing_kept branch events s (why.Failed name) refl not_so kept
 
 pub told_kept : (events : List Event) (s : State) (commit name : List ℕ) (state : StatusState) → Holds s → Kept events s
     → Kept (given events (told commit name state s).orders) (told commit name state s).state
-told_kept events s commit name state is kept = by (is_required s.desk.settings name) refl where
-  by : (b : Bool) → is_required s.desk.settings name ≡ b
-      → Kept (given events (if b then then_next (told_staging commit name state s) (told_trying commit name state) else quiet s).orders)
-      (if b then then_next (told_staging commit name state s) (told_trying commit name state) else quiet s).state
-  by true required =
-      then_kept events (told_staging commit name state s) (told_trying commit name state)
-      (told_trying_kept (given events (told_staging commit name state s).orders) (told_staging commit name state s).state commit name state
-      (told_staging_kept events s commit name state required is kept))
-  by false required = kept
+told_kept events s commit name state is kept =
+    either_way (Keeps events) (is_required s.desk.settings name) (on_both (told_on commit name state) s) (quiet s)
+    (λ required. both_kept (IsAsked name) (told_on commit name state) (told_on_holds commit name state) each events s (required, is) kept) (λ other. kept) where
+      each : (branch : Branch) (es : List Event) (t : State) → IsAsked name t → Kept es t
+          → Kept (given es (told_on commit name state branch t).orders) (told_on commit name state branch t).state
+      each branch es t asked had =
+          either_way (Keeps es) (has_staged commit (lane_of branch t.queue)) (told_of branch name state t) (quiet t)
+          (λ there. told_of_kept branch es t name state asked.0 (staged_so (lane_of branch t.queue) commit there) asked.1 had) (λ elsewhere. had)
 
 -- A TICK: the end of batches that have taken too long, and the start of others
-pub timed_out_kept : (events : List Event) (s : State) (now : ℕ) → Kept events s → Kept (given events (timed_out now s).orders) (timed_out now s).state
-timed_out_kept events s now kept = by (has_overdue now s.desk.settings s.queue.staging) refl where
-  by : (b : Bool) → has_overdue now s.desk.settings s.queue.staging ≡ b
-      → Kept (given events (if b then failing why.TimedOut s else quiet s).orders) (if b then failing why.TimedOut s else quiet s).state
-  by true overdue = failing_kept events s why.TimedOut refl (overdue_so now s.desk.settings s.queue.staging overdue) kept
-  by false overdue = kept
+pub ended_on_time_kept : (now : ℕ) (events : List Event) (s : State) → Holds s → Kept events s
+    → Kept (given events (on_both (timed_out now) s).orders) (on_both (timed_out now) s).state
+ended_on_time_kept now = both_kept Holds (timed_out now) (timed_out_holds now)
+    (λ branch es t is had.
+    either_way (Keeps es) (has_overdue now t.desk.settings (lane_of branch t.queue)) (failing branch why.TimedOut t) (quiet t)
+    (λ overdue. failing_kept branch es t why.TimedOut refl (overdue_so now t.desk.settings (lane_of branch t.queue) overdue) had) (λ timely. had))
 
-pub try_timed_out_kept : (events : List Event) (s : State) (now : ℕ) → Kept events s → Kept (given events (try_timed_out now s).orders) (try_timed_out now s).state
-try_timed_out_kept events s now kept = by (has_overdue now s.desk.settings s.queue.trying) where
-  by : (b : Bool) → Kept (given events (if b then try_ended why.TryFailed s else quiet s).orders) (if b then try_ended why.TryFailed s else quiet s).state
-  by true = try_ended_kept events s why.TryFailed refl kept
-  by false = kept
-
-pub ended_on_time_kept : (events : List Event) (s : State) (now : ℕ) → Kept events s → Kept (given events (ended_on_time now s).orders) (ended_on_time now s).state
-ended_on_time_kept events s now kept =
-    then_kept events (timed_out now s) (try_timed_out now)
-    (try_timed_out_kept (given events (timed_out now s).orders) (timed_out now s).state now (timed_out_kept events s now kept))
-
-pub all_starting_kept : (events : List Event) (s : State) (now : ℕ) → s.desk.clock ≡ now → Holds s → Kept events s → Kept (given events (all_starting now s).orders) (all_starting now s).state
-all_starting_kept events s now at is kept =
-    then_kept events (starting Staging now s) (starting Trying now)
-    (starting_kept Trying (given events (starting Staging now s).orders) (starting Staging now s).state now (starting_holds Staging s now at is) (starting_kept Staging events s now is kept))
+pub all_starting_kept : (now : ℕ) (events : List Event) (s : State) → IsNow now s → Kept events s
+    → Kept (given events (on_both (starting now) s).orders) (on_both (starting now) s).state
+all_starting_kept now = both_kept (IsNow now) (starting now) (starting_holds now) (λ branch es t is had. starting_kept now branch es t is.1 had)

@@ -16,7 +16,11 @@ use Rattle.std.specs.Str.{bytes_eq}
 use Rattle.gate_text.specs.Settings.{SettingsView}
 use Rattle.gate_state.specs.Acts.{on}
 use Rattle.gate_state.specs.declared.act.Act.{Act}
-use Rattle.gate_state.specs.declared.act.Act.TheVariants.{Spoken, Role, Settings, Base, Opened, Pushed, Closed, Labeled, Unlabeled, Review, Staged, Conflict, Status, Refused, Tick}
+use Rattle.gate_state.specs.declared.act.Act.TheVariants.{Other}
+use Rattle.gate_state.specs.declared.act.ChangeFact.TheVariants.{Opened, Pushed, Closed, Labeled, Unlabeled, Review}
+use Rattle.gate_state.specs.declared.act.Deed.{Deed}
+use Rattle.gate_state.specs.declared.act.Deed.TheVariants.{Said, Happened}
+use Rattle.gate_state.specs.declared.act.Fact.TheVariants.{Staged, Status}
 use Rattle.gate_state.specs.declared.act.StatusState.{StatusState}
 use Rattle.gate_state.specs.declared.act.StatusState.TheVariants.{Success}
 use Rattle.gate_state.specs.declared.reply.Head.{Head}
@@ -148,28 +152,20 @@ other_tests events number branch base heads (Some batch) other is =
     }) is
 
 -- AN ACT. A change that stands after it hasn't moved.
-still_by : (c : ℕ) (events : List Event) (fit had : Bool) (done : Option Act)
+still_by : (c : ℕ) (events : List Event) (fit had : Bool) (done : Option Deed)
     → ((is_some (option_and_then approval_said done) && fit) || ((not (option_map_or (ends_it c events) done false) && fit) && had)) ≡ true
     → (not (option_map_or (moves_head c events) done false) ≡ true) × (unwrap_or (option_or (option_and_then head_said done) (last_of (said_on c head_said) events)) [] ≡ head_back events c)
 still_by c events fit had None is = (refl, refl)
-still_by c events fit had (Some (Spoken n person spoken)) is = (refl, refl)
-still_by c events fit had (Some (Role person role)) is = (refl, refl)
-still_by c events fit had (Some (Settings text)) is = (refl, refl)
-still_by c events fit had (Some (Base commit)) is = (refl, refl)
-still_by c events fit had (Some (Opened n author head)) is = cc is
-still_by c events fit had (Some (Pushed n head)) is = by (bytes_eq (head_back events c) head) refl is where
+still_by c events fit had (Some (Said person spoken)) is = (refl, refl)
+still_by c events fit had (Some (Happened (Opened author head))) is = cc is
+still_by c events fit had (Some (Happened (Pushed head))) is = by (bytes_eq (head_back events c) head) refl is where
   by : (b : Bool) → bytes_eq (head_back events c) head ≡ b → ((not (not b) && fit) && had) ≡ true → (not (not b) ≡ true) × (head ≡ head_back events c)
   by true at so = (refl, sym ((bytes_eq-Decides (head_back events c) head).0 at))
   by false at so = cc so
-still_by c events fit had (Some (Closed n)) is = (refl, refl)
-still_by c events fit had (Some (Labeled n label)) is = (refl, refl)
-still_by c events fit had (Some (Unlabeled n label)) is = (refl, refl)
-still_by c events fit had (Some (Review n person head approves)) is = (refl, refl)
-still_by c events fit had (Some (Staged batch commit)) is = (refl, refl)
-still_by c events fit had (Some (Conflict batch)) is = (refl, refl)
-still_by c events fit had (Some (Status commit name state)) is = (refl, refl)
-still_by c events fit had (Some (Refused batch)) is = (refl, refl)
-still_by c events fit had (Some (Tick now)) is = (refl, refl)
+still_by c events fit had (Some (Happened Closed)) is = (refl, refl)
+still_by c events fit had (Some (Happened (Labeled label))) is = (refl, refl)
+still_by c events fit had (Some (Happened (Unlabeled label))) is = (refl, refl)
+still_by c events fit had (Some (Happened (Review person head approves))) is = (refl, refl)
 
 -- whether each of its changes stands
 abbrev pub AllStand : List Event → Batch → Type 0
@@ -184,7 +180,7 @@ pub record Elsewhere (events : List Event) (act : Act) (number : ℕ) (at : Stag
   pub base : base_back (did act ∷ events) ≡ base_back events
   pub settings : settings_back (did act ∷ events) ≡ settings_back events
   pub staged : keeps_staged number (did act) events ≡ true
-  pub said : (commit name : List ℕ) → is_staged_with commit at ≡ true → is_required (settings_back events) name ≡ true → state_said commit name act ≡ None
+  pub said : (commit name : List ℕ) → is_staged_with commit at ≡ true → is_required (settings_back events) name ≡ true → said_by (state_said commit name) (did act) events ≡ None
 
 pub did_tests : (events : List Event) (act : Act) (batch : Batch) → Elsewhere events act batch.number batch.stage → AllStand (did act ∷ events) batch → Tests events (Some batch)
     → Tests (did act ∷ events) (Some batch)
@@ -245,21 +241,21 @@ stage_tests events now batch base heads branch based all = record {
       (both part (All-tail (IsAmong heads) first part named) (All-tail (IsAt events batch) first part is))
 
 -- IT IS STAGED
-pub staged_tests : (events : List Event) (now number : ℕ) (commit : List ℕ) (batch : Batch) → AllStand (did (Staged number commit) ∷ events) batch → number ≡ batch.number
-    → IsOrdered events batch → Tests (did (Staged number commit) ∷ events) (Some (record batch { stage = stage.Staged now commit finite.empty }))
+pub staged_tests : (events : List Event) (now number : ℕ) (commit : List ℕ) (batch : Batch) → AllStand (did (Other (Staged number commit)) ∷ events) batch → number ≡ batch.number
+    → IsOrdered events batch → Tests (did (Other (Staged number commit)) ∷ events) (Some (record batch { stage = stage.Staged now commit finite.empty }))
 staged_tests events now number commit batch stand same is = (
-  record { ordered = next.ordered; heads = All-each (IsHead (did (Staged number commit) ∷ events) batch) (IsHead (did (Staged number commit) ∷ events) later) (λ head h. record { there = h.there; head = h.head; unmoved = h.unmoved }) (heads_back events batch.number) next.heads },
+  record { ordered = next.ordered; heads = All-each (IsHead (did (Other (Staged number commit)) ∷ events) batch) (IsHead (did (Other (Staged number commit)) ∷ events) later) (λ head h. record { there = h.there; head = h.head; unmoved = h.unmoved }) (heads_back events batch.number) next.heads },
   record {
-    staged = starts (keeps_staged batch.number (did (Staged number commit)) events && is_staged_back events batch.number commit);
-    clean = λ name required. starts (keeps_clean batch.number commit name (did (Staged number commit)) events && is_clean events batch.number commit name);
+    staged = starts (keeps_staged batch.number (did (Other (Staged number commit))) events && is_staged_back events batch.number commit);
+    clean = λ name required. starts (keeps_clean batch.number commit name (did (Other (Staged number commit))) events && is_clean events batch.number commit name);
     passed = λ name required so. cc (sym (get-empty (slice_cmp nat_cmp) name) ∙ so);
   },
 ) where
   later : Batch
   later = record batch { stage = stage.Staged now commit finite.empty }
 
-  next : IsOrdered (did (Staged number commit) ∷ events) batch
-  next = ordered_next events (did (Staged number commit)) batch (still_at events (Staged number commit) batch stand) refl refl refl is
+  next : IsOrdered (did (Other (Staged number commit)) ∷ events) batch
+  next = ordered_next events (did (Other (Staged number commit))) batch (still_at events (Other (Staged number commit)) batch stand) refl refl refl is
 
   starts : (rest : Bool) → ((eqb batch.number number && bytes_eq commit commit) || rest) ≡ true
   starts rest = λ i. ((Decides-eqb batch.number number).1 (sym same) i && (bytes_eq-Decides commit commit).1 refl i) || rest
@@ -272,9 +268,9 @@ as_reported events batch at is = record {
 }
 
 -- A STATUS that isn't bad is reported.
-module _ (events : List Event) (batch : Batch) (commit other name : List ℕ) (state : StatusState) (good : is_bad state ≡ false) (same : commit ≡ other) (stand : AllStand (did (Status other name state) ∷ events) batch) where
+module _ (events : List Event) (batch : Batch) (commit other name : List ℕ) (state : StatusState) (good : is_bad state ≡ false) (same : commit ≡ other) (stand : AllStand (did (Other (Status other name state)) ∷ events) batch) where
   abbrev event : Event
-  event = did (Status other name state)
+  event = did (Other (Status other name state))
 
   -- what it says of a name
   said : (n : List ℕ) (b : Bool) → bytes_eq n name ≡ b → state_said commit n (Status other name state) ≡ then_some b state
@@ -319,12 +315,12 @@ module _ (events : List Event) (batch : Batch) (commit other name : List ℕ) (s
     by n false is' required so = passed_next n is' (is.passed n required (sym (at_name reports r n false is') ∙ so))
 
   pub ordered_here : IsOrdered events batch → IsOrdered (event ∷ events) batch
-  ordered_here is = ordered_next events event batch (still_at events (Status other name state) batch stand) refl refl refl is
+  ordered_here is = ordered_next events event batch (still_at events (Other (Status other name state)) batch stand) refl refl refl is
 
 -- A STATUS that isn't required, or of another commit than the one that is tested
 silent_status : (events : List Event) (commit name : List ℕ) (state : StatusState) (number : ℕ) (at : StageOf)
     → ((other n : List ℕ) → is_staged_with other at ≡ true → is_required (settings_back events) n ≡ true → (bytes_eq other commit && bytes_eq n name) ≡ false)
-    → Elsewhere events (Status commit name state) number at
+    → Elsewhere events (Other (Status commit name state)) number at
 silent_status events commit name state number at other_one = record {
   ordered = refl;
   base = refl;
@@ -334,7 +330,7 @@ silent_status events commit name state number at other_one = record {
 }
 
 pub unasked : (events : List Event) (commit name : List ℕ) (state : StatusState) (number : ℕ) (at : StageOf) → is_required (settings_back events) name ≡ false
-    → Elsewhere events (Status commit name state) number at
+    → Elsewhere events (Other (Status commit name state)) number at
 unasked events commit name state number at none =
     silent_status events commit name state number at (λ other n with_it required. by n (bytes_eq other commit) (bytes_eq n name) refl required) where
       by : (n : List ℕ) (a b : Bool) → bytes_eq n name ≡ b → is_required (settings_back events) n ≡ true → (a && b) ≡ false
@@ -343,7 +339,7 @@ unasked events commit name state number at none =
       by n false b is required = refl
 
 pub elsewhere_told : (events : List Event) (commit name : List ℕ) (state : StatusState) (number : ℕ) (at : StageOf) → is_staged_with commit at ≡ false
-    → Elsewhere events (Status commit name state) number at
+    → Elsewhere events (Other (Status commit name state)) number at
 elsewhere_told events commit name state number at none =
     silent_status events commit name state number at (λ other n with_it required. by other (bytes_eq other commit) (bytes_eq n name) refl with_it) where
       by : (other : List ℕ) (a b : Bool) → bytes_eq other commit ≡ a → is_staged_with other at ≡ true → (a && b) ≡ false

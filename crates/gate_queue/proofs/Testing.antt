@@ -17,7 +17,8 @@ use Rattle.gate_rules.specs.View.{DeskView, look, is_required}
 use Rattle.gate_rules.specs.declared.change.Change.{Change}
 use Rattle.gate_state.specs.Counts.{of_any_priority}
 use Rattle.gate_state.specs.declared.act.Act.{Act}
-use Rattle.gate_state.specs.declared.act.Act.TheVariants.{Status}
+use Rattle.gate_state.specs.declared.act.Act.TheVariants.{Other}
+use Rattle.gate_state.specs.declared.act.Fact.TheVariants.{Status}
 use Rattle.gate_state.specs.declared.act.StatusState.{StatusState}
 use Rattle.gate_state.specs.declared.act.StatusState.TheVariants.{Success, Pending}
 use Rattle.gate_state.specs.declared.reply.Order.{Order}
@@ -25,7 +26,7 @@ use Rattle.gate_state.specs.declared.reply.Order.TheVariants.{Stage, Land, Notic
 use Rattle.gate_queue.specs.History.{Event, did, gave, given, last_of, said_on, is_bad, author_back, settings_back, base_back, fit_back, approval_said, ends, standing_back, approvers_back, change_of, look_back, IsRightOrder, IsRightLanding}
 use Rattle.gate_state.specs.Lanes.{is_landing, back, loses, only, left, stops_running, with_report, reported_on, to_landing, to_land as lanes_to_land, taken_out, restarted, requeued, failed, is_success, has_succeeded}
 use Rattle.gate_state.specs.State.{approved_on, landing_on, trying_on, priority_on}
-use Rattle.gate_queue.specs.Machine.{size_on, all_but, followed, approval_followed, followed_on, quiet, with_queue, accepted, has_passed, land_order, to_land, if_passed, goes_on}
+use Rattle.gate_queue.specs.Machine.{size_on, all_but, followed, approval_followed, followed_on, quiet, with_queue, accepted, has_passed, land_order, to_land, if_passed, goes_on, passing}
 use Rattle.gate_state.specs.Queue as specs
 use Rattle.gate_state.specs.declared.batch.Batch.{Batch}
 use Rattle.gate_state.specs.declared.batch.Branch.TheVariants.{Staging}
@@ -188,11 +189,11 @@ abbrev pub report_of : Report → StatusState
 report_of report.Success = Success
 report_of report.Pending = Pending
 
-module _ (events : List Event) (s : State) (commit name : List ℕ) (r : Report) (is : Holds s) (same : look s.desk ≡ look_back (did (Status commit name (report_of r)) ∷ events))
+module _ (events : List Event) (s : State) (commit name : List ℕ) (r : Report) (is : Holds s) (same : look s.desk ≡ look_back (did (Other (Status commit name (report_of r))) ∷ events))
     (batch : Batch) (runs : s.queue.staging.running ≡ Some batch) (since : ℕ) (staged_as : List ℕ) (reports : FinMap (slice_cmp nat_cmp) Report) (at : batch.stage ≡ stage.Staged since staged_as reports) (of : bytes_eq commit staged_as ≡ true)
     (required : is_required s.desk.settings name ≡ true) (tests : IsOrdered events batch × IsReported events batch.number staged_as reports) where
   abbrev after_it : List Event
-  after_it = did (Status commit name (report_of r)) ∷ events
+  after_it = did (Other (Status commit name (report_of r))) ∷ events
 
   stand : AllStand after_it batch
   stand = stands_all after_it s is same batch runs (ap is_landing at)
@@ -230,17 +231,17 @@ module _ (events : List Event) (s : State) (commit name : List ℕ) (r : Report)
             → IsOrdered after_it (reported_on name r batch) × IsReported after_it batch.number staged_as (finite.insert reports name r)
         rebuilt b = (as_reported after_it batch (reported_on name r batch).stage b.0, b.1)
 
-  pub goes_on_tests : Tests (given after_it (goes_on name r s).orders) (goes_on name r s).state.queue.staging.running
+  pub goes_on_tests : Tests (given after_it (goes_on Staging name r s).orders) (goes_on Staging name r s).state.queue.staging.running
   goes_on_tests = by told_state.queue.staging.running (ap (option_map (reported_on name r)) runs) where
     lands_then : (es : List Event) → Tests es (option_map lanes_to_land told_state.queue.staging.running)
     lands_then es =
         subst (λ (o : Option Batch). Tests es (option_map lanes_to_land (option_map (reported_on name r) o))) (sym runs)
         (subst (λ (l : StageOf). TestsAt es (lanes_to_land (reported_on name r batch)) (to_landing l)) (sym told_stage) tt)
 
-    by : (running : Option Batch) → running ≡ Some (reported_on name r batch) → Tests (given after_it (if_passed told_state running).orders) (if_passed told_state running).state.queue.staging.running
+    by : (running : Option Batch) → running ≡ Some (reported_on name r batch) → Tests (given after_it (if_passed Staging told_state running).orders) (if_passed Staging told_state running).state.queue.staging.running
     by None so = cc so
     by (Some later) so = on (has_passed s.desk.settings later.stage) where
-      on : (b : Bool) → Tests (given after_it (if b then to_land later told_state else quiet told_state).orders) (if b then to_land later told_state else quiet told_state).state.queue.staging.running
+      on : (b : Bool) → Tests (given after_it (if b then passing Staging later told_state else quiet told_state).orders) (if b then passing Staging later told_state else quiet told_state).state.queue.staging.running
       on true = lands_then (given after_it (to_land later told_state).orders)
       on false = kept_on
 
@@ -259,13 +260,13 @@ module _ (events : List Event) (s : State) (commit name : List ℕ) (r : Report)
   name_is = get-insert nat_list_cmp_total reports name r name ∙ ap (λ (b : Bool). cond b (Some r) (finite.get reports name)) (is_eq-slice_cmp name name ∙ (bytes_eq-Decides name name).1 refl)
 
   lands_rightly : (base : List ℕ) (settings : SettingsView) → s.desk.base ≡ Some base → s.desk.settings ≡ Some settings → list_all (has_succeeded (finite.insert reports name r)) settings.status ≡ true → r ≡ report.Success
-      → IsRightLanding (gave (Land batch.number base staged_as) ∷ after_it) (Status commit name (report_of r)) batch.number base staged_as
+      → IsRightLanding (gave (Land batch.number base staged_as) ∷ after_it) (Other (Status commit name (report_of r))) batch.number base staged_as
   lands_rightly base settings based accepted all success =
       let present : base_back after_it ≡ Some base = ap (λ (l : Look). l.base) (sym same) ∙ based in
       let under_them : settings_back after_it ≡ Some settings = ap (λ (l : Look). l.settings) (sym same) ∙ accepted in
       record {
         name = name;
-        success = λ i. Status ((sym as_staged) i) name (means r success i);
+        success = λ i. Other (Status ((sym as_staged) i) name (means r success i));
         tested = is_tested after_it batch since base staged_as (finite.insert reports name r) settings both_after under_them present all stand;
         ready = are_ready after_it batch since base staged_as (finite.insert reports name r) settings both_after under_them present all stand;
       }
@@ -273,7 +274,7 @@ module _ (events : List Event) (s : State) (commit name : List ℕ) (r : Report)
   -- whatever notices that end no approval come after it
   module _ (later : List Order) (none : EndNone later) where
     abbrev AreRight : List Order → Type 0
-    AreRight orders = All (IsRightOrder (given (given after_it orders) later) (Status commit name (report_of r))) orders
+    AreRight orders = All (IsRightOrder (given (given after_it orders) later) (Other (Status commit name (report_of r)))) orders
 
     land_right : (number : ℕ) (at_last : StageOf) → number ≡ batch.number → at_last ≡ stage.Staged since staged_as (finite.insert reports name r) → has_passed s.desk.settings at_last ≡ true → AreRight (land_order s.desk number at_last)
     land_right number at_last numbered staged_then passes =
@@ -286,19 +287,19 @@ module _ (events : List Event) (s : State) (commit name : List ℕ) (r : Report)
           by (Some base) based None accepted passed =
               cc (sym (ap (λ (o : Option SettingsView). has_passed o (stage.Staged since staged_as (finite.insert reports name r))) accepted) ∙ passed)
           by (Some base) based (Some settings) accepted passed =
-              All-cons (IsRightOrder (given (gave (Land batch.number base staged_as) ∷ after_it) later) (Status commit name (report_of r))) (Land batch.number base staged_as) []
-              (still_right later (gave (Land batch.number base staged_as) ∷ after_it) (Status commit name (report_of r)) batch.number base staged_as none
+              All-cons (IsRightOrder (given (gave (Land batch.number base staged_as) ∷ after_it) later) (Other (Status commit name (report_of r)))) (Land batch.number base staged_as) []
+              (still_right later (gave (Land batch.number base staged_as) ∷ after_it) (Other (Status commit name (report_of r))) batch.number base staged_as none
               (lands_rightly base settings based accepted
               (sym (ap (λ (o : Option SettingsView). has_passed o (stage.Staged since staged_as (finite.insert reports name r))) accepted) ∙ passed)
               (only_success (finite.insert reports name r) name_is passed)))
-              (All-nil (IsRightOrder (given (gave (Land batch.number base staged_as) ∷ after_it) later) (Status commit name (report_of r))))
+              (All-nil (IsRightOrder (given (gave (Land batch.number base staged_as) ∷ after_it) later) (Other (Status commit name (report_of r)))))
 
-    pub goes_on_right : AreRight (goes_on name r s).orders
+    pub goes_on_right : AreRight (goes_on Staging name r s).orders
     goes_on_right = by told_state.queue.staging.running (ap (option_map (reported_on name r)) runs) where
-      by : (running : Option Batch) → running ≡ Some (reported_on name r batch) → AreRight (if_passed told_state running).orders
+      by : (running : Option Batch) → running ≡ Some (reported_on name r batch) → AreRight (if_passed Staging told_state running).orders
       by None so = cc so
       by (Some batch_then) so = on (has_passed s.desk.settings batch_then.stage) refl where
-        on : (b : Bool) → has_passed s.desk.settings batch_then.stage ≡ b → AreRight (if b then to_land batch_then told_state else quiet told_state).orders
+        on : (b : Bool) → has_passed s.desk.settings batch_then.stage ≡ b → AreRight (if b then passing Staging batch_then told_state else quiet told_state).orders
         on true passes =
             land_right batch_then.number batch_then.stage (ap (λ (o : Option Batch). option_map_or (λ (b : Batch). b.number) o 0) so)
             (ap (λ (o : Option Batch). option_map_or (λ (b : Batch). b.stage) o stage.Waiting) so ∙ told_stage) passes

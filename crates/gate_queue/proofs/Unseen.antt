@@ -1,5 +1,5 @@
 -- A change that was never opened has nothing: no act on it is done but the one that opens it.
-use Rattle.std.proofs.Common.{◌≡◌, ◌⊎◌, ℕ, pos, Bool, true, false, cond, not, ◌&&◌, ◌||◌, List, [], ◌∷◌, Option, Some, None, is_some, eqb, refl, sym, ◌∙◌, ap, inl, inr}
+use Rattle.std.proofs.Common.{◌≡◌, ◌⊎◌, ℕ, pos, Bool, true, false, cond, not, ◌&&◌, ◌||◌, List, [], ◌∷◌, Option, Some, None, is_some, eqb, refl, sym, ◌∙◌, ap, inl, inr, subst}
 use Rattle.std.proofs.lemmas.Bool.{and_right}
 use Rattle.std.specs.FinSet as set
 use Rattle.std.specs.List.{cons_option, list_any}
@@ -11,9 +11,12 @@ use Rattle.gate_rules.specs.Rules.{Look, is_known}
 use Rattle.gate_rules.specs.declared.change.Change.{Change}
 use Rattle.gate_rules.specs.declared.change.Phase.TheVariants as phase
 use Rattle.gate_rules.specs.declared.rule.Rule.TheVariants.{UnknownChange}
-use Rattle.gate_state.specs.Acts.{subject, on}
+use Rattle.gate_state.specs.Acts.{on}
 use Rattle.gate_state.specs.declared.act.Act.{Act}
-use Rattle.gate_state.specs.declared.act.Act.TheVariants.{Spoken, Role, Settings, Base, Opened, Pushed, Closed, Labeled, Unlabeled, Review, Staged, Conflict, Status, Refused, Tick}
+use Rattle.gate_state.specs.declared.act.Act.TheVariants.{On, Other}
+use Rattle.gate_state.specs.declared.act.ChangeFact.TheVariants.{Opened, Pushed, Closed, Labeled, Unlabeled, Review}
+use Rattle.gate_state.specs.declared.act.Deed.{Deed}
+use Rattle.gate_state.specs.declared.act.Deed.TheVariants.{Said, Happened}
 use Rattle.gate_state.specs.declared.reply.Order.{Order}
 use Rattle.gate_queue.specs.History.{Event, did, gave, last_of, said_on, done_to, author_said, author_back, stage_naming, batches_back, landing_with, landing_back, has_landed, landed_back, phase_said, phase_by, phase_back, priority_back, labels_back, delegates_back, repeat_back, try_said, try_ends, tried_back, trying_back, change_of, look_back}
 use Rattle.gate_queue.specs.Machine.{broken}
@@ -51,11 +54,11 @@ Unseen events c = author_back events c ≡ None → Blank events c
 pub nothing_unseen : (c : ℕ) → Unseen [] c
 nothing_unseen c none = record { unsaid = refl; unstaged = refl; priority = refl; labels = refl; delegates = refl; last = refl; untried = refl }
 
--- THE FIRST RULE of an act on a change: that the change is known, but for the act that opens it
-abbrev KnownOrOpened : Look → ℕ → Act → Type 0
-KnownOrOpened s n act = (is_known s n ≡ true) ⊎ ((author : List ℕ) × (author_said act ≡ Some author))
+-- THE FIRST RULE of a deed on a change: that the change is known, but for the one that opens it
+abbrev KnownOrOpened : Look → ℕ → Deed → Type 0
+KnownOrOpened s n deed = (is_known s n ≡ true) ⊎ ((author : List ℕ) × (author_said deed ≡ Some author))
 
-known_by : (s : Look) (n : ℕ) (command : Command) (person : List ℕ) → broken s (Spoken n person (Known command)) ≡ None → is_known s n ≡ true
+known_by : (s : Look) (n : ℕ) (command : Command) (person : List ℕ) → broken s (On n (Said person (Known command))) ≡ None → is_known s n ≡ true
 known_by s n Ping person holds = (passed (is_known s n) UnknownChange _ holds).0
 known_by s n Approve person holds = (passed (is_known s n) UnknownChange _ holds).0
 known_by s n (ApproveFor names) person holds = (passed (is_known s n) UnknownChange _ holds).0
@@ -68,37 +71,15 @@ known_by s n (DelegateTo names) person holds = (passed (is_known s n) UnknownCha
 known_by s n DelegateNone person holds = (passed (is_known s n) UnknownChange _ holds).0
 known_by s n Retry person holds = (passed (is_known s n) UnknownChange _ holds).0
 
-known_first : (s : Look) (act : Act) → broken s act ≡ None → (n : ℕ) → subject act ≡ Some n → KnownOrOpened s n act
-known_first s act holds n is = first act holds is where
-  known : (m : ℕ) → is_known s m ≡ true → Some m ≡ Some n → is_known s n ≡ true
-  known m here same = sym (ap (λ (o : Option ℕ). option_map_or (is_known s) o true) same) ∙ here
-
-  first : (a : Act) → broken s a ≡ None → subject a ≡ Some n → KnownOrOpened s n a
-  first (Spoken m person (Known command)) so at = inl (known m (known_by s m command person so) at)
-  first (Spoken m person Unknown) so at = inl (known m (passed (is_known s m) UnknownChange _ so).0 at)
-  first (Role person role) so at = cc at
-  first (Settings text) so at = cc at
-  first (Base commit) so at = cc at
-  first (Opened m author head) so at = inr (author, refl)
-  first (Pushed m head) so at = inl (known m (passed (is_known s m) UnknownChange _ so).0 at)
-  first (Closed m) so at = inl (known m (passed (is_known s m) UnknownChange _ so).0 at)
-  first (Labeled m label) so at = inl (known m (passed (is_known s m) UnknownChange _ so).0 at)
-  first (Unlabeled m label) so at = inl (known m (passed (is_known s m) UnknownChange _ so).0 at)
-  first (Review m person head approves) so at = inl (known m (passed (is_known s m) UnknownChange _ so).0 at)
-  first (Staged batch commit) so at = cc at
-  first (Conflict batch) so at = cc at
-  first (Status commit name state) so at = cc at
-  first (Refused batch) so at = cc at
-  first (Tick now) so at = cc at
-
--- an act is on a change if that is its subject
-about : (c : ℕ) (act : Act) (at : Option ℕ)
-    → (cond (option_map_or (λ other. eqb c other) at false) (Some act) None ≡ None) ⊎ ((at ≡ Some c) × (cond (option_map_or (λ other. eqb c other) at false) (Some act) None ≡ Some act))
-about c act None = inl refl
-about c act (Some n) = by (eqb c n) refl where
-  by : (b : Bool) → eqb c n ≡ b → (cond b (Some act) None ≡ None) ⊎ ((Some n ≡ Some c) × (cond b (Some act) None ≡ Some act))
-  by true is = inr (ap Some (sym (same_number c n is)), refl)
-  by false is = inl refl
+known_first : (s : Look) (n : ℕ) (deed : Deed) → broken s (On n deed) ≡ None → KnownOrOpened s n deed
+known_first s n (Said person (Known command)) holds = inl (known_by s n command person holds)
+known_first s n (Said person Unknown) holds = inl (passed (is_known s n) UnknownChange _ holds).0
+known_first s n (Happened (Opened author head)) holds = inr (author, refl)
+known_first s n (Happened (Pushed head)) holds = inl (passed (is_known s n) UnknownChange _ holds).0
+known_first s n (Happened Closed) holds = inl (passed (is_known s n) UnknownChange _ holds).0
+known_first s n (Happened (Labeled label)) holds = inl (passed (is_known s n) UnknownChange _ holds).0
+known_first s n (Happened (Unlabeled label)) holds = inl (passed (is_known s n) UnknownChange _ holds).0
+known_first s n (Happened (Review person head approves)) holds = inl (passed (is_known s n) UnknownChange _ holds).0
 
 known_so : (author : Option (List ℕ)) (was : List ℕ → Change) → is_some (option_map was author) ≡ true → author ≡ None → ⊥
 known_so None was known none = cc known
@@ -110,7 +91,7 @@ left_unseen events event c other unnamed unseen none =
     let r = rest_back events c in
     let blank = unseen (sym (λ i. author_after events c r (other i)) ∙ none) in
     record {
-      unsaid = ap (λ (d : Option Act). option_or (option_and_then phase_said d) (last_of (said_on c phase_said) events)) other ∙ blank.unsaid;
+      unsaid = ap (λ (d : Option Deed). option_or (option_and_then phase_said d) (last_of (said_on c phase_said) events)) other ∙ blank.unsaid;
       unstaged = ap (λ (n : Option ℕ). cons_option n (batches_back events c)) unnamed ∙ blank.unstaged;
       priority = (λ i. priority_after events c r (other i)) ∙ blank.priority;
       labels = (λ i. labels_after events c r (other i)) ∙ blank.labels;
@@ -123,12 +104,20 @@ pub order_unseen : (events : List Event) (order : Order) (c : ℕ) → stage_nam
 order_unseen events order c unnamed unseen = left_unseen events (gave order) c refl unnamed unseen
 
 pub still_unseen : (events : List Event) (act : Act) → broken (look_back events) act ≡ None → (c : ℕ) → Unseen events c → Unseen (did act ∷ events) c
-still_unseen events act holds c unseen = elim (about c act (subject act)) [
-  | inl other ↦ left_unseen events (did act) c other refl unseen
-  | inr (subject, here) ↦ λ none.
-      let both = none_both (option_and_then author_said (on c act)) (author_back events c) none in
-      elim (known_first (look_back events) act holds c subject) [
+still_unseen events (Other fact) holds c unseen = left_unseen events (did (Other fact)) c refl refl unseen
+still_unseen events (On n deed) holds c unseen = by (eqb c n) refl where
+  first : eqb c n ≡ true → KnownOrOpened (look_back events) c deed
+  first here = known_first (look_back events) c deed (subst (λ m. broken (look_back events) (On m deed) ≡ None) (sym (same_number c n here)) holds)
+
+  opening : eqb c n ≡ true → author_back (did (On n deed) ∷ events) c ≡ None → Blank (did (On n deed) ∷ events) c
+  opening here none =
+      let done : on c (On n deed) ≡ Some deed = ap (λ (b : Bool). cond b (Some deed) None) here in
+      let both = none_both (option_and_then author_said (on c (On n deed))) (author_back events c) none in
+      elim (first here) [
         | inl known ↦ absurd (known_so (author_back events c) (change_of events c) known both.1)
-        | inr (author, opens) ↦ cc (sym (ap (option_and_then author_said) here ∙ opens) ∙ both.0)
+        | inr (author, opens) ↦ cc (sym (ap (option_and_then author_said) done ∙ opens) ∙ both.0)
       ]
-]
+
+  by : (b : Bool) → eqb c n ≡ b → Unseen (did (On n deed) ∷ events) c
+  by true here = opening here
+  by false other = left_unseen events (did (On n deed)) c (ap (λ (b : Bool). cond b (Some deed) None) other) refl unseen

@@ -24,23 +24,29 @@ use Rattle.gate_rules.specs.declared.role.Role.{Role as RoleOf}
 use Rattle.gate_rules.specs.declared.rule.Rule.{Rule}
 use Rattle.gate_state.specs.Lanes as lanes
 use Rattle.gate_state.specs.Lanes.{is_fresh_beside, is_fresh_of, last_so, loses}
-use Rattle.gate_state.specs.Queue.{batches_of, taken_out, restarted}
+use Rattle.gate_state.specs.Queue.{batches_of, taken_out, restarted, lane_of}
 use Rattle.gate_state.specs.State.{approved_on, priority_on, trying_on, IsState}
 use Rattle.gate_state.specs.declared.act.Act.{Act}
-use Rattle.gate_state.specs.declared.act.Act.TheVariants.{Spoken, Role, Settings, Base, Opened, Pushed, Closed, Labeled, Unlabeled, Review, Staged, Conflict, Status, Refused, Tick}
+use Rattle.gate_state.specs.declared.act.Act.TheVariants.{On, Other}
+use Rattle.gate_state.specs.declared.act.ChangeFact.TheVariants.{Opened, Pushed, Closed, Labeled, Unlabeled, Review}
+use Rattle.gate_state.specs.declared.act.Deed.{Deed}
+use Rattle.gate_state.specs.declared.act.Deed.TheVariants.{Said, Happened}
+use Rattle.gate_state.specs.declared.act.Fact.TheVariants.{Role, Settings, Base, Staged, Conflict, Status, Refused, Tick}
 use Rattle.gate_state.specs.declared.act.StatusState.{StatusState}
 use Rattle.gate_state.specs.declared.batch.Batch.{Batch}
 use Rattle.gate_state.specs.declared.batch.Branch.TheVariants.{Staging, Trying}
 use Rattle.gate_state.specs.declared.queue.Queue.{Queue}
 use Rattle.gate_state.specs.declared.state.State.{State}
-use Rattle.gate_queue.specs.Machine.{denial, repeated, done, acted, unless_denied as denied, effect, about, all_but, followed, tried_by, approval_followed, size_on, pushed, closed, labeled, with_label, without_label, reviewed, with_review, loses_approval, settled, with_new_settings, resettled, under, accepted, are_present, quiet, then_next, on_either, has_staged, is_good, heads_told, told_of, told_staging, try_told_of, told_trying, told, ordered_on, sent_back, rebased, tries_left, lands_with, with_desk}
+use Rattle.gate_queue.specs.Machine.{denial, repeated, done, acted, effect, about, all_but, followed, tried_by, approval_followed, size_on, pushed, closed, labeled, with_label, without_label, reviewed, with_review, loses_approval, settled, with_new_settings, resettled, under, accepted, are_present, quiet, then_next, on_either, has_staged, is_good, heads_told, told_of, told, ordered_on, sent_back, rebased, tries_left, lands_with, with_desk, on_both, told_on, unless_denied as denied, told_as}
 use Rattle.gate_queue.specs.declared.outcome.Outcome.{Outcome}
-use Rattle.gate_queue.specs.MayChange.{Parts, no_parts, with_heads, of_status, Untouched, LawOfUntouched, unless_denied, may_do, is_numbered, one_numbered, is_joined, of_change, in_front, of_base, stays_tried, of_settings, of_text, of_person, is_run, is_in_front}
+use Rattle.gate_queue.specs.MayChange.{Parts, no_parts, with_heads, of_status, Untouched, LawOfUntouched, unless_denied, may_do, is_numbered, one_numbered, is_joined, of_change, in_front, of_base, stays_tried, of_settings, of_text, of_person, is_run, is_in_front, next_priority}
+use Rattle.gate_state.specs.declared.reply.Why.TheVariants as why
 use Rattle.gate_queue.proofs.Changes.{against_same}
 use Rattle.gate_queue.proofs.Desks.{released_desk, Effect, same_effect, kept_effect, spoken_effect, opened_effect, pushed_same}
 use Rattle.gate_queue.proofs.Lanes.{joined_later, Same, enqueued_same, tried_same, taken_out_same, none_loses, taken_running, restarted_same}
 use Rattle.gate_queue.proofs.Meaning.{means}
-use Rattle.gate_queue.proofs.News.{same_found, untouched_by, IsNewsOf, news_untouched, given_up_news, staged_news, told_news, back_news, tick_untouched}
+use Rattle.gate_queue.proofs.News.{same_found, untouched_by, IsNewsOf, news_untouched, ending_news, staged_news, told_news, back_news, tick_untouched}
+use Rattle.gate_state.specs.declared.batch.Branch.{Branch}
 
 -- NUMBERS that are given aren't given again.
 followed_rises : (was now moved : Bool) (size : Option ℕ) (priority : ℤ) (change : ℕ) (queue : Queue) → queue.next ≤ (followed was now moved size priority change queue).next
@@ -115,13 +121,15 @@ module _ (s : State) (is : IsState s) (n : ℕ) (old : n < s.queue.next) (change
       (so.staging, rw so.trying (taken_out_same n Trying (all_but change) queue.next (omega (arith, old, so.next)) s.queue.trying is.queue.trying.waiting on_lanes.1))
   tried_by_same true true queue so = (so.staging, rw so.trying refl)
 
-about_untouched : (s : State) (is : IsState s) (change : ℕ) (act : Act) (priority : ℤ) → Effect change priority s.desk (effect s.desk act) → Untouched (of_change s priority change) s (about s change act).state
-about_untouched s is change act priority done =
-    let new = effect s.desk act in
+about_untouched : (s : State) (is : IsState s) (change : ℕ) (deed : Deed) → Effect change (next_priority s.desk change deed) s.desk (effect s.desk change deed)
+    → Untouched (of_change s (next_priority s.desk change deed) change) s (about s change deed).state
+about_untouched s is change deed done =
+    let priority = next_priority s.desk change deed in
+    let new = effect s.desk change deed in
     let was = approved_on s.desk change in
     let now = approved_on new change in
     let moved = not (int_eq (priority_on s.desk change) (priority_on new change)) in
-    untouched_by (of_change s priority change) s (about s change act).state done.others
+    untouched_by (of_change s priority change) s (about s change deed).state done.others
     (λ n old other.
     tried_by_same s is n old change priority other (trying_on s.desk change) (trying_on new change) (approval_followed s.desk new change s.queue)
     (followed_so s is n old change priority other was now moved (size_on new) (priority_on new change) done.priced))
@@ -196,14 +204,11 @@ unstaged commit name state s none = by (is_required s.desk.settings name) where
   parts : (has_staged commit s.queue.staging ≡ false) × (has_staged commit s.queue.trying ≡ false)
   parts = or_parts (has_staged commit s.queue.staging) (has_staged commit s.queue.trying) none
 
-  staging : told_staging commit name state s ≡ quiet s
-  staging = ap (λ (b : Bool). cond b (told_of name state s) (quiet s)) parts.0
+  idle : (branch : Branch) → has_staged commit (lane_of branch s.queue) ≡ false → told_on commit name state branch s ≡ quiet s
+  idle branch none = ap (λ (b : Bool). cond b (told_of branch name state s) (quiet s)) none
 
-  trying : told_trying commit name state s ≡ quiet s
-  trying = ap (λ (b : Bool). cond b (try_told_of name state s) (quiet s)) parts.1
-
-  by : (b : Bool) → cond b (then_next (told_staging commit name state s) (told_trying commit name state)) (quiet s) ≡ quiet s
-  by true = ap (λ (first : Outcome). then_next first (told_trying commit name state)) staging ∙ ap (λ (next : Outcome). record { state = next.state; orders = next.orders }) trying
+  by : (b : Bool) → cond b (on_both (told_on commit name state) s) (quiet s) ≡ quiet s
+  by true = ap (λ (first : Outcome). then_next first (told_on commit name state Trying)) (idle Staging parts.0) ∙ ap (λ (next : Outcome). record { state = next.state; orders = next.orders }) (idle Trying parts.1)
   by false = refl
 
 module _ (s : State) (commit name : List ℕ) (state : StatusState) where
@@ -271,35 +276,39 @@ base_untouched s is base = record {
       (refl, taken_out_same n Trying (trying_on back.desk) back.queue.next (omega (arith, old, news.next)) s.queue.trying is.queue.trying.waiting (none_loses n (stays_tried s) (trying_on back.desk) still (lanes.batches_of s.queue.trying) other))
 
 -- EACH ACT
+deed_effect : (desk : DeskView) (change : ℕ) (deed : Deed) → Effect change (next_priority desk change deed) desk (effect desk change deed)
+deed_effect desk change (Said person (Known command)) = spoken_effect desk change person command
+deed_effect desk change (Said person Unknown) = same_effect change desk
+deed_effect desk change (Happened (Opened author head)) = opened_effect change desk author head
+deed_effect desk change (Happened (Pushed head)) = kept_effect change desk (pushed head) (pushed_same head)
+deed_effect desk change (Happened Closed) = kept_effect change desk closed (λ c. refl)
+deed_effect desk change (Happened (Labeled label)) = kept_effect change desk (labeled desk.settings label) (λ c. against_same (λ x. x.priority) (λ x. refl) _ desk.settings (with_label label c))
+deed_effect desk change (Happened (Unlabeled label)) = kept_effect change desk (without_label label) (λ c. refl)
+deed_effect desk change (Happened (Review person head approves)) =
+    kept_effect change desk (reviewed desk.settings person approves) (λ c. against_same (λ x. x.priority) (λ x. refl) _ desk.settings (with_review person approves c))
+
 done_untouched : (s : State) → IsState s → (act : Act) → Untouched (may_do s act) s (done s act).state
-done_untouched s is (Spoken change person (Known command)) = about_untouched s is change (Spoken change person (Known command)) _ (spoken_effect s.desk change person command)
-done_untouched s is (Spoken change person Unknown) = about_untouched s is change (Spoken change person Unknown) _ (same_effect change s.desk)
-done_untouched s is (Role person role) = role_untouched s person role
-done_untouched s is (Settings text) = settings_untouched s is (settings_of text)
-done_untouched s is (Base commit) = base_untouched s is commit
-done_untouched s is (Opened change author head) = about_untouched s is change (Opened change author head) _ (opened_effect change s.desk author head)
-done_untouched s is (Pushed change head) = about_untouched s is change (Pushed change head) _ (kept_effect change s.desk (pushed head) (pushed_same head))
-done_untouched s is (Closed change) = about_untouched s is change (Closed change) _ (kept_effect change s.desk closed (λ c. refl))
-done_untouched s is (Labeled change label) = about_untouched s is change (Labeled change label) _ (kept_effect change s.desk (labeled s.desk.settings label) (λ c. against_same (λ x. x.priority) (λ x. refl) _ s.desk.settings (with_label label c)))
-done_untouched s is (Unlabeled change label) = about_untouched s is change (Unlabeled change label) _ (kept_effect change s.desk (without_label label) (λ c. refl))
-done_untouched s is (Review change person head approves) = about_untouched s is change (Review change person head approves) _ (kept_effect change s.desk (reviewed s.desk.settings person approves) (λ c. against_same (λ x. x.priority) (λ x. refl) _ s.desk.settings (with_review person approves c)))
-done_untouched s is (Staged batch commit) = news_untouched s _ (staged_news s (ordered_on batch s.queue) s.desk.clock commit)
-done_untouched s is (Conflict batch) = news_untouched s _ (given_up_news s (ordered_on batch s.queue))
-done_untouched s is (Status commit name state) = status_untouched s commit name state
-done_untouched s is (Refused batch) = news_untouched s _ (back_news s None)
-done_untouched s is (Tick now) = tick_untouched now s
+done_untouched s is (On change deed) = about_untouched s is change deed (deed_effect s.desk change deed)
+done_untouched s is (Other (Role person role)) = role_untouched s person role
+done_untouched s is (Other (Settings text)) = settings_untouched s is (settings_of text)
+done_untouched s is (Other (Base commit)) = base_untouched s is commit
+done_untouched s is (Other (Staged batch commit)) = news_untouched s _ (staged_news s (ordered_on batch s.queue) s.desk.clock commit)
+done_untouched s is (Other (Conflict batch)) = news_untouched s _ (ending_news s (ordered_on batch s.queue) (told_as (ordered_on batch s.queue) why.Conflict))
+done_untouched s is (Other (Status commit name state)) = status_untouched s commit name state
+done_untouched s is (Other (Refused batch)) = news_untouched s _ (back_news s None)
+done_untouched s is (Other (Tick now)) = tick_untouched now s
 
 -- A `retry` may change what the command that it repeats may.
 acted_untouched : (s : State) → IsState s → (act : Act) → Untouched (may_do s act) s (acted s act).state
 acted_untouched s is act = means (λ a. Untouched (may_do s act) s (done s a).state) (look s.desk) act (done_untouched s is act) repeats where
-  by : (change : ℕ) (person : List ℕ) (last : Option Repeat) → Untouched (may_do s (Spoken change person (Known Retry))) s (done s (Spoken change person (Known (repeated last)))).state
-  by change person None = done_untouched s is (Spoken change person (Known Retry))
-  by change person (Some repeat.Approve) = done_untouched s is (Spoken change person (Known Approve))
-  by change person (Some (repeat.ApproveFor names)) = done_untouched s is (Spoken change person (Known (ApproveFor names)))
-  by change person (Some repeat.Try) = done_untouched s is (Spoken change person (Known Try))
+  by : (change : ℕ) (person : List ℕ) (last : Option Repeat) → Untouched (may_do s (On change (Said person (Known Retry)))) s (done s (On change (Said person (Known (repeated last))))).state
+  by change person None = done_untouched s is (On change (Said person (Known Retry)))
+  by change person (Some repeat.Approve) = done_untouched s is (On change (Said person (Known Approve)))
+  by change person (Some (repeat.ApproveFor names)) = done_untouched s is (On change (Said person (Known (ApproveFor names))))
+  by change person (Some repeat.Try) = done_untouched s is (On change (Said person (Known Try)))
 
-  repeats : (change : ℕ) (person : List ℕ) → act ≡ Spoken change person (Known Retry)
-      → Untouched (may_do s act) s (done s (Spoken change person (Known (repeated (last_command (look s.desk) change))))).state
+  repeats : (change : ℕ) (person : List ℕ) → act ≡ On change (Said person (Known Retry))
+      → Untouched (may_do s act) s (done s (On change (Said person (Known (repeated (last_command (look s.desk) change)))))).state
   repeats change person at = rw at (by change person (last_command (look s.desk) change))
 
 pub untouched_law : LawOfUntouched

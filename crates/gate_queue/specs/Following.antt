@@ -5,7 +5,7 @@ use Rattle.std.specs.FinMap as finite
 use Rattle.std.specs.Option.{option_map_or}
 use Rattle.std.specs.Ordering.{int_eq}
 use Rattle.std.specs.Str.{bytes_eq}
-use Rattle.gate_queue.specs.Vocabulary.{Ping, Approve, ApproveFor, Withdraw, Priority, Try, TryCancel, DelegateAuthor, DelegateTo, DelegateNone, Retry, last_command, look, Known, Change, State, Act, Spoken, Opened, Pushed, Closed, Labeled, Unlabeled, Review}
+use Rattle.gate_queue.specs.Vocabulary.{Ping, Approve, ApproveFor, Withdraw, Priority, Try, TryCancel, DelegateAuthor, DelegateTo, DelegateNone, Retry, last_command, look, Known, Change, State, Act, On, Said, Happened, Opened, Pushed, Closed, Labeled, Unlabeled, Review}
 use Rattle.gate_queue.specs.Machine.{denial, repeated, after, size_on, all_but, ends_approval, labeled, reviewed}
 use Rattle.gate_state.specs.State.{approved_on, priority_on, IsState}
 use Rattle.gate_state.specs.Queue.{enqueued, tried, taken_out}
@@ -34,32 +34,32 @@ Leaves s act queue = denial s act ≡ None → (after s act).queue ≡ queue
 
 pub record ActByAct (s : State) (change : ℕ) : Type 0 where
   -- `r+` and `r=` queue the change, and `r-` takes it out
-  pub approve : (person : List ℕ) → Leaves s (Spoken change person (Known Approve)) (with s change)
-  pub approve_for : (person : List ℕ) (names : List (List ℕ)) → Leaves s (Spoken change person (Known (ApproveFor names))) (with s change)
-  pub withdraw : (person : List ℕ) → Leaves s (Spoken change person (Known Withdraw)) (without s change)
+  pub approve : (person : List ℕ) → Leaves s (On change (Said person (Known Approve))) (with s change)
+  pub approve_for : (person : List ℕ) (names : List (List ℕ)) → Leaves s (On change (Said person (Known (ApproveFor names)))) (with s change)
+  pub withdraw : (person : List ℕ) → Leaves s (On change (Said person (Known Withdraw))) (without s change)
   -- another priority of an approved change takes it out, and queues it anew
-  pub priority : (person : List ℕ) (priority : ℤ) → Leaves s (Spoken change person (Known (Priority priority)))
+  pub priority : (person : List ℕ) (priority : ℤ) → Leaves s (On change (Said person (Known (Priority priority))))
       (if approved_on s.desk change && not (int_eq (priority_on s.desk change) priority) then enqueued (size_on s.desk) priority change (without s change) else s.queue)
   -- `try` queues it on the other branch as a batch of its own, and `try-` takes it out there
-  pub try : (person : List ℕ) → Leaves s (Spoken change person (Known Try)) (tried change s.queue)
-  pub try_cancel : (person : List ℕ) → Leaves s (Spoken change person (Known TryCancel)) (taken_out Trying (all_but change) s.queue)
+  pub try : (person : List ℕ) → Leaves s (On change (Said person (Known Try))) (tried change s.queue)
+  pub try_cancel : (person : List ℕ) → Leaves s (On change (Said person (Known TryCancel))) (taken_out Trying (all_but change) s.queue)
   -- another head takes it out on both, and so does a closing
-  pub pushed : (head : List ℕ) → Leaves s (Pushed change head) (if has_head s change head then s.queue else without_any s change)
-  pub closed : Leaves s (Closed change) (without_any s change)
+  pub pushed : (head : List ℕ) → Leaves s (On change (Happened (Pushed head))) (if has_head s change head then s.queue else without_any s change)
+  pub closed : Leaves s (On change (Happened Closed)) (without_any s change)
   -- a label or a review takes it out if it ends the approval
-  pub labeled : (label : List ℕ) → Leaves s (Labeled change label) (if is_ended s change (labeled s.desk.settings label) then without s change else s.queue)
+  pub labeled : (label : List ℕ) → Leaves s (On change (Happened (Labeled label))) (if is_ended s change (labeled s.desk.settings label) then without s change else s.queue)
   pub reviewed : (person head : List ℕ) (approves : Bool) →
-      Leaves s (Review change person head approves) (if is_ended s change (reviewed s.desk.settings person approves) then without s change else s.queue)
+      Leaves s (On change (Happened (Review person head approves))) (if is_ended s change (reviewed s.desk.settings person approves) then without s change else s.queue)
   -- `retry` does what the command that it repeats does
-  pub retry : (person : List ℕ) → denial s (Spoken change person (Known Retry)) ≡ None
-      → after s (Spoken change person (Known Retry)) ≡ after s (Spoken change person (Known (repeated (last_command (look s.desk) change))))
+  pub retry : (person : List ℕ) → denial s (On change (Said person (Known Retry))) ≡ None
+      → after s (On change (Said person (Known Retry))) ≡ after s (On change (Said person (Known (repeated (last_command (look s.desk) change)))))
   -- all else leaves the queue
-  pub ping : (person : List ℕ) → Leaves s (Spoken change person (Known Ping)) s.queue
-  pub delegate_author : (person : List ℕ) → Leaves s (Spoken change person (Known DelegateAuthor)) s.queue
-  pub delegate_to : (person : List ℕ) (names : List (List ℕ)) → Leaves s (Spoken change person (Known (DelegateTo names))) s.queue
-  pub delegate_none : (person : List ℕ) → Leaves s (Spoken change person (Known DelegateNone)) s.queue
-  pub opened : (author head : List ℕ) → Leaves s (Opened change author head) s.queue
-  pub unlabeled : (label : List ℕ) → Leaves s (Unlabeled change label) s.queue
+  pub ping : (person : List ℕ) → Leaves s (On change (Said person (Known Ping))) s.queue
+  pub delegate_author : (person : List ℕ) → Leaves s (On change (Said person (Known DelegateAuthor))) s.queue
+  pub delegate_to : (person : List ℕ) (names : List (List ℕ)) → Leaves s (On change (Said person (Known (DelegateTo names)))) s.queue
+  pub delegate_none : (person : List ℕ) → Leaves s (On change (Said person (Known DelegateNone))) s.queue
+  pub opened : (author head : List ℕ) → Leaves s (On change (Happened (Opened author head))) s.queue
+  pub unlabeled : (label : List ℕ) → Leaves s (On change (Happened (Unlabeled label))) s.queue
 
 abbrev pub LawOfTheQueue : Type 0
 LawOfTheQueue = (s : State) (change : ℕ) → IsState s → ActByAct s change

@@ -10,7 +10,7 @@ use Rattle.std.specs.Str.{bytes_eq}
 use Rattle.gate_state.specs.Acts.{on, ActKeepsLimits}
 use Rattle.gate_state.specs.declared.reply.Head.{Head}
 use Rattle.gate_state.specs.declared.reply.Why.TheVariants as why
-use Rattle.gate_queue.specs.Vocabulary.{SettingsView, settings_of, same_settings, Approve, ApproveFor, Withdraw, Priority, Try, TryCancel, DelegateAuthor, DelegateTo, DelegateNone, Known, Look, Texts, is_open_phase, is_fit, DeskView, role_on, Change, Phase, Repeat, Nobody, RoleOf, Rule, Act, Spoken, Role, Settings, Base, Opened, Pushed, Closed, Labeled, Unlabeled, Review, Staged, Status, Refused, Tick, StatusState, Success, Failure, Error, Pending, Order, Stage, Land, Notice, Reply, Done, Denied, Why, State}
+use Rattle.gate_queue.specs.Vocabulary.{SettingsView, settings_of, same_settings, Approve, ApproveFor, Withdraw, Priority, Try, TryCancel, DelegateAuthor, DelegateTo, DelegateNone, Known, Look, Texts, is_open_phase, is_fit, DeskView, role_on, Change, Phase, Repeat, Nobody, RoleOf, Rule, Act, On, Other, Deed, Said, Happened, Opened, Pushed, Closed, Labeled, Unlabeled, Review, Fact, Role, Settings, Base, Staged, Status, Refused, Tick, StatusState, Success, Failure, Error, Pending, Order, Stage, Land, Notice, Reply, Done, Denied, Why, State}
 use Rattle.gate_rules.specs.declared.change.Phase.TheVariants as phase
 use Rattle.gate_rules.specs.declared.change.Repeat.TheVariants as repeat
 use Rattle.gate_state.specs.Counts.{held, in_landing, of_any_priority}
@@ -18,6 +18,7 @@ use Rattle.gate_queue.specs.Machine.{IsEmpty, broken, missing, meaning, is_good,
 use Rattle.gate_state.specs.State.{IsState}
 use Rattle.gate_state.specs.declared.batch.Branch.{Branch}
 use Rattle.gate_state.specs.declared.batch.Branch.TheVariants.{Staging, Trying}
+use Rattle.gate_state.specs.Room.{HasRoom}
 
 -- A history is a list of entries, the newest first.
 pub record Entry : Type 0 where
@@ -40,43 +41,44 @@ abbrev pub since : (Event → List Event → Bool) → (Event → List Event →
 since start keep [] = false
 since start keep (event ∷ events) = start event events || (keep event events && since start keep events)
 
--- what an act says, if the event is one
-abbrev pub said_by : {X : Type 0} → (Act → Option X) → Event → List Event → Option X
-said_by said (did act) before = said act
+-- what a fact says that is about no change, if the event is one
+abbrev pub said_by : {X : Type 0} → (Fact → Option X) → Event → List Event → Option X
+said_by said (did (On change deed)) before = None
+said_by said (did (Other fact)) before = said fact
 said_by said (gave order) before = None
 
--- the act that was done to a change, if the event is one
-abbrev pub done_to : ℕ → Event → Option Act
+-- what was done to a change, if the event is that
+abbrev pub done_to : ℕ → Event → Option Deed
 done_to change (did act) = on change act
 done_to change (gave order) = None
 
--- what that act says
-abbrev pub said_on : {X : Type 0} → ℕ → (Act → Option X) → Event → List Event → Option X
+-- what that says
+abbrev pub said_on : {X : Type 0} → ℕ → (Deed → Option X) → Event → List Event → Option X
 said_on change said event before = option_and_then said (done_to change event)
 
 -- ROLES, SETTINGS, BASE, CLOCK
-abbrev pub role_said : List ℕ → Act → Option RoleOf
+abbrev pub role_said : List ℕ → Fact → Option RoleOf
 role_said person (Role other role) = if bytes_eq person other then Some role else None
 role_said person _ = None
 
 abbrev pub role_back : List Event → List ℕ → RoleOf
 role_back events person = unwrap_or (last_of (said_by (role_said person)) events) Nobody
 
-abbrev pub settings_said : Act → Option SettingsView
+abbrev pub settings_said : Fact → Option SettingsView
 settings_said (Settings text) = result_ok (settings_of text)
 settings_said _ = None
 
 abbrev pub settings_back : List Event → Option SettingsView
 settings_back events = last_of (said_by settings_said) events
 
-abbrev pub base_said : Act → Option (List ℕ)
+abbrev pub base_said : Fact → Option (List ℕ)
 base_said (Base commit) = Some commit
 base_said _ = None
 
 abbrev pub base_back : List Event → Option (List ℕ)
 base_back events = last_of (said_by base_said) events
 
-abbrev pub clock_said : Act → Option ℕ
+abbrev pub clock_said : Fact → Option ℕ
 clock_said (Tick now) = Some now
 clock_said _ = None
 
@@ -84,17 +86,17 @@ abbrev pub clock_back : List Event → ℕ
 clock_back events = unwrap_or (last_of (said_by clock_said) events) 0
 
 -- CHANGES
-abbrev pub author_said : Act → Option (List ℕ)
-author_said (Opened change author head) = Some author
+abbrev pub author_said : Deed → Option (List ℕ)
+author_said (Happened (Opened author head)) = Some author
 author_said _ = None
 
 -- none if the change was never opened
 abbrev pub author_back : List Event → ℕ → Option (List ℕ)
 author_back events change = last_of (said_on change author_said) events
 
-abbrev pub head_said : Act → Option (List ℕ)
-head_said (Opened change author head) = Some head
-head_said (Pushed change head) = Some head
+abbrev pub head_said : Deed → Option (List ℕ)
+head_said (Happened (Opened author head)) = Some head
+head_said (Happened (Pushed head)) = Some head
 head_said _ = None
 
 -- empty if the change was never opened
@@ -102,9 +104,9 @@ abbrev pub head_back : List Event → ℕ → List ℕ
 head_back events change = unwrap_or (last_of (said_on change head_said) events) []
 
 -- a head move: the change is opened, or another head than before is pushed
-abbrev pub moves_head : ℕ → List Event → Act → Bool
-moves_head change before (Opened other author head) = true
-moves_head change before (Pushed other head) = not (bytes_eq (head_back before change) head)
+abbrev pub moves_head : ℕ → List Event → Deed → Bool
+moves_head change before (Happened (Opened author head)) = true
+moves_head change before (Happened (Pushed head)) = not (bytes_eq (head_back before change) head)
 moves_head change before _ = false
 
 abbrev pub moves : ℕ → Event → List Event → Bool
@@ -124,13 +126,14 @@ abbrev pub batches_back : List Event → ℕ → List ℕ
 batches_back events change = filter_map (stage_naming change) events
 
 -- LANDING: the commit that a batch was ordered to land with, until the host refuses it, or the base is another
-abbrev pub ends_landing : ℕ → Act → Bool
+abbrev pub ends_landing : ℕ → Fact → Bool
 ends_landing number (Base commit) = true
 ends_landing number (Refused batch) = number == batch
-ends_landing number act = false
+ends_landing number fact = false
 
 abbrev pub landing_said : ℕ → Event → List Event → Option (Option (List ℕ))
-landing_said number (did act) before = then_some (ends_landing number act) None
+landing_said number (did (On change deed)) before = None
+landing_said number (did (Other fact)) before = then_some (ends_landing number fact) None
 landing_said number (gave (Stage batch branch base heads)) before = None
 landing_said number (gave (Land batch base commit)) before = then_some (number == batch) (Some commit)
 landing_said number (gave (Notice change why)) before = None
@@ -158,9 +161,9 @@ abbrev pub landed_back : List Event → ℕ → Bool
 landed_back events change = list_any (has_landed events) (batches_back events change)
 
 -- PHASES: a change that has landed stays so; else it is open from when it was opened last, until it is closed
-abbrev pub phase_said : Act → Option Phase
-phase_said (Opened change author head) = Some phase.Opened
-phase_said (Closed change) = Some phase.Closed
+abbrev pub phase_said : Deed → Option Phase
+phase_said (Happened (Opened author head)) = Some phase.Opened
+phase_said (Happened Closed) = Some phase.Closed
 phase_said _ = None
 
 -- A change that was never opened isn't open.
@@ -171,24 +174,24 @@ phase_by false said = unwrap_or said phase.Closed
 abbrev pub phase_back : List Event → ℕ → Phase
 phase_back events change = phase_by (landed_back events change) (last_of (said_on change phase_said) events)
 
-abbrev pub priority_said : Act → Option ℤ
-priority_said (Spoken change person (Known (Priority priority))) = Some priority
+abbrev pub priority_said : Deed → Option ℤ
+priority_said (Said person (Known (Priority priority))) = Some priority
 priority_said _ = None
 
 abbrev pub priority_back : List Event → ℕ → ℤ
 priority_back events change = unwrap_or (last_of (said_on change priority_said) events) (pos 0)
 
 -- the last `r+`, `r=` or `try`
-abbrev pub repeat_said : Act → Option Repeat
-repeat_said (Spoken change person (Known Approve)) = Some repeat.Approve
-repeat_said (Spoken change person (Known (ApproveFor names))) = Some (repeat.ApproveFor names)
-repeat_said (Spoken change person (Known Try)) = Some repeat.Try
+abbrev pub repeat_said : Deed → Option Repeat
+repeat_said (Said person (Known Approve)) = Some repeat.Approve
+repeat_said (Said person (Known (ApproveFor names))) = Some (repeat.ApproveFor names)
+repeat_said (Said person (Known Try)) = Some repeat.Try
 repeat_said _ = None
 
 abbrev pub repeat_back : List Event → ℕ → Option Repeat
 repeat_back events change = last_of (said_on change repeat_said) events
 
--- SETS of a change: each act on it may put a text in or take one out.
+-- SETS of a change: each deed on it may put a text in or take one out.
 pub data Mark : Type 0 where
   put : List ℕ → Mark
   taken : List ℕ → Mark
@@ -198,17 +201,17 @@ marked None texts = texts
 marked (Some (put text)) texts = set.insert texts text
 marked (Some (taken text)) texts = set.remove texts text
 
-abbrev pub label_said : Act → Option Mark
-label_said (Labeled change label) = Some (put label)
-label_said (Unlabeled change label) = Some (taken label)
+abbrev pub label_said : Deed → Option Mark
+label_said (Happened (Labeled label)) = Some (put label)
+label_said (Happened (Unlabeled label)) = Some (taken label)
 label_said _ = None
 
 abbrev pub labels_back : List Event → ℕ → Texts
 labels_back [] change = set.empty
 labels_back (event ∷ events) change = marked (said_on change label_said event events) (labels_back events change)
 
-abbrev pub review_said : Act → Option Mark
-review_said (Review change person head approves) = Some (if approves then put person else taken person)
+abbrev pub review_said : Deed → Option Mark
+review_said (Happened (Review person head approves)) = Some (if approves then put person else taken person)
 review_said _ = None
 
 -- A head move ends all reviews.
@@ -217,7 +220,7 @@ reviews_back [] change = set.empty
 reviews_back (event ∷ events) change = if moves change event events then set.empty else marked (said_on change review_said event events) (reviews_back events change)
 
 -- A status of a head: a success puts its name in, and all else takes it out.
-abbrev pub status_said : List ℕ → Act → Option Mark
+abbrev pub status_said : List ℕ → Fact → Option Mark
 status_said head (Status commit name state) = then_some (bytes_eq commit head) (if is_good state then put name else taken name)
 status_said head _ = None
 
@@ -236,10 +239,10 @@ pub data Delegation : Type 0 where
   to_people : List (List ℕ) → Delegation
   to_nobody : Delegation
 
-abbrev pub delegation_said : Act → Option Delegation
-delegation_said (Spoken change person (Known DelegateAuthor)) = Some to_author
-delegation_said (Spoken change person (Known (DelegateTo names))) = Some (to_people names)
-delegation_said (Spoken change person (Known DelegateNone)) = Some to_nobody
+abbrev pub delegation_said : Deed → Option Delegation
+delegation_said (Said person (Known DelegateAuthor)) = Some to_author
+delegation_said (Said person (Known (DelegateTo names))) = Some (to_people names)
+delegation_said (Said person (Known DelegateNone)) = Some to_nobody
 delegation_said _ = None
 
 abbrev pub with_author : Option (List ℕ) → Texts → Texts
@@ -261,18 +264,18 @@ delegates_back (event ∷ events) change = delegated (author_back events change)
 abbrev pub fit_back : List Event → ℕ → Bool
 fit_back events change = is_fit (settings_back events) (phase_back events change) (labels_back events change) (reviews_back events change)
 
--- the approvers that an act gives its change
-abbrev pub approval_said : Act → Option (List (List ℕ))
-approval_said (Spoken change person (Known Approve)) = Some (person ∷ [])
-approval_said (Spoken change person (Known (ApproveFor names))) = Some names
+-- the approvers that a deed gives its change
+abbrev pub approval_said : Deed → Option (List (List ℕ))
+approval_said (Said person (Known Approve)) = Some (person ∷ [])
+approval_said (Said person (Known (ApproveFor names))) = Some names
 approval_said _ = None
 
 -- what ends an approval, beside the loss of fitness: `r-`, a head move, that the change is closed, and the notice that its
 -- batch has failed
-abbrev pub ends_it : ℕ → List Event → Act → Bool
-ends_it change before (Spoken other person (Known Withdraw)) = true
-ends_it change before (Closed other) = true
-ends_it change before act = moves_head change before act
+abbrev pub ends_it : ℕ → List Event → Deed → Bool
+ends_it change before (Said person (Known Withdraw)) = true
+ends_it change before (Happened Closed) = true
+ends_it change before deed = moves_head change before deed
 
 abbrev pub ends_why : Why → Bool
 ends_why why.Conflict = true
@@ -308,18 +311,18 @@ abbrev pub approvers_back : List Event → ℕ → Option (List (List ℕ))
 approvers_back events change = if standing_back events change then last_of (said_on change approval_said) events else None
 
 -- TRIES
-abbrev pub try_said : Act → Bool
-try_said (Spoken change person (Known Try)) = true
+abbrev pub try_said : Deed → Bool
+try_said (Said person (Known Try)) = true
 try_said _ = false
 
 abbrev pub try_starts : ℕ → Event → List Event → Bool
 try_starts change event before = option_map_or try_said (done_to change event) false
 
 -- what ends one: `try-`, a head move, that the change is closed, and the notice that it has passed or failed
-abbrev pub ends_its_try : ℕ → List Event → Act → Bool
-ends_its_try change before (Spoken other person (Known TryCancel)) = true
-ends_its_try change before (Closed other) = true
-ends_its_try change before act = moves_head change before act
+abbrev pub ends_its_try : ℕ → List Event → Deed → Bool
+ends_its_try change before (Said person (Known TryCancel)) = true
+ends_its_try change before (Happened Closed) = true
+ends_its_try change before deed = moves_head change before deed
 
 abbrev pub tells_of_try : Why → Bool
 tells_of_try why.Conflict = false
@@ -406,40 +409,43 @@ abbrev pub is_order_on : ℕ → List ℕ → Event → List Event → Bool
 is_order_on number base (gave (Stage batch Staging other heads)) before = (number == batch) && bytes_eq base other
 is_order_on number base event before = false
 
-abbrev pub keeps_settings : Option SettingsView → Act → Bool
-keeps_settings present act = option_map_or (λ (new : SettingsView). option_map_or (λ (old : SettingsView). same_settings old new) present false) (settings_said act) true
+abbrev pub keeps_settings : Option SettingsView → Fact → Bool
+keeps_settings present fact = option_map_or (λ (new : SettingsView). option_map_or (λ (old : SettingsView). same_settings old new) present false) (settings_said fact) true
 
 abbrev pub keeps_order : Event → List Event → Bool
-keeps_order (did act) before = not (is_some (base_said act)) && keeps_settings (settings_back before) act
+keeps_order (did (On change deed)) before = true
+keeps_order (did (Other fact)) before = not (is_some (base_said fact)) && keeps_settings (settings_back before) fact
 keeps_order (gave order) before = true
 
 abbrev pub is_ordered_on : List Event → ℕ → List ℕ → Bool
 is_ordered_on events number base = since (is_order_on number base) keeps_order events
 
 -- It was staged with this commit, and not staged or ordered anew since.
-abbrev pub is_staging : ℕ → List ℕ → Act → Bool
+abbrev pub is_staging : ℕ → List ℕ → Fact → Bool
 is_staging number commit (Staged batch other) = (number == batch) && bytes_eq commit other
-is_staging number commit act = false
+is_staging number commit fact = false
 
-abbrev pub stages_anew : ℕ → Act → Bool
+abbrev pub stages_anew : ℕ → Fact → Bool
 stages_anew number (Staged batch commit) = number == batch
-stages_anew number act = false
+stages_anew number fact = false
 
 abbrev pub is_staged_as : ℕ → List ℕ → Event → List Event → Bool
-is_staged_as number commit (did act) before = is_staging number commit act
+is_staged_as number commit (did (On change deed)) before = false
+is_staged_as number commit (did (Other fact)) before = is_staging number commit fact
 is_staged_as number commit (gave order) before = false
 
 abbrev pub keeps_staged : ℕ → Event → List Event → Bool
-keeps_staged number (did act) before = not (stages_anew number act)
+keeps_staged number (did (On change deed)) before = true
+keeps_staged number (did (Other fact)) before = not (stages_anew number fact)
 keeps_staged number (gave order) before = not (is_stage_of number order)
 
 abbrev pub is_staged_back : List Event → ℕ → List ℕ → Bool
 is_staged_back events number commit = since (is_staged_as number commit) (keeps_staged number) events
 
--- what an event reports of a status of a commit
-abbrev pub state_said : List ℕ → List ℕ → Act → Option StatusState
+-- what a fact reports of a status of a commit
+abbrev pub state_said : List ℕ → List ℕ → Fact → Option StatusState
 state_said commit name (Status other status state) = then_some (bytes_eq commit other && bytes_eq name status) state
-state_said commit name act = None
+state_said commit name fact = None
 
 abbrev pub is_bad : StatusState → Bool
 is_bad Success = false
@@ -499,7 +505,7 @@ pub record IsReadyToLand (events : List Event) (number : ℕ) (staged : Head) : 
 -- An order to land comes by a success of the commit, if the batch is tested and each change that it was staged with is ready.
 pub record IsRightLanding (events : List Event) (act : Act) (number : ℕ) (base commit : List ℕ) : Type 0 where
   pub name : List ℕ
-  pub success : act ≡ Status commit name Success
+  pub success : act ≡ Other (Status commit name Success)
   pub tested : IsTested events number base commit
   pub ready : All (IsReadyToLand events number) (heads_back events number)
 
@@ -610,5 +616,5 @@ entry_of act reply = record { act = act; reply = reply }
 
 -- EACH STEP TELLS IT: after every legal history, one more act that keeps its limits, if the next number leaves room for it.
 abbrev pub LawOfEntries : Type 0
-LawOfEntries = (history : List Entry) (old : State) (act : Act) → Legal history old → old.queue.next ≤ 8_999_999_999_999_996 → ActKeepsLimits act
+LawOfEntries = (history : List Entry) (old : State) (act : Act) → Legal history old → HasRoom old.queue → ActKeepsLimits act
     → EntryTells history old (entry_of act (reply_to old act)) (after old act)

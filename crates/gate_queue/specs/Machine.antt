@@ -7,10 +7,9 @@ use Rattle.std.specs.List.{fold, filter_map, list_all}
 use Rattle.std.specs.Option.{option_map, option_map_or, option_and_then, option_or}
 use Rattle.std.specs.Ordering.{int_eq}
 use Rattle.std.specs.Str.{bytes_eq}
-use Rattle.gate_state.specs.Acts.{subject}
 use Rattle.gate_state.specs.declared.reply.Head.{Head}
 use Rattle.gate_state.specs.declared.reply.Why.TheVariants as why
-use Rattle.gate_queue.specs.Vocabulary.{SettingsView, settings_of, fault_number, same_settings, Command, Ping, Approve, ApproveFor, Withdraw, Priority, Try, TryCancel, DelegateAuthor, DelegateTo, DelegateNone, Retry, Known, Unknown, SettingsFault, Look, asks, last_command, is_known, is_open, is_landed, is_member, is_blocked, has_too_few_reviews, first_failing, DeskView, empty_desk, with_role, with_change, with_settings, with_base, with_clock, with_ended, numbers_where, ended_if, without_approval, is_required, is_open_head, with_told, look, Change, Repeat, Nobody, Rule, UnknownChange, NotOpen, AlreadyOpen, ChangeLanded, StaleHead, NotMember, OwnChange, BadSettings, ClockBack, NoSuchBatch, SameAsBase, Act, Spoken, Role, Settings, Base, Opened, Pushed, Closed, Labeled, Unlabeled, Review, Staged, Conflict, Status, Refused, Tick, StatusState, Success, Failure, Error, Pending, Order, Stage, Land, Notice, Reply, Done, Denied, Why, State, Outcome}
+use Rattle.gate_queue.specs.Vocabulary.{SettingsView, settings_of, fault_number, same_settings, Command, Ping, Approve, ApproveFor, Withdraw, Priority, Try, TryCancel, DelegateAuthor, DelegateTo, DelegateNone, Retry, Known, Unknown, SettingsFault, Look, asks, last_command, is_known, is_open, is_landed, is_member, is_blocked, has_too_few_reviews, first_failing, DeskView, empty_desk, with_role, with_change, with_settings, with_base, with_clock, with_ended, numbers_where, ended_if, without_approval, is_required, is_open_head, with_told, look, Change, Repeat, Nobody, Rule, UnknownChange, NotOpen, AlreadyOpen, ChangeLanded, StaleHead, NotMember, OwnChange, BadSettings, ClockBack, NoSuchBatch, SameAsBase, Act, On, Other, Deed, Said, Happened, ChangeFact, Opened, Pushed, Closed, Labeled, Unlabeled, Review, Fact, Role, Settings, Base, Staged, Conflict, Status, Refused, Tick, StatusState, Success, Failure, Error, Pending, Order, Stage, Land, Notice, Reply, Done, Denied, Why, State, Outcome}
 use Rattle.gate_rules.specs.Rules as rules
 use Rattle.gate_rules.specs.declared.change.Phase.TheVariants as phase
 use Rattle.gate_rules.specs.declared.change.Repeat.TheVariants as repeat
@@ -65,23 +64,29 @@ review_row s change person head =
     ∷ asks (not (is_author s change person)) OwnChange
     ∷ [])
 
--- what an act is judged by, in order
+-- what an act is judged by, in order: a deed on a change, and any other fact
+abbrev pub deed_row : Look → ℕ → Deed → List (Option Rule)
+deed_row s change (Said person spoken) = rules.line_row s person change spoken
+deed_row s change (Happened (Opened author head)) = opening_row s change
+deed_row s change (Happened (Pushed head)) = of_open_change s change []
+deed_row s change (Happened Closed) = of_open_change s change []
+deed_row s change (Happened (Labeled label)) = of_open_change s change []
+deed_row s change (Happened (Unlabeled label)) = of_open_change s change []
+deed_row s change (Happened (Review person head approves)) = review_row s change person head
+
+abbrev pub fact_row : Look → Fact → List (Option Rule)
+fact_row s (Role person role) = []
+fact_row s (Settings text) = bad_settings (settings_of text) ∷ []
+fact_row s (Base commit) = asks (not (is_base s commit)) SameAsBase ∷ []
+fact_row s (Staged batch commit) = asks (not (is_base s commit)) SameAsBase ∷ []
+fact_row s (Conflict batch) = []
+fact_row s (Status commit name state) = []
+fact_row s (Refused batch) = []
+fact_row s (Tick now) = asks (nat_le s.clock now) ClockBack ∷ []
+
 abbrev pub row : Look → Act → List (Option Rule)
-row s (Spoken change person spoken) = rules.line_row s person change spoken
-row s (Role person role) = []
-row s (Settings text) = bad_settings (settings_of text) ∷ []
-row s (Base commit) = asks (not (is_base s commit)) SameAsBase ∷ []
-row s (Opened change author head) = opening_row s change
-row s (Pushed change head) = of_open_change s change []
-row s (Closed change) = of_open_change s change []
-row s (Labeled change label) = of_open_change s change []
-row s (Unlabeled change label) = of_open_change s change []
-row s (Review change person head approves) = review_row s change person head
-row s (Staged batch commit) = asks (not (is_base s commit)) SameAsBase ∷ []
-row s (Conflict batch) = []
-row s (Status commit name state) = []
-row s (Refused batch) = []
-row s (Tick now) = asks (nat_le s.clock now) ClockBack ∷ []
+row s (On change deed) = deed_row s change deed
+row s (Other fact) = fact_row s fact
 
 -- the first of these that fails
 abbrev pub broken : Look → Act → Option Rule
@@ -118,10 +123,10 @@ on_either test queue = test queue.staging || test queue.trying
 
 -- Tries don't land.
 abbrev pub missing : State → Act → Option Rule
-missing s (Staged batch commit) = asks (on_either (has_ordered batch) s.queue) NoSuchBatch
-missing s (Conflict batch) = asks (on_either (has_ordered batch) s.queue) NoSuchBatch
-missing s (Status commit name state) = asks (on_either (has_staged commit) s.queue || is_open_head commit s.desk) NoSuchBatch
-missing s (Refused batch) = asks (has_landing batch s.queue.staging) NoSuchBatch
+missing s (Other (Staged batch commit)) = asks (on_either (has_ordered batch) s.queue) NoSuchBatch
+missing s (Other (Conflict batch)) = asks (on_either (has_ordered batch) s.queue) NoSuchBatch
+missing s (Other (Status commit name state)) = asks (on_either (has_staged commit) s.queue || is_open_head commit s.desk) NoSuchBatch
+missing s (Other (Refused batch)) = asks (has_landing batch s.queue.staging) NoSuchBatch
 missing s act = None
 
 -- the rule that denies an act, if one does
@@ -130,7 +135,7 @@ denial s act = option_or (missing s act) (broken (look s.desk) act)
 
 -- whether a refusal may want memory: to read settings, or to copy what the rule names
 abbrev pub RefusalMayWantMemory : Act → Option Rule → Type 0
-RefusalMayWantMemory (Settings text) rule = ⊤
+RefusalMayWantMemory (Other (Settings text)) rule = ⊤
 RefusalMayWantMemory act rule = rules.MayWantMemory rule
 
 -- WHAT AN ACT MEANS: `retry` is the command that it repeats, by the person who writes it. With nothing to repeat it never acts.
@@ -145,7 +150,7 @@ meant s change Retry = repeated (last_command s change)
 meant s change command = command
 
 abbrev pub meaning : Look → Act → Act
-meaning s (Spoken change person (Known command)) = Spoken change person (Known (meant s change command))
+meaning s (On change (Said person (Known command))) = On change (Said person (Known (meant s change command)))
 meaning s act = act
 
 -- WHAT AN ACT DOES TO ITS CHANGE
@@ -249,7 +254,7 @@ losing_on desk settings = numbers_where (loses_approval settings) desk
 abbrev pub are_present : DeskView → SettingsView → Bool
 are_present desk settings = option_map_or (λ present. same_settings present settings) desk.settings false
 
--- AN ACT ABOUT A CHANGE, on the desk and if no rule denies it
+-- A DEED ON A CHANGE, on the desk and if no rule denies it
 -- `ping` does nothing. An unknown line never acts, and a `retry` acts as what it repeats.
 abbrev pub command_effect : DeskView → List ℕ → ℕ → Command → DeskView
 command_effect desk person change Approve = altered desk change (approved_by (person ∷ []) repeat.Approve)
@@ -264,17 +269,15 @@ command_effect desk person change DelegateNone = altered desk change without_del
 command_effect desk person change Ping = desk
 command_effect desk person change Retry = desk
 
-abbrev pub effect : DeskView → Act → DeskView
-effect desk (Spoken change person (Known command)) = command_effect desk person change command
-effect desk (Spoken change person Unknown) = desk
-effect desk (Opened change author head) = with_change desk change (opened author head (finite.get desk.changes change))
-effect desk (Pushed change head) = altered desk change (pushed head)
-effect desk (Closed change) = altered desk change closed
-effect desk (Labeled change label) = altered desk change (labeled desk.settings label)
-effect desk (Unlabeled change label) = altered desk change (without_label label)
-effect desk (Review change person head approves) = altered desk change (reviewed desk.settings person approves)
--- the others are about no change
-effect desk act = desk
+abbrev pub effect : DeskView → ℕ → Deed → DeskView
+effect desk change (Said person (Known command)) = command_effect desk person change command
+effect desk change (Said person Unknown) = desk
+effect desk change (Happened (Opened author head)) = with_change desk change (opened author head (finite.get desk.changes change))
+effect desk change (Happened (Pushed head)) = altered desk change (pushed head)
+effect desk change (Happened Closed) = altered desk change closed
+effect desk change (Happened (Labeled label)) = altered desk change (labeled desk.settings label)
+effect desk change (Happened (Unlabeled label)) = altered desk change (without_label label)
+effect desk change (Happened (Review person head approves)) = altered desk change (reviewed desk.settings person approves)
 
 -- Its notices: one if the change was approved and no longer is, or was tried and no longer is; `r-` and `try-` give none.
 abbrev pub notice_if : Bool → ℕ → Why → List Order
@@ -292,14 +295,14 @@ ends_either alter change = ends_approval alter change || ends_try alter change
 abbrev pub notice_of : DeskView → ℕ → Why → (Change → Bool) → List Order
 notice_of desk number why ends = notice_if (option_map_or ends (finite.get desk.changes number) false) number why
 
-abbrev pub notices : DeskView → Act → List Order
-notices desk (Pushed change head) = notice_of desk change why.Pushed (ends_either (pushed head))
-notices desk (Closed change) = notice_of desk change why.Closed (ends_either closed)
-notices desk (Labeled change label) = notice_of desk change why.Labeled (ends_approval (labeled desk.settings label))
-notices desk (Review change person head approves) = notice_of desk change why.Reviews (ends_approval (reviewed desk.settings person approves))
-notices desk act = []
+abbrev pub notices : DeskView → ℕ → Deed → List Order
+notices desk change (Happened (Pushed head)) = notice_of desk change why.Pushed (ends_either (pushed head))
+notices desk change (Happened Closed) = notice_of desk change why.Closed (ends_either closed)
+notices desk change (Happened (Labeled label)) = notice_of desk change why.Labeled (ends_approval (labeled desk.settings label))
+notices desk change (Happened (Review person head approves)) = notice_of desk change why.Reviews (ends_approval (reviewed desk.settings person approves))
+notices desk change deed = []
 
--- THE QUEUE FOLLOWS what an act does to one change: it sees whether the change was approved and is, and its priority; and whether
+-- THE QUEUE FOLLOWS what a deed does to its change: it sees whether the change was approved and is, and its priority; and whether
 -- it was tried and is.
 abbrev pub size_on : DeskView → Option ℕ
 size_on desk = option_and_then (λ (settings : SettingsView). settings.max_batch_size) desk.settings
@@ -343,11 +346,11 @@ with_desk s desk = record { desk = desk; queue = s.queue }
 abbrev pub with_queue : State → Queue → State
 with_queue s queue = record { desk = s.desk; queue = queue }
 
--- AN ACT ABOUT A CHANGE: the queue follows the desk.
-abbrev pub about : State → ℕ → Act → Outcome
-about s change act = record {
-  state = record { desk = effect s.desk act; queue = followed_on s.desk (effect s.desk act) change s.queue };
-  orders = notices s.desk act;
+-- A DEED ON A CHANGE: the queue follows the desk.
+abbrev pub about : State → ℕ → Deed → Outcome
+about s change deed = record {
+  state = record { desk = effect s.desk change deed; queue = followed_on s.desk (effect s.desk change deed) change s.queue };
+  orders = notices s.desk change deed;
 }
 
 -- NEW SETTINGS take the place of the present ones, and end the approvals that they are against. The queue loses what isn't
@@ -371,7 +374,12 @@ abbrev pub accepted : State → Result SettingsView SettingsFault → Outcome
 accepted s (Ok settings) = if are_present s.desk settings then quiet s else under settings s
 accepted s (Err fault) = quiet s
 
--- A BATCH FAILS: one of one change is dropped, which ends its approval with a notice; a larger one is split.
+-- ONE BATCH OF EACH BRANCH may run. What is done to it is said once, for both.
+-- one after the other, `Staging` first
+abbrev pub on_both : (Branch → State → Outcome) → State → Outcome
+on_both does s = then_next (does Staging s) (does Trying)
+
+-- the change of a batch that has no other
 abbrev pub lone : Option Batch → Option ℕ
 lone None = None
 lone (Some batch) = if lanes.has_several batch then None else slice_get batch.changes 0
@@ -384,18 +392,32 @@ abbrev pub lone_notices : Why → Option ℕ → List Order
 lone_notices why None = []
 lone_notices why (Some change) = Notice change why ∷ []
 
-abbrev pub failing : Why → State → Outcome
-failing why s = record {
-  state = record { desk = lone_altered without_approval s.desk (lone s.queue.staging.running); queue = failed Staging s.queue };
-  orders = lone_notices why (lone s.queue.staging.running);
+abbrev pub lone_on : Branch → State → Option ℕ
+lone_on branch s = lone (lane_of branch s.queue).running
+
+-- A BATCH ENDS. On `Staging` one of one change is dropped, and a larger one is split; a try is dropped in any case. The change of a
+-- batch that has no other is no longer approved then, or tried, and a notice says so.
+abbrev pub spent : Branch → Change → Change
+spent Staging = without_approval
+spent Trying = without_try
+
+abbrev pub without_running : Branch → Queue → Queue
+without_running Staging = failed Staging
+without_running Trying = dropped Trying
+
+abbrev pub ending : Branch → Why → State → Outcome
+ending branch why s = record {
+  state = record { desk = lone_altered (spent branch) s.desk (lone_on branch s); queue = without_running branch s.queue };
+  orders = lone_notices why (lone_on branch s);
 }
 
--- A TRY ENDS, well or not: its batch is dropped, its change is no longer tried, and a notice says so.
-abbrev pub try_ended : Why → State → Outcome
-try_ended why s = record {
-  state = record { desk = lone_altered without_try s.desk (lone s.queue.trying.running); queue = dropped Trying s.queue };
-  orders = lone_notices why (lone s.queue.trying.running);
-}
+-- A BATCH FAILS. Of a try the notice says no more.
+abbrev pub told_as : Branch → Why → Why
+told_as Staging cause = cause
+told_as Trying cause = why.TryFailed
+
+abbrev pub failing : Branch → Why → State → Outcome
+failing branch cause s = ending branch (told_as branch cause) s
 
 -- A STATUS of a commit first goes to the open changes whose head that is, whether or not the settings name it.
 abbrev pub is_good : StatusState → Bool
@@ -435,45 +457,31 @@ to_land batch s = record {
   orders = land_order s.desk batch.number batch.stage;
 }
 
-abbrev pub if_passed : State → Option Batch → Outcome
-if_passed s None = quiet s
-if_passed s (Some batch) = if has_passed s.desk.settings batch.stage then to_land batch s else quiet s
+-- A try that has passed ends.
+abbrev pub passing : Branch → Batch → State → Outcome
+passing Staging batch s = to_land batch s
+passing Trying batch s = ending Trying why.TryPassed s
 
-abbrev pub goes_on : List ℕ → Report → State → Outcome
-goes_on name report s =
-    let after = with_queue s (reported Staging name report s.queue) in
-    if_passed after after.queue.staging.running
+abbrev pub if_passed : Branch → State → Option Batch → Outcome
+if_passed branch s None = quiet s
+if_passed branch s (Some batch) = if has_passed s.desk.settings batch.stage then passing branch batch s else quiet s
 
-abbrev pub told_of : List ℕ → StatusState → State → Outcome
-told_of name Success s = goes_on name report.Success s
-told_of name Pending s = goes_on name report.Pending s
-told_of name Failure s = failing (why.Failed name) s
-told_of name Error s = failing (why.Failed name) s
+abbrev pub goes_on : Branch → List ℕ → Report → State → Outcome
+goes_on branch name report s =
+    let after = with_queue s (reported branch name report s.queue) in
+    if_passed branch after (lane_of branch after.queue).running
 
-abbrev pub told_staging : List ℕ → List ℕ → StatusState → State → Outcome
-told_staging commit name state s = if has_staged commit s.queue.staging then told_of name state s else quiet s
+abbrev pub told_of : Branch → List ℕ → StatusState → State → Outcome
+told_of branch name Success s = goes_on branch name report.Success s
+told_of branch name Pending s = goes_on branch name report.Pending s
+told_of branch name Failure s = failing branch (why.Failed name) s
+told_of branch name Error s = failing branch (why.Failed name) s
 
-abbrev pub try_if_passed : State → Option Batch → Outcome
-try_if_passed s None = quiet s
-try_if_passed s (Some batch) = if has_passed s.desk.settings batch.stage then try_ended why.TryPassed s else quiet s
-
-abbrev pub try_goes_on : List ℕ → Report → State → Outcome
-try_goes_on name report s =
-    let after = with_queue s (reported Trying name report s.queue) in
-    try_if_passed after after.queue.trying.running
-
-abbrev pub try_told_of : List ℕ → StatusState → State → Outcome
-try_told_of name Success s = try_goes_on name report.Success s
-try_told_of name Pending s = try_goes_on name report.Pending s
-try_told_of name Failure s = try_ended why.TryFailed s
-try_told_of name Error s = try_ended why.TryFailed s
-
-abbrev pub told_trying : List ℕ → List ℕ → StatusState → State → Outcome
-told_trying commit name state s = if has_staged commit s.queue.trying then try_told_of name state s else quiet s
+abbrev pub told_on : List ℕ → List ℕ → StatusState → Branch → State → Outcome
+told_on commit name state branch s = if has_staged commit (lane_of branch s.queue) then told_of branch name state s else quiet s
 
 abbrev pub told : List ℕ → List ℕ → StatusState → State → Outcome
-told commit name state s =
-    if is_required s.desk.settings name then then_next (told_staging commit name state s) (told_trying commit name state) else quiet s
+told commit name state s = if is_required s.desk.settings name then on_both (told_on commit name state) s else quiet s
 
 -- THE RUNNING BATCH GOES BACK: the base is new, or the host refuses to land it. If it was landing, its changes no longer are;
 -- they have landed if the new base is the commit that was to land. Those of its changes that are approved then wait again, which
@@ -529,14 +537,8 @@ is_overdue settings now (stage.Landing commit) = false
 abbrev pub has_overdue : ℕ → Option SettingsView → Lane → Bool
 has_overdue now settings lane = has_running (λ batch. is_overdue settings now batch.stage) lane
 
-abbrev pub timed_out : ℕ → State → Outcome
-timed_out now s = if has_overdue now s.desk.settings s.queue.staging then failing why.TimedOut s else quiet s
-
-abbrev pub try_timed_out : ℕ → State → Outcome
-try_timed_out now s = if has_overdue now s.desk.settings s.queue.trying then try_ended why.TryFailed s else quiet s
-
-abbrev pub ended_on_time : ℕ → State → Outcome
-ended_on_time now s = then_next (timed_out now s) (try_timed_out now)
+abbrev pub timed_out : ℕ → Branch → State → Outcome
+timed_out now branch s = if has_overdue now s.desk.settings (lane_of branch s.queue) then failing branch why.TimedOut s else quiet s
 
 abbrev pub head_on : DeskView → ℕ → Option Head
 head_on desk change = option_map (λ (c : Change). record { change = change; head = c.head }) (finite.get desk.changes change)
@@ -552,40 +554,30 @@ first_order desk (Some batch) waiting = []
 abbrev pub stage_orders : DeskView → Lane → List Order
 stage_orders desk lane = first_order desk lane.running lane.waiting
 
-abbrev pub starting : Branch → ℕ → State → Outcome
-starting branch now s = record {
+abbrev pub starting : ℕ → Branch → State → Outcome
+starting now branch s = record {
   state = with_queue s (started branch now s.queue);
   orders = stage_orders s.desk (lane_of branch s.queue);
 }
-
-abbrev pub all_starting : ℕ → State → Outcome
-all_starting now s = then_next (starting Staging now s) (starting Trying now)
 
 -- News of a batch goes to the branch on which it was ordered.
 abbrev pub ordered_on : ℕ → Queue → Branch
 ordered_on number queue = if has_ordered number queue.staging then Staging else Trying
 
-abbrev pub given_up : Branch → State → Outcome
-given_up Staging s = failing why.Conflict s
-given_up Trying s = try_ended why.TryFailed s
-
 -- ANY ACT that no rule denies
+abbrev pub happens : State → Fact → Outcome
+happens s (Role person role) = quiet (with_desk s (with_role s.desk person role))
+happens s (Settings text) = accepted s (settings_of text)
+happens s (Base commit) = quiet (rebased commit s)
+happens s (Staged batch commit) = quiet (with_queue s (staged (ordered_on batch s.queue) s.desk.clock commit s.queue))
+happens s (Conflict batch) = failing (ordered_on batch s.queue) why.Conflict s
+happens s (Status commit name state) = told commit name state (heads_told commit name state s)
+happens s (Refused batch) = quiet (sent_back None s)
+happens s (Tick now) = then_next (on_both (timed_out now) (with_desk s (with_clock s.desk now))) (on_both (starting now))
+
 abbrev pub done : State → Act → Outcome
-done s (Spoken change person spoken) = about s change (Spoken change person spoken)
-done s (Role person role) = quiet (with_desk s (with_role s.desk person role))
-done s (Settings text) = accepted s (settings_of text)
-done s (Base commit) = quiet (rebased commit s)
-done s (Opened change author head) = about s change (Opened change author head)
-done s (Pushed change head) = about s change (Pushed change head)
-done s (Closed change) = about s change (Closed change)
-done s (Labeled change label) = about s change (Labeled change label)
-done s (Unlabeled change label) = about s change (Unlabeled change label)
-done s (Review change person head approves) = about s change (Review change person head approves)
-done s (Staged batch commit) = quiet (with_queue s (staged (ordered_on batch s.queue) s.desk.clock commit s.queue))
-done s (Conflict batch) = given_up (ordered_on batch s.queue) s
-done s (Status commit name state) = told commit name state (heads_told commit name state s)
-done s (Refused batch) = quiet (sent_back None s)
-done s (Tick now) = then_next (ended_on_time now (with_desk s (with_clock s.desk now))) (all_starting now)
+done s (On change deed) = about s change deed
+done s (Other fact) = happens s fact
 
 -- WHAT TAKES NO MEMORY: an act that adds nothing to a list, a set or a map, and gives no order
 abbrev pub CommandTakesNoMemory : Command → Type 0
@@ -602,23 +594,29 @@ CommandTakesNoMemory TryCancel = ⊤
 CommandTakesNoMemory Retry = ⊥
 
 -- on the desk
+abbrev pub DeedTakesNoMemory : DeskView → ℕ → Deed → Type 0
+DeedTakesNoMemory desk change (Said person (Known command)) = CommandTakesNoMemory command
+DeedTakesNoMemory desk change (Said person Unknown) = ⊤
+DeedTakesNoMemory desk change (Happened (Opened author head)) = ⊥
+DeedTakesNoMemory desk change (Happened (Pushed head)) = is_head (look desk) change head ≡ true
+DeedTakesNoMemory desk change (Happened Closed) = notices desk change (Happened Closed) ≡ []
+DeedTakesNoMemory desk change (Happened (Labeled label)) = ⊥
+DeedTakesNoMemory desk change (Happened (Unlabeled label)) = ⊤
+DeedTakesNoMemory desk change (Happened (Review person head approves)) = ⊥
+
+abbrev pub FactTakesNoMemory : DeskView → Fact → Type 0
+FactTakesNoMemory desk (Role person role) = role ≡ Nobody
+FactTakesNoMemory desk (Settings text) = ⊥
+FactTakesNoMemory desk (Base commit) = ⊤
+FactTakesNoMemory desk (Staged batch commit) = ⊤
+FactTakesNoMemory desk (Conflict batch) = ⊥
+FactTakesNoMemory desk (Status commit name state) = (is_required desk.settings name ≡ false) × (is_open_head commit desk ≡ false)
+FactTakesNoMemory desk (Refused batch) = ⊤
+FactTakesNoMemory desk (Tick now) = ⊤
+
 abbrev pub DeskTakesNoMemory : DeskView → Act → Type 0
-DeskTakesNoMemory desk (Spoken change person (Known command)) = CommandTakesNoMemory command
-DeskTakesNoMemory desk (Spoken change person Unknown) = ⊤
-DeskTakesNoMemory desk (Role person role) = role ≡ Nobody
-DeskTakesNoMemory desk (Settings text) = ⊥
-DeskTakesNoMemory desk (Base commit) = ⊤
-DeskTakesNoMemory desk (Opened change author head) = ⊥
-DeskTakesNoMemory desk (Pushed change head) = is_head (look desk) change head ≡ true
-DeskTakesNoMemory desk (Closed change) = notices desk (Closed change) ≡ []
-DeskTakesNoMemory desk (Labeled change label) = ⊥
-DeskTakesNoMemory desk (Unlabeled change label) = ⊤
-DeskTakesNoMemory desk (Review change person head approves) = ⊥
-DeskTakesNoMemory desk (Staged batch commit) = ⊤
-DeskTakesNoMemory desk (Conflict batch) = ⊥
-DeskTakesNoMemory desk (Status commit name state) = (is_required desk.settings name ≡ false) × (is_open_head commit desk ≡ false)
-DeskTakesNoMemory desk (Refused batch) = ⊤
-DeskTakesNoMemory desk (Tick now) = ⊤
+DeskTakesNoMemory desk (On change deed) = DeedTakesNoMemory desk change deed
+DeskTakesNoMemory desk (Other fact) = FactTakesNoMemory desk fact
 
 -- The queue needn't follow.
 abbrev pub needs_no_move : Bool → Bool → Bool → Bool
@@ -637,10 +635,11 @@ abbrev pub IsIdle : ℕ → DeskView → Lane → Type 0
 IsIdle now desk lane = (has_overdue now desk.settings lane ≡ false) × (stage_orders desk lane ≡ [])
 
 abbrev pub QueueTakesNoMemory : State → Act → Type 0
-QueueTakesNoMemory s (Base commit) = is_none s.queue.staging.running ≡ true
-QueueTakesNoMemory s (Refused batch) = is_none s.queue.staging.running ≡ true
-QueueTakesNoMemory s (Tick now) = IsIdle now s.desk s.queue.staging × IsIdle now s.desk s.queue.trying
-QueueTakesNoMemory s act = option_map_or (is_unmoved_on s.desk (effect s.desk act)) (subject act) true ≡ true
+QueueTakesNoMemory s (On change deed) = is_unmoved_on s.desk (effect s.desk change deed) change ≡ true
+QueueTakesNoMemory s (Other (Base commit)) = is_none s.queue.staging.running ≡ true
+QueueTakesNoMemory s (Other (Refused batch)) = is_none s.queue.staging.running ≡ true
+QueueTakesNoMemory s (Other (Tick now)) = IsIdle now s.desk s.queue.staging × IsIdle now s.desk s.queue.trying
+QueueTakesNoMemory s (Other fact) = ⊤
 
 -- A STEP: an act that a rule denies is answered the first that does, and changes nothing. Any other does what it means.
 abbrev pub acted : State → Act → Outcome

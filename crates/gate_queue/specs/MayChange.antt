@@ -5,7 +5,7 @@ use Rattle.std.specs.FinMap as finite
 use Rattle.std.specs.List.{list_any}
 use Rattle.std.specs.Option.{option_map_or}
 use Rattle.std.specs.Str.{bytes_eq}
-use Rattle.gate_queue.specs.Vocabulary.{SettingsView, settings_of, Known, Priority, DeskView, is_open_at, SettingsFault, Rule, Act, Spoken, Role, Settings, Base, Opened, Pushed, Closed, Labeled, Unlabeled, Review, Staged, Conflict, Status, Refused, Tick, State}
+use Rattle.gate_queue.specs.Vocabulary.{SettingsView, settings_of, Known, Priority, DeskView, is_open_at, SettingsFault, Rule, Act, On, Other, Deed, Said, Fact, Role, Settings, Base, Staged, Conflict, Status, Refused, Tick, State}
 use Rattle.gate_queue.specs.Machine.{denial, after, all_but, on_either, has_staged, are_present, loses_approval, with_new_settings}
 use Rattle.gate_state.specs.Lanes.{is_fresh_beside, is_fresh_of, last_so, loses}
 use Rattle.gate_state.specs.Lanes as lanes
@@ -38,7 +38,7 @@ is_in_front lane number = is_numbered number lane.running || is_numbered number 
 abbrev pub is_run : ℕ → Lane → Bool
 is_run change lane = option_map_or (loses (all_but change)) lane.running false
 
--- AN ACT ABOUT A CHANGE may change it, each batch that has it, and the batch that it joins. That is the last fresh one of its
+-- A DEED ON A CHANGE may change it, each batch that has it, and the batch that it joins. That is the last fresh one of its
 -- priority, or the last one that has other changes too: a change of a batch of its own may leave it and be queued anew.
 abbrev pub is_joined : ℤ → ℕ → List Batch → ℕ → Bool
 is_joined priority change waiting number =
@@ -54,9 +54,9 @@ of_change s priority change = record {
 }
 
 -- the priority that the change has after it
-abbrev pub next_priority : DeskView → ℕ → Act → ℤ
-next_priority desk change (Spoken number person (Known (Priority priority))) = priority
-next_priority desk change act = priority_on desk change
+abbrev pub next_priority : DeskView → ℕ → Deed → ℤ
+next_priority desk change (Said person (Known (Priority priority))) = priority
+next_priority desk change deed = priority_on desk change
 
 -- NEWS of a batch and a tick may change what is in front of both branches, and the changes that run.
 abbrev pub in_front : State → Parts
@@ -104,22 +104,19 @@ of_text s (Err fault) = no_parts
 abbrev pub of_person : List ℕ → Parts
 of_person person = record no_parts { person = λ name. bytes_eq name person }
 
+abbrev pub fact_may_do : State → Fact → Parts
+fact_may_do s (Role person role) = of_person person
+fact_may_do s (Settings text) = of_text s (settings_of text)
+fact_may_do s (Base commit) = of_base s
+fact_may_do s (Staged batch commit) = in_front s
+fact_may_do s (Conflict batch) = in_front s
+fact_may_do s (Status commit name state) = of_status s commit
+fact_may_do s (Refused batch) = in_front s
+fact_may_do s (Tick now) = in_front s
+
 abbrev pub may_do : State → Act → Parts
-may_do s (Spoken change person spoken) = of_change s (next_priority s.desk change (Spoken change person spoken)) change
-may_do s (Role person role) = of_person person
-may_do s (Settings text) = of_text s (settings_of text)
-may_do s (Base commit) = of_base s
-may_do s (Opened change author head) = of_change s (priority_on s.desk change) change
-may_do s (Pushed change head) = of_change s (priority_on s.desk change) change
-may_do s (Closed change) = of_change s (priority_on s.desk change) change
-may_do s (Labeled change label) = of_change s (priority_on s.desk change) change
-may_do s (Unlabeled change label) = of_change s (priority_on s.desk change) change
-may_do s (Review change person head approves) = of_change s (priority_on s.desk change) change
-may_do s (Staged batch commit) = in_front s
-may_do s (Conflict batch) = in_front s
-may_do s (Status commit name state) = of_status s commit
-may_do s (Refused batch) = in_front s
-may_do s (Tick now) = in_front s
+may_do s (On change deed) = of_change s (next_priority s.desk change deed) change
+may_do s (Other fact) = fact_may_do s fact
 
 -- An act that a rule denies changes nothing.
 abbrev pub unless_denied : Option Rule → Parts → Parts

@@ -18,7 +18,13 @@ pub use Rattle.gate_rules.specs.declared.rule.Rule.{Rule}
 pub use Rattle.gate_rules.specs.declared.rule.Rule.TheVariants.{UnknownChange, NotOpen, AlreadyOpen, ChangeLanded, StaleHead, NotMember, OwnChange, BadSettings, ClockBack, NoSuchBatch, SameAsBase}
 -- acts, orders, replies
 pub use Rattle.gate_state.specs.declared.act.Act.{Act}
-pub use Rattle.gate_state.specs.declared.act.Act.TheVariants.{Spoken, Role, Settings, Base, Opened, Pushed, Closed, Labeled, Unlabeled, Review, Staged, Conflict, Status, Refused, Tick}
+pub use Rattle.gate_state.specs.declared.act.Act.TheVariants.{On, Other}
+pub use Rattle.gate_state.specs.declared.act.Deed.{Deed}
+pub use Rattle.gate_state.specs.declared.act.Deed.TheVariants.{Said, Happened}
+pub use Rattle.gate_state.specs.declared.act.ChangeFact.{ChangeFact}
+pub use Rattle.gate_state.specs.declared.act.ChangeFact.TheVariants.{Opened, Pushed, Closed, Labeled, Unlabeled, Review}
+pub use Rattle.gate_state.specs.declared.act.Fact.{Fact}
+pub use Rattle.gate_state.specs.declared.act.Fact.TheVariants.{Role, Settings, Base, Staged, Conflict, Status, Refused, Tick}
 pub use Rattle.gate_state.specs.declared.act.StatusState.{StatusState}
 pub use Rattle.gate_state.specs.declared.act.StatusState.TheVariants.{Success, Failure, Error, Pending}
 pub use Rattle.gate_state.specs.declared.reply.Order.{Order}

@@ -7,7 +7,7 @@ use Rattle.std.specs.Option.{unwrap_or, option_and_then, option_map_or}
 use Rattle.std.specs.Str.{bytes_eq}
 use Rattle.gate_state.specs.declared.reply.Head.{Head}
 use Rattle.gate_queue.specs.History.{Event, Mark, put, taken, Delegation, to_author, to_people, to_nobody, last_of, since, said_by, said_on, author_back, head_back, phase_back, moves, status_said, passed_back, label_said, labels_back, review_said, reviews_back, delegation_said, delegates_back, did, gave, settings_back, base_back, IsTested}
-use Rattle.gate_queue.specs.Vocabulary.{Act, is_open_phase, SettingsView, Base, Staged, Status, StatusState, Success, Failure, Error, Stage}
+use Rattle.gate_queue.specs.Vocabulary.{Deed, Other, is_open_phase, SettingsView, Base, Staged, Status, StatusState, Success, Failure, Error, Stage}
 use Rattle.gate_state.specs.declared.batch.Branch.{Branch}
 use Rattle.gate_state.specs.declared.batch.Branch.TheVariants.{Staging}
 
@@ -41,7 +41,7 @@ abbrev pub mark_of : List ℕ → Mark → Option Bool
 mark_of text (put other) = if bytes_eq text other then Some true else None
 mark_of text (taken other) = if bytes_eq text other then Some false else None
 
-abbrev pub marks : ℕ → (Act → Option Mark) → List ℕ → Event → List Event → Option Bool
+abbrev pub marks : ℕ → (Deed → Option Mark) → List ℕ → Event → List Event → Option Bool
 marks change mark_said text event before = option_and_then (mark_of text) (said_on change mark_said event before)
 
 abbrev pub is_labeled : List Event → ℕ → List ℕ → Bool
@@ -98,10 +98,10 @@ Lacks (other ∷ events) event = (other ≢ event) × Lacks events event
 pub record Succeeded (events : List Event) (commit name : List ℕ) : Type 0 where
   pub later : List Event
   pub before : List Event
-  pub success : events ≡ later ++ did (Status commit name Success) ∷ before
-  pub last : (state : StatusState) → Lacks later (did (Status commit name state))
-  pub no_failure : Lacks events (did (Status commit name Failure))
-  pub no_error : Lacks events (did (Status commit name Error))
+  pub success : events ≡ later ++ did (Other (Status commit name Success)) ∷ before
+  pub last : (state : StatusState) → Lacks later (did (Other (Status commit name state)))
+  pub no_failure : Lacks events (did (Other (Status commit name Failure)))
+  pub no_error : Lacks events (did (Other (Status commit name Error)))
 
 pub record WasTested (events : List Event) (number : ℕ) (base commit : List ℕ) : Type 0 where
   -- The batch was ordered on staging, on this base.
@@ -110,7 +110,7 @@ pub record WasTested (events : List Event) (number : ℕ) (base commit : List �
   pub heads : List Head
   pub ordered : events ≡ later ++ gave (Stage number Staging base heads) ∷ before
   -- Since then no base was set, and it is the base of now.
-  pub no_base : (other : List ℕ) → Lacks later (did (Base other))
+  pub no_base : (other : List ℕ) → Lacks later (did (Other (Base other)))
   pub present : base_back events ≡ Some base
   -- At each moment from the order on, the settings were those of now.
   pub settings : SettingsView
@@ -119,8 +119,8 @@ pub record WasTested (events : List Event) (number : ℕ) (base commit : List �
   -- Since the order it was staged with this commit, and then neither staged nor ordered anew.
   pub after : List Event
   pub between : List Event
-  pub staged : later ≡ after ++ did (Staged number commit) ∷ between
-  pub not_staged_anew : (other : List ℕ) → Lacks after (did (Staged number other))
+  pub staged : later ≡ after ++ did (Other (Staged number commit)) ∷ between
+  pub not_staged_anew : (other : List ℕ) → Lacks after (did (Other (Staged number other)))
   pub not_ordered_anew : (branch : Branch) (other : List ℕ) (others : List Head) → Lacks after (gave (Stage number branch other others))
   -- After it was staged, each required status succeeded.
   pub succeeded : All (Succeeded after commit) settings.status

@@ -9,6 +9,7 @@ ghost use Rattle.gate_queue.specs.History.{Entry, Legal, EntryTells, entry_of};
 ghost use Rattle.gate_queue.specs.Machine.{DeskTakesNoMemory, QueueTakesNoMemory, RefusalMayWantMemory, Step, denial, empty_state};
 ghost use Rattle.gate_state.specs.Queue as queue_specs;
 ghost use Rattle.gate_state.specs.Service.{QueueIsInOrder};
+ghost use Rattle.gate_state.specs.Room.{HasRoom, IsFull};
 
 use crate::fault::Fault;
 use crate::judging::rule_of;
@@ -92,7 +93,7 @@ impl Gate {
 
     /// Whether the next number is above 8,999,999,999,999,996, so that no act steps.
     pub fn is_full(&self) -> bool
-        ensures value { (result ≡ true) ↔ (8_999_999_999_999_996 < self.now.queue.next) }
+        ensures value { (result ≡ true) ↔ (IsFull self.now.queue) }
     {
         LAST_NEXT < self.state.queue.next
     }
@@ -112,12 +113,12 @@ impl Gate {
         ensures denied { IfOk result (λ done. (rule : Rule) → done.1 ≡ Denied rule → done.0 ≡ self) }
 
         // The faults. An act that a rule denies meets `Memory` only if the rule itself may want memory.
-        ensures full { (result ≡ Err Fault.Full) ↔ (8_999_999_999_999_996 < self.queue.next) }
+        ensures full { (result ≡ Err Fault.Full) ↔ (IsFull self.queue) }
         ensures cause { IfErr result (λ fault. (fault ≡ Fault.Memory) ⊎ (fault ≡ Fault.Full)) }
         ensures refused { IfErr result (λ fault. fault ≡ Fault.Memory → (rule : Rule) → denial self act.now ≡ Some rule → RefusalMayWantMemory act.now (Some rule)) }
 
         // An act that allocates nothing is always answered, if the gate isn't full.
-        ensures no_memory { self.queue.next ≤ 8_999_999_999_999_996 → DeskTakesNoMemory self.desk act.now → QueueTakesNoMemory self act.now → IsOk result }
+        ensures no_memory { HasRoom self.queue → DeskTakesNoMemory self.desk act.now → QueueTakesNoMemory self act.now → IsOk result }
     {
         if self.is_full() {
             return Err(Fault::Full);

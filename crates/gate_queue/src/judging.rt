@@ -2,12 +2,15 @@ ghost use Rattle.std.specs.Prelude.{◌≡◌, ◌||◌, [], IfOk, IfErr, IsOk};
 ghost use Rattle.gate_text.specs.Settings.{settings_of};
 ghost use Rattle.gate_rules.specs.Rules.{first_failing};
 ghost use Rattle.gate_rules.specs.View.{is_open_head, look};
-ghost use Rattle.gate_state.specs.declared.act.Act.TheVariants as act;
+ghost use Rattle.gate_rules.specs.Rules.{MayWantMemory};
+ghost use Rattle.gate_state.specs.declared.act.Act.TheVariants.{Other};
+ghost use Rattle.gate_state.specs.declared.act.Deed.TheVariants.{Happened};
+ghost use Rattle.gate_state.specs.declared.act.Fact.TheVariants as facts;
 ghost use Rattle.gate_queue.specs.Machine as machine;
-ghost use Rattle.gate_queue.specs.Machine.{RefusalMayWantMemory, DeskTakesNoMemory, denial, bad_settings, is_ordered, is_staged_with, of_open_change, opening_row, review_row, row};
+ghost use Rattle.gate_queue.specs.Machine.{RefusalMayWantMemory, DeedTakesNoMemory, DeskTakesNoMemory, FactTakesNoMemory, denial, bad_settings, deed_row, fact_row, is_ordered, is_staged_with, of_open_change, opening_row, review_row};
 
 use gate_rules::{Desk, Rule};
-use gate_state::{Act, Lane, Queue, Stage};
+use gate_state::{Act, ChangeFact, Deed, Fact, Lane, Queue, Stage};
 use gate_text::{ChangeNo, Commit, Name, SettingsFault, Text, read_settings};
 use std::alloc::{AllocError, Global};
 
@@ -24,40 +27,72 @@ pub fn rule_of(
     ensures no_memory { DeskTakesNoMemory desk.now act.now → IsOk result }
 {
     match act {
-        Act::Spoken {
-            change,
-            person,
-            spoken,
-        } => desk.rule(alloc, person, *change, spoken),
-        Act::Role { .. } => Ok(None),
-        Act::Settings { text } => settings_rule(alloc, text),
-        Act::Base { commit } => Ok(base_rule(desk, *commit)),
-        Act::Opened { change, .. } => Ok(opening_rule(desk, *change)),
-        Act::Pushed { change, .. }
-        | Act::Closed { change }
-        | Act::Labeled { change, .. }
-        | Act::Unlabeled { change, .. } => Ok(open_rule(desk, *change)),
-        Act::Review {
-            change,
-            person,
-            head,
-            ..
-        } => Ok(review_rule(desk, *change, person, *head)),
-        Act::Staged { batch, .. } | Act::Conflict { batch } if !any_ordered(queue, *batch) => {
+        Act::On { change, deed } => deed_rule(desk, alloc, *change, deed),
+        Act::Other(fact) => fact_rule(desk, queue, alloc, fact),
+    }
+}
+
+// The first rule that fails of a deed on a change.
+fn deed_rule(
+    desk: &Desk,
+    alloc: Global,
+    change: ChangeNo,
+    deed: &Deed,
+) -> Result<Option<Rule>, AllocError>
+    ensures value { IfOk result (λ rule. rule ≡ first_failing (deed_row (look desk.now) change deed.now)) }
+    ensures cause { IfErr result (λ _. MayWantMemory (first_failing (deed_row (look desk.now) change deed.now))) }
+    ensures no_memory { DeedTakesNoMemory desk.now change deed.now → IsOk result }
+{
+    match deed {
+        Deed::Said { person, spoken } => desk.rule(alloc, person, change, spoken),
+        Deed::Happened(fact) => Ok(change_rule(desk, change, fact)),
+    }
+}
+
+// The first rule that fails of a fact about a change.
+fn change_rule(desk: &Desk, change: ChangeNo, fact: &ChangeFact) -> Option<Rule>
+    ensures { result ≡ first_failing (deed_row (look desk.now) change (Happened fact.now)) }
+{
+    match fact {
+        ChangeFact::Opened { .. } => opening_rule(desk, change),
+        ChangeFact::Pushed { .. }
+        | ChangeFact::Closed
+        | ChangeFact::Labeled { .. }
+        | ChangeFact::Unlabeled { .. } => open_rule(desk, change),
+        ChangeFact::Review { person, head, .. } => review_rule(desk, change, person, *head),
+    }
+}
+
+// The first rule that fails of any other fact.
+fn fact_rule(
+    desk: &Desk,
+    queue: &Queue,
+    alloc: Global,
+    fact: &Fact,
+) -> Result<Option<Rule>, AllocError>
+    ensures value { IfOk result (λ rule. rule ≡ denial (record { desk = desk.now; queue = queue.now }) (Other fact.now)) }
+    ensures cause { IfErr result (λ _. RefusalMayWantMemory (Other fact.now) (denial (record { desk = desk.now; queue = queue.now }) (Other fact.now))) }
+    ensures no_memory { FactTakesNoMemory desk.now fact.now → IsOk result }
+{
+    match fact {
+        Fact::Role { .. } => Ok(None),
+        Fact::Settings { text } => settings_rule(alloc, text),
+        Fact::Base { commit } => Ok(base_rule(desk, *commit)),
+        Fact::Staged { batch, .. } | Fact::Conflict { batch } if !any_ordered(queue, *batch) => {
             Ok(Some(Rule::NoSuchBatch))
         }
-        Act::Staged { commit, .. } => Ok(base_rule(desk, *commit)),
-        Act::Conflict { .. } => Ok(None),
-        Act::Status { commit, .. } if !is_awaited(desk, queue, *commit) => {
+        Fact::Staged { commit, .. } => Ok(base_rule(desk, *commit)),
+        Fact::Conflict { .. } => Ok(None),
+        Fact::Status { commit, .. } if !is_awaited(desk, queue, *commit) => {
             Ok(Some(Rule::NoSuchBatch))
         }
         // Tries don't land.
-        Act::Refused { batch } if !has_landing(&queue.staging, *batch) => {
+        Fact::Refused { batch } if !has_landing(&queue.staging, *batch) => {
             Ok(Some(Rule::NoSuchBatch))
         }
-        Act::Status { .. } | Act::Refused { .. } => Ok(None),
-        Act::Tick { now } if *now < desk.clock() => Ok(Some(Rule::ClockBack)),
-        Act::Tick { .. } => Ok(None),
+        Fact::Status { .. } | Fact::Refused { .. } => Ok(None),
+        Fact::Tick { now } if now.seconds() < desk.clock() => Ok(Some(Rule::ClockBack)),
+        Fact::Tick { .. } => Ok(None),
     }
 }
 
@@ -156,7 +191,7 @@ fn settings_rule(alloc: Global, text: &Text) -> Result<Option<Rule>, AllocError>
 
 // The rule on a new base, if it fails.
 fn base_rule(desk: &Desk, commit: Commit) -> Option<Rule>
-    ensures { result ≡ first_failing (row (look desk.now) (act.Base commit)) }
+    ensures { result ≡ first_failing (fact_row (look desk.now) (facts.Base commit)) }
 {
     match desk.base() {
         Some(base) if base == commit => Some(Rule::SameAsBase),

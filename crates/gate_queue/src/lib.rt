@@ -28,6 +28,6 @@ pub use settings::LosesApproval;
 
 // What a gate takes and gives, and what it is made of and shows, so that who uses it needs no other crate for that.
 pub use gate_state::{
-    Act, Batch, Batches, Branch, Changes, Head, Heads, Lane, Order, Orders, Queue, Reply, Report,
-    Reports, Stage, State, StatusState, Why,
+    Act, Batch, Batches, Branch, ChangeFact, Changes, Deed, Fact, Head, Heads, Lane, Moment, Order,
+    Orders, Queue, Reply, Report, Reports, Stage, State, StatusState, Why,
 };

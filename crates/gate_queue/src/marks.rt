@@ -6,6 +6,7 @@ ghost use Rattle.gate_state.specs.State.{approved_on, priority_on, trying_on};
 ghost use Rattle.gate_queue.specs.Machine.{followed, needs_no_move, tried_by};
 ghost use Rattle.gate_state.specs.Queue as queue_specs;
 ghost use Rattle.gate_state.specs.declared.batch.Branch.TheVariants.{Staging};
+ghost use Rattle.gate_state.specs.Room.{HasRoom, HasRoomFor};
 
 use gate_rules::Desk;
 use gate_state::{AllBut, Branch, Queue};
@@ -58,7 +59,7 @@ pub fn follow(
     change: ChangeNo,
     before: Mark,
 ) -> Result<Queue, AllocError>
-    requires { queue.next ≤ 8_999_999_999_999_996 }
+    requires { HasRoom queue }
     ensures value { IfOk result (λ after. after ≡ tried_by before.trying (trying_on desk.now change) change (followed before.approved (approved_on desk.now change) (not (int_eq before.priority (priority_on desk.now change))) (machine.size_on desk.now) (priority_on desk.now change) change queue)) }
     ensures no_memory { (needs_no_move before.approved (approved_on desk.now change) (not (int_eq before.priority (priority_on desk.now change))) && beq before.trying (trying_on desk.now change)) ≡ true → IsOk result }
 {
@@ -76,9 +77,9 @@ fn follow_approval(
     before: Mark,
     now: Mark,
 ) -> Result<Queue, AllocError>
-    requires { queue.next ≤ 8_999_999_999_999_996 }
+    requires { HasRoom queue }
     ensures value { IfOk result (λ after. after ≡ followed before.approved now.approved (not (int_eq before.priority now.priority)) (machine.size_on desk.now) now.priority change queue) }
-    ensures room { IfOk result (λ after. after.next < 9_000_000_000_000_000) }
+    ensures room { IfOk result (λ after. HasRoomFor 1 after) }
     ensures no_memory { needs_no_move before.approved now.approved (not (int_eq before.priority now.priority)) ≡ true → IsOk result }
 {
     if !before.approved {
@@ -104,9 +105,9 @@ fn enqueue_anew(
     change: ChangeNo,
     priority: i32,
 ) -> Result<Queue, AllocError>
-    requires { queue.next ≤ 8_999_999_999_999_996 }
+    requires { HasRoom queue }
     ensures value { IfOk result (λ after. after ≡ queue_specs.enqueued (machine.size_on desk.now) priority change (queue_specs.taken_out Staging (machine.all_but change) queue)) }
-    ensures room { IfOk result (λ after. after.next < 9_000_000_000_000_000) }
+    ensures room { IfOk result (λ after. HasRoomFor 1 after) }
 {
     let queue = queue.take_out(Branch::Staging, &AllBut { change })?;
     enqueue(queue, alloc, desk, change, priority)
@@ -120,9 +121,9 @@ fn enqueue(
     change: ChangeNo,
     priority: i32,
 ) -> Result<Queue, AllocError>
-    requires { queue.next ≤ 8_999_999_999_999_998 }
+    requires { HasRoomFor 2 queue }
     ensures value { IfOk result (λ after. after ≡ queue_specs.enqueued (machine.size_on desk.now) priority change queue) }
-    ensures room { IfOk result (λ after. after.next < 9_000_000_000_000_000) }
+    ensures room { IfOk result (λ after. HasRoomFor 1 after) }
 {
     queue.enqueue(alloc, change, priority, size_on(desk))
 }
@@ -135,7 +136,7 @@ fn follow_try(
     was_trying: bool,
     is_trying: bool,
 ) -> Result<Queue, AllocError>
-    requires { queue.next < 9_000_000_000_000_000 }
+    requires { HasRoomFor 1 queue }
     ensures value { IfOk result (λ after. after ≡ tried_by was_trying is_trying change queue) }
     ensures no_memory { beq was_trying is_trying ≡ true → IsOk result }
 {

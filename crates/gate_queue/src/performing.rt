@@ -1,55 +1,64 @@
 ghost use Rattle.std.specs.Prelude.{◌≡◌, Some, OnOk, IfOk, IsNone, IsOk};
 ghost use Rattle.gate_rules.specs.View.{look};
-ghost use Rattle.gate_state.specs.Acts.{subject};
+ghost use Rattle.gate_state.specs.declared.act.Act.TheVariants.{On};
+ghost use Rattle.gate_state.specs.declared.act.Deed.TheVariants.{Happened};
 ghost use Rattle.gate_queue.specs.Machine as machine;
-ghost use Rattle.gate_queue.specs.Machine.{CommandTakesNoMemory, DeskTakesNoMemory, broken, effect, command_effect};
+ghost use Rattle.gate_queue.specs.Machine.{CommandTakesNoMemory, DeedTakesNoMemory, broken, effect, command_effect};
 
 use crate::changing;
 use crate::changing::no_orders;
 use gate_rules::{Desk, Repeat};
-use gate_state::{Act, Orders};
+use gate_state::{ChangeFact, Deed, Orders};
 use gate_text::{ChangeNo, Command, Name, Names, Spoken};
 use std::alloc::{AllocError, Global};
 
-/// Does to the desk what an act about this change does that no rule denies, and gives its orders.
+/// Does to the desk what a deed on this change does that no rule denies, and gives its orders.
 pub fn perform(
     desk: &mut Desk,
     alloc: Global,
     number: ChangeNo,
-    act: &Act,
+    deed: &Deed,
 ) -> Result<Orders, AllocError>
-    requires about { subject act.now ≡ Some number }
-    requires holds { IsNone (broken (look desk.old) act.now) }
-    ensures desk { OnOk result (desk.new ≡ effect desk.old act.now) }
-    ensures orders { IfOk result (λ orders. orders ≡ machine.notices desk.old act.now) }
-    ensures no_memory { DeskTakesNoMemory desk.old act.now → IsOk result }
+    requires { IsNone (broken (look desk.old) (On number deed.now)) }
+    ensures desk { OnOk result (desk.new ≡ effect desk.old number deed.now) }
+    ensures orders { IfOk result (λ orders. orders ≡ machine.notices desk.old number deed.now) }
+    ensures no_memory { DeedTakesNoMemory desk.old number deed.now → IsOk result }
 {
-    match act {
-        Act::Spoken {
+    match deed {
+        Deed::Said {
             person,
             spoken: Spoken::Known(command),
-            ..
         } => perform_command(desk, alloc, person, number, command)?,
-        Act::Opened { author, head, .. } => changing::open(desk, alloc, number, author, *head)?,
-        Act::Pushed { head, .. } => return changing::push(desk, alloc, number, *head),
-        Act::Closed { .. } => return changing::close(desk, alloc, number),
-        Act::Labeled { label, .. } => return changing::add_label(desk, alloc, number, label),
-        Act::Unlabeled { label, .. } => changing::remove_label(desk, number, label),
-        Act::Review {
+        // An unknown line does nothing.
+        Deed::Said { .. } => {}
+        Deed::Happened(fact) => return take_fact(desk, alloc, number, fact),
+    }
+    Ok(no_orders(alloc))
+}
+
+// Does what a fact about a change does that no rule denies.
+fn take_fact(
+    desk: &mut Desk,
+    alloc: Global,
+    number: ChangeNo,
+    fact: &ChangeFact,
+) -> Result<Orders, AllocError>
+    requires { IsNone (broken (look desk.old) (On number (Happened fact.now))) }
+    ensures desk { OnOk result (desk.new ≡ effect desk.old number (Happened fact.now)) }
+    ensures orders { IfOk result (λ orders. orders ≡ machine.notices desk.old number (Happened fact.now)) }
+    ensures no_memory { DeedTakesNoMemory desk.old number (Happened fact.now) → IsOk result }
+{
+    match fact {
+        ChangeFact::Opened { author, head } => changing::open(desk, alloc, number, author, *head)?,
+        ChangeFact::Pushed { head } => return changing::push(desk, alloc, number, *head),
+        ChangeFact::Closed => return changing::close(desk, alloc, number),
+        ChangeFact::Labeled { label } => return changing::add_label(desk, alloc, number, label),
+        ChangeFact::Unlabeled { label } => changing::remove_label(desk, number, label),
+        ChangeFact::Review {
             person,
             approves,
             ..
         } => return changing::review(desk, alloc, number, person, *approves),
-        // An unknown line does nothing, and the others are about no change.
-        Act::Spoken { .. }
-        | Act::Role { .. }
-        | Act::Settings { .. }
-        | Act::Base { .. }
-        | Act::Staged { .. }
-        | Act::Conflict { .. }
-        | Act::Status { .. }
-        | Act::Refused { .. }
-        | Act::Tick { .. } => {}
     }
     Ok(no_orders(alloc))
 }

@@ -3,11 +3,12 @@ ghost use Rattle.std.specs.Option.{unwrap_or};
 ghost use Rattle.gate_rules.specs.View.{look};
 ghost use Rattle.gate_text.specs.declared.command.Command.TheVariants as command;
 ghost use Rattle.gate_text.specs.declared.command.Spoken.TheVariants.{Known};
-ghost use Rattle.gate_state.specs.declared.act.Act.TheVariants as acts;
+ghost use Rattle.gate_state.specs.declared.act.Act.TheVariants.{On};
+ghost use Rattle.gate_state.specs.declared.act.Deed.TheVariants.{Said};
 ghost use Rattle.gate_queue.specs.Machine as machine;
 
 use gate_rules::{Desk, Repeat};
-use gate_state::Act;
+use gate_state::{Act, Deed};
 use gate_text::{ChangeNo, Command, Name, Spoken};
 use std::alloc::{AllocError, Global};
 
@@ -18,10 +19,12 @@ pub fn repeated_act(desk: &Desk, alloc: Global, act: &Act) -> Result<Option<Act>
     ensures no_memory { machine.DeskTakesNoMemory desk.now act.now → result ≡ Ok None }
 {
     match act {
-        Act::Spoken {
+        Act::On {
             change,
-            person,
-            spoken: Spoken::Known(Command::Retry),
+            deed: Deed::Said {
+                person,
+                spoken: Spoken::Known(Command::Retry),
+            },
         } => repeated_line(desk, alloc, *change, person),
         _ => Ok(None),
     }
@@ -33,16 +36,16 @@ fn repeated_line(
     change: ChangeNo,
     person: &Name,
 ) -> Result<Option<Act>, AllocError>
-    ensures value { IfOk result (λ repeated. unwrap_or repeated (acts.Spoken change person.now (Known command.Retry)) ≡ machine.meaning (look desk.now) (acts.Spoken change person.now (Known command.Retry))) }
+    ensures value { IfOk result (λ repeated. unwrap_or repeated (On change (Said person.now (Known command.Retry))) ≡ machine.meaning (look desk.now) (On change (Said person.now (Known command.Retry)))) }
 {
     let Some(repeat) = desk.last_command(change) else {
         return Ok(None);
     };
-    Ok(Some(Act::Spoken {
-        change,
+    let deed = Deed::Said {
         person: person.copy(alloc)?,
         spoken: Spoken::Known(command_of(alloc, repeat)?),
-    }))
+    };
+    Ok(Some(Act::On { change, deed }))
 }
 
 // The command that is repeated.

@@ -5,6 +5,7 @@ ghost use Rattle.gate_state.specs.Lanes.{has_succeeded};
 ghost use Rattle.gate_state.specs.Queue as queue_specs;
 ghost use Rattle.gate_state.specs.declared.batch.Branch.TheVariants.{Staging};
 ghost use Rattle.gate_queue.specs.Machine as machine;
+ghost use Rattle.gate_state.specs.Room.{HasRoom, HasRoomToEnd};
 
 use crate::changing;
 use crate::changing::{no_orders, one_notice, one_order, tell_heads};
@@ -12,7 +13,7 @@ use crate::judging::has_staged;
 use crate::outcome::{Outcome, quiet, with_first};
 use gate_rules::Desk;
 use gate_state::{
-    Approved, Batch, Branch, Order, Orders, Report, Reports, Stage, State, StatusState, Why,
+    Approved, Batch, Branch, Order, Orders, Queue, Report, Reports, Stage, State, StatusState, Why,
 };
 use gate_text::{ChangeNo, Commit, Context};
 use std::alloc::{AllocError, Global};
@@ -27,45 +28,63 @@ fn lone(running: &Option<Batch>) -> Option<ChangeNo>
     }
 }
 
-/// Ends the running batch on `Staging`: one of several changes is split; another is dropped, which ends the approval of its
-/// change, and this is why. `AllocError` if there is no memory for it.
-pub fn give_up(state: State, alloc: Global, why: Why) -> Result<Outcome, AllocError>
-    requires { state.queue.next ≤ 8_999_999_999_999_996 }
-    ensures value { IfOk result (λ outcome. outcome ≡ machine.failing why state) }
+// Ends the running batch of a branch. On `Staging` one of several changes is split, and another is dropped; a try is dropped. The
+// change of a batch that has no other is no longer approved then, or tried, and this is why.
+fn end(branch: Branch, state: State, alloc: Global, why: Why) -> Result<Outcome, AllocError>
+    requires { HasRoomToEnd branch state.queue }
+    ensures { IfOk result (λ outcome. outcome ≡ machine.ending branch why state) }
 {
     let State { mut desk, queue } = state;
-    let orders = match lone(&queue.staging.running) {
+    let orders = match lone(&queue.lane(branch).running) {
         Some(change) => {
-            changing::withdraw(&mut desk, change);
+            spend(&mut desk, branch, change);
             one_notice(alloc, change, why)?
         }
         None => no_orders(alloc),
     };
-    let queue = queue.fail(alloc, Branch::Staging)?;
+    let queue = without_running(queue, alloc, branch)?;
     Ok(Outcome {
         state: State { desk, queue },
         orders,
     })
 }
 
-/// Ends the running try, well or not: its batch is dropped, its change is no longer tried, and this is why. `AllocError` if there
-/// is no memory for it.
-pub fn end_try(state: State, alloc: Global, why: Why) -> Result<Outcome, AllocError>
-    ensures { IfOk result (λ outcome. outcome ≡ machine.try_ended why state) }
+// Ends what a change was in its batch for.
+fn spend(desk: &mut Desk, branch: Branch, change: ChangeNo)
+    ensures { desk.new ≡ machine.altered desk.old change (machine.spent branch) }
 {
-    let State { mut desk, queue } = state;
-    let orders = match lone(&queue.trying.running) {
-        Some(change) => {
-            changing::stop_trying(&mut desk, change);
-            one_notice(alloc, change, why)?
-        }
-        None => no_orders(alloc),
-    };
-    let queue = queue.drop_running(Branch::Trying);
-    Ok(Outcome {
-        state: State { desk, queue },
-        orders,
-    })
+    match branch {
+        Branch::Staging => changing::withdraw(desk, change),
+        Branch::Trying => changing::stop_trying(desk, change),
+    }
+}
+
+fn without_running(queue: Queue, alloc: Global, branch: Branch) -> Result<Queue, AllocError>
+    requires { HasRoomToEnd branch queue }
+    ensures { IfOk result (λ after. after ≡ machine.without_running branch queue) }
+{
+    match branch {
+        Branch::Staging => queue.fail(alloc, Branch::Staging),
+        Branch::Trying => Ok(queue.drop_running(Branch::Trying)),
+    }
+}
+
+/// Ends the running batch of a branch, which has failed by this cause. Of a try the notice says no more than that. `AllocError` if
+/// there is no memory for it.
+pub fn fail(branch: Branch, state: State, alloc: Global, cause: Why) -> Result<Outcome, AllocError>
+    requires { HasRoomToEnd branch state.queue }
+    ensures { IfOk result (λ outcome. outcome ≡ machine.failing branch cause state) }
+{
+    end(branch, state, alloc, told_as(branch, cause))
+}
+
+fn told_as(branch: Branch, cause: Why) -> Why
+    ensures { result ≡ machine.told_as branch cause }
+{
+    match branch {
+        Branch::Staging => cause,
+        Branch::Trying => Why::TryFailed,
+    }
 }
 
 /// Takes what a status of a commit says. The open changes whose head that is are told of it first. Then it goes to the running
@@ -79,7 +98,7 @@ pub fn take_status(
     name: &Context,
     said: StatusState,
 ) -> Result<Outcome, AllocError>
-    requires { state.queue.next ≤ 8_999_999_999_999_996 }
+    requires { HasRoom state.queue }
     ensures value { IfOk result (λ outcome. outcome ≡ machine.told commit name.now said (machine.heads_told commit name.now said state)) }
     ensures no_memory { is_required state.desk.settings name.now ≡ false → is_open_head commit state.desk ≡ false → IsOk result }
 {
@@ -105,7 +124,7 @@ fn tell_batches(
     name: &Context,
     said: StatusState,
 ) -> Result<Outcome, AllocError>
-    requires { state.queue.next ≤ 8_999_999_999_999_996 }
+    requires { HasRoom state.queue }
     ensures value { IfOk result (λ outcome. outcome ≡ machine.told commit name.now said state) }
     ensures no_memory { is_required state.desk.settings name.now ≡ false → IsOk result }
 {
@@ -124,83 +143,51 @@ fn tell_both(
     name: &Context,
     said: StatusState,
 ) -> Result<Outcome, AllocError>
-    requires { state.queue.next ≤ 8_999_999_999_999_996 }
-    ensures { IfOk result (λ outcome. outcome ≡ machine.then_next (machine.told_staging commit name.now said state) (machine.told_trying commit name.now said)) }
+    requires { HasRoom state.queue }
+    ensures { IfOk result (λ outcome. outcome ≡ machine.on_both (machine.told_on commit name.now said) state) }
 {
-    let told = tell_staging(state, alloc, commit, name, said)?;
-    let next = tell_trying(told.state, alloc, commit, name, said)?;
-    with_first(told.orders, next)
+    let first = tell_on(Branch::Staging, state, alloc, commit, name, said)?;
+    let next = tell_on(Branch::Trying, first.state, alloc, commit, name, said)?;
+    with_first(first.orders, next)
 }
 
-// Takes what a status says for the running batch on `Staging`, if that was staged with its commit.
-fn tell_staging(
+// Takes what a status says for the running batch of a branch, if that was staged with its commit.
+fn tell_on(
+    branch: Branch,
     state: State,
     alloc: Global,
     commit: Commit,
     name: &Context,
     said: StatusState,
 ) -> Result<Outcome, AllocError>
-    requires { state.queue.next ≤ 8_999_999_999_999_996 }
-    ensures { IfOk result (λ outcome. outcome ≡ machine.told_staging commit name.now said state) }
+    requires { HasRoomToEnd branch state.queue }
+    ensures { IfOk result (λ outcome. outcome ≡ machine.told_on commit name.now said branch state) }
 {
-    if !has_staged(&state.queue.staging, commit) {
+    if !has_staged(state.queue.lane(branch), commit) {
         return Ok(quiet(state, alloc));
     }
     match said {
-        StatusState::Success => keep_report(state, alloc, name, Report::Success),
-        StatusState::Pending => keep_report(state, alloc, name, Report::Pending),
+        StatusState::Success => keep_report(branch, state, alloc, name, Report::Success),
+        StatusState::Pending => keep_report(branch, state, alloc, name, Report::Pending),
         StatusState::Failure | StatusState::Error => {
-            give_up(state, alloc, Why::Failed(name.copy(alloc)?))
+            fail(branch, state, alloc, Why::Failed(name.copy(alloc)?))
         }
     }
 }
 
-// Takes what a status says for the running try, if that was staged with its commit.
-fn tell_trying(
-    state: State,
-    alloc: Global,
-    commit: Commit,
-    name: &Context,
-    said: StatusState,
-) -> Result<Outcome, AllocError>
-    ensures { IfOk result (λ outcome. outcome ≡ machine.told_trying commit name.now said state) }
-{
-    if !has_staged(&state.queue.trying, commit) {
-        return Ok(quiet(state, alloc));
-    }
-    match said {
-        StatusState::Success => keep_try_report(state, alloc, name, Report::Success),
-        StatusState::Pending => keep_try_report(state, alloc, name, Report::Pending),
-        StatusState::Failure | StatusState::Error => end_try(state, alloc, Why::TryFailed),
-    }
-}
-
-// Keeps a report of the running batch on `Staging`, and has it land if all required statuses have succeeded.
+// Keeps a report of the running batch of a branch, which lands or ends if all required statuses have succeeded then.
 fn keep_report(
+    branch: Branch,
     state: State,
     alloc: Global,
     name: &Context,
     report: Report,
 ) -> Result<Outcome, AllocError>
-    ensures { IfOk result (λ outcome. outcome ≡ machine.goes_on name.now report state) }
+    ensures { IfOk result (λ outcome. outcome ≡ machine.goes_on branch name.now report state) }
 {
     let State { desk, queue } = state;
-    let queue = queue.report(Branch::Staging, name.copy(alloc)?, report)?;
-    land_if_passed(State { desk, queue }, alloc)
-}
-
-// Keeps a report of the running try, and ends it if all required statuses have succeeded.
-fn keep_try_report(
-    state: State,
-    alloc: Global,
-    name: &Context,
-    report: Report,
-) -> Result<Outcome, AllocError>
-    ensures { IfOk result (λ outcome. outcome ≡ machine.try_goes_on name.now report state) }
-{
-    let State { desk, queue } = state;
-    let queue = queue.report(Branch::Trying, name.copy(alloc)?, report)?;
-    end_if_passed(State { desk, queue }, alloc)
+    let queue = queue.report(branch, name.copy(alloc)?, report)?;
+    pass_if_so(branch, State { desk, queue }, alloc)
 }
 
 // Whether all required statuses have succeeded.
@@ -228,28 +215,21 @@ fn have_succeeded(reports: &Reports, names: &[Context]) -> bool
     true
 }
 
-fn land_if_passed(state: State, alloc: Global) -> Result<Outcome, AllocError>
-    ensures { IfOk result (λ outcome. outcome ≡ machine.if_passed state state.queue.staging.running) }
+// Has the running batch of a branch land, or ends it as a try that has passed, if all required statuses have succeeded.
+fn pass_if_so(branch: Branch, state: State, alloc: Global) -> Result<Outcome, AllocError>
+    ensures { IfOk result (λ outcome. outcome ≡ machine.if_passed branch state (queue_specs.lane_of branch state.queue).running) }
 {
-    match &state.queue.staging.running {
-        Some(batch) if has_passed(&state.desk, &batch.stage) => {
-            let orders = land_orders(&state.desk, alloc, batch)?;
-            Ok(Outcome {
-                state: to_land(state),
-                orders,
-            })
-        }
-        _ => Ok(quiet(state, alloc)),
-    }
-}
-
-fn end_if_passed(state: State, alloc: Global) -> Result<Outcome, AllocError>
-    ensures { IfOk result (λ outcome. outcome ≡ machine.try_if_passed state state.queue.trying.running) }
-{
-    match &state.queue.trying.running {
-        Some(batch) if has_passed(&state.desk, &batch.stage) => {
-            end_try(state, alloc, Why::TryPassed)
-        }
+    match &state.queue.lane(branch).running {
+        Some(batch) if has_passed(&state.desk, &batch.stage) => match branch {
+            Branch::Staging => {
+                let orders = land_orders(&state.desk, alloc, batch)?;
+                Ok(Outcome {
+                    state: to_land(state),
+                    orders,
+                })
+            }
+            Branch::Trying => end(Branch::Trying, state, alloc, Why::TryPassed),
+        },
         _ => Ok(quiet(state, alloc)),
     }
 }
@@ -288,7 +268,7 @@ fn to_land(state: State) -> State
 /// longer are: they have landed if this is the new base and the commit that was to land. `AllocError` if there is no memory for
 /// it; if no batch runs, it takes none.
 pub fn send_back(state: State, alloc: Global, base: Option<Commit>) -> Result<State, AllocError>
-    requires { state.queue.next ≤ 8_999_999_999_999_996 }
+    requires { HasRoom state.queue }
     ensures value { IfOk result (λ after. after ≡ machine.sent_back base state) }
     ensures no_memory { is_none state.queue.staging.running ≡ true → IsOk result }
 {

@@ -6,6 +6,7 @@ ghost use Rattle.gate_queue.specs.Machine as machine;
 ghost use Rattle.gate_queue.specs.Machine.{settings_notices};
 ghost use Rattle.gate_state.specs.Queue.{restarted};
 ghost use Rattle.gate_state.specs.declared.batch.Branch.TheVariants.{Staging, Trying};
+ghost use Rattle.gate_state.specs.Room.{HasRoom, HasRoomFor};
 
 use crate::outcome::{Outcome, quiet};
 use gate_rules::{Change, Condition, Desk, has_too_few_reviews, is_blocked};
@@ -31,7 +32,7 @@ impl Condition for LosesApproval<'_> {
 
 /// Takes the settings of a text, unless they are the present ones. `AllocError` if there is no memory for it.
 pub fn accept_settings(state: State, alloc: Global, text: &Text) -> Result<Outcome, AllocError>
-    requires { state.queue.next ≤ 8_999_999_999_999_996 }
+    requires { HasRoom state.queue }
     ensures value { IfOk result (λ outcome. outcome ≡ machine.accepted state (settings_of text.now)) }
 {
     match read_settings(alloc, text.as_str()) {
@@ -55,7 +56,7 @@ pub fn are_present(desk: &Desk, settings: &Settings) -> bool
 // Takes settings in place of the present ones. They end the approvals that they are against, and what was tested under the
 // present ones is tested anew.
 fn take_settings(state: State, alloc: Global, settings: Settings) -> Result<Outcome, AllocError>
-    requires { state.queue.next ≤ 8_999_999_999_999_996 }
+    requires { HasRoom state.queue }
     ensures { IfOk result (λ outcome. outcome ≡ machine.under settings state) }
 {
     let State { mut desk, queue } = state;
@@ -89,7 +90,7 @@ fn settle(desk: &mut Desk, settings: Settings)
 
 // Takes out what isn't approved any longer, and lets the running batches wait again.
 fn resettle(queue: Queue, desk: &Desk) -> Result<Queue, AllocError>
-    requires { queue.next ≤ 8_999_999_999_999_996 }
+    requires { HasRoom queue }
     ensures { IfOk result (λ after. after ≡ machine.resettled desk.now queue) }
 {
     restart_both(queue.take_out(Branch::Staging, &Approved { desk })?)
@@ -97,7 +98,7 @@ fn resettle(queue: Queue, desk: &Desk) -> Result<Queue, AllocError>
 
 // Lets the running batches of both branches wait again.
 fn restart_both(queue: Queue) -> Result<Queue, AllocError>
-    requires { queue.next ≤ 8_999_999_999_999_998 }
+    requires { HasRoomFor 2 queue }
     ensures { IfOk result (λ after. after ≡ restarted Trying (restarted Staging queue)) }
 {
     queue.restart(Branch::Staging)?.restart(Branch::Trying)

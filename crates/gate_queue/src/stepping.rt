@@ -1,27 +1,29 @@
 ghost use Rattle.std.specs.Prelude.{◌≡◌, ◌≤◌, ◌<◌, true, false, is_none, Some, IfOk, IfErr, IsNone, IsOk};
 ghost use Rattle.gate_rules.specs.View.{look};
 ghost use Rattle.gate_rules.specs.declared.rule.Rule.{Rule};
-ghost use Rattle.gate_state.specs.Acts.{subject};
+ghost use Rattle.gate_state.specs.declared.act.Act.TheVariants.{On, Other};
 ghost use Rattle.gate_queue.specs.Machine as machine;
-ghost use Rattle.gate_queue.specs.Machine.{DeskTakesNoMemory, QueueTakesNoMemory, RefusalMayWantMemory, Step, broken, denial, effect, is_unmoved_on};
+ghost use Rattle.gate_queue.specs.Machine.{DeedTakesNoMemory, DeskTakesNoMemory, QueueTakesNoMemory, RefusalMayWantMemory, Step, broken, denial, effect, is_unmoved_on};
 ghost use Rattle.gate_state.specs.Queue.{staged};
+ghost use Rattle.gate_state.specs.declared.reply.Why.TheVariants as why;
+ghost use Rattle.gate_state.specs.Room.{HasRoom, HasRoomFor};
 
 use crate::judging::{has_ordered, rule_of};
 use crate::marks::{follow, mark_on};
 use crate::outcome::{Outcome, quiet};
 use crate::performing::perform;
 use crate::repeating::repeated_act;
-use crate::running::{end_try, give_up, send_back, take_status};
+use crate::running::{fail, send_back, take_status};
 use crate::settings::accept_settings;
 use crate::ticking::tick;
 use gate_rules::Desk;
-use gate_state::{Act, Branch, Lane, Queue, Reply, Stage, State, Tried, Why};
+use gate_state::{Act, Branch, Deed, Fact, Lane, Queue, Reply, Stage, State, Tried, Why};
 use gate_text::{ChangeNo, Commit};
 use std::alloc::{AllocError, Global};
 
 /// Lets an act step: the state after it, and its reply. `AllocError` if there is no memory for it.
 pub fn step(state: State, alloc: Global, act: &Act) -> Result<(State, Reply), AllocError>
-    requires { state.queue.next ≤ 8_999_999_999_999_996 }
+    requires { HasRoom state.queue }
     ensures step { IfOk result (λ done. Step state act.now done.1 done.0) }
     ensures refused { IfErr result (λ _. (rule : Rule) → denial state act.now ≡ Some rule → RefusalMayWantMemory act.now (Some rule)) }
     ensures no_memory { DeskTakesNoMemory state.desk act.now → QueueTakesNoMemory state act.now → IsOk result }
@@ -35,7 +37,7 @@ pub fn step(state: State, alloc: Global, act: &Act) -> Result<(State, Reply), Al
 
 // What an act that no rule denies comes to. A `retry` comes to what the repeated command does.
 fn act_as_meant(state: State, alloc: Global, act: &Act) -> Result<Outcome, AllocError>
-    requires room { state.queue.next ≤ 8_999_999_999_999_996 }
+    requires room { HasRoom state.queue }
     requires holds { IsNone (denial state act.now) }
     ensures value { IfOk result (λ outcome. outcome ≡ machine.acted state act.now) }
     ensures no_memory { DeskTakesNoMemory state.desk act.now → QueueTakesNoMemory state act.now → IsOk result }
@@ -48,54 +50,32 @@ fn act_as_meant(state: State, alloc: Global, act: &Act) -> Result<Outcome, Alloc
 
 // What an act comes to that no rule denies and that means itself.
 fn act_on(state: State, alloc: Global, act: &Act) -> Result<Outcome, AllocError>
-    requires room { state.queue.next ≤ 8_999_999_999_999_996 }
+    requires room { HasRoom state.queue }
     requires holds { IsNone (denial state act.now) }
     ensures value { IfOk result (λ outcome. outcome ≡ machine.done state act.now) }
     ensures no_memory { DeskTakesNoMemory state.desk act.now → QueueTakesNoMemory state act.now → IsOk result }
 {
     match act {
-        Act::Spoken { change, .. }
-        | Act::Opened { change, .. }
-        | Act::Pushed { change, .. }
-        | Act::Closed { change }
-        | Act::Labeled { change, .. }
-        | Act::Unlabeled { change, .. }
-        | Act::Review { change, .. } => act_on_change(state, alloc, *change, act),
-        Act::Role { person, role } => {
-            let State { mut desk, queue } = state;
-            desk.set_role(alloc, person, *role)?;
-            Ok(quiet(State { desk, queue }, alloc))
-        }
-        Act::Settings { text } => accept_settings(state, alloc, text),
-        Act::Base { commit } => Ok(quiet(move_base(state, alloc, *commit)?, alloc)),
-        Act::Staged { batch, commit } => Ok(quiet(stage(state, alloc, *batch, *commit), alloc)),
-        Act::Conflict { batch } => give_up_ordered(state, alloc, *batch),
-        Act::Status {
-            commit,
-            name,
-            state: said,
-        } => take_status(state, alloc, *commit, name, *said),
-        Act::Refused { .. } => Ok(quiet(send_back(state, alloc, None)?, alloc)),
-        Act::Tick { now } => tick(state, alloc, *now),
+        Act::On { change, deed } => act_on_change(state, alloc, *change, deed),
+        Act::Other(fact) => take_fact(state, alloc, fact),
     }
 }
 
-// An act about one change, and then the queue follows.
+// A deed on a change, and then the queue follows.
 fn act_on_change(
     state: State,
     alloc: Global,
     change: ChangeNo,
-    act: &Act,
+    deed: &Deed,
 ) -> Result<Outcome, AllocError>
-    requires room { state.queue.next ≤ 8_999_999_999_999_996 }
-    requires about { subject act.now ≡ Some change }
-    requires holds { IsNone (broken (look state.desk) act.now) }
-    ensures value { IfOk result (λ outcome. outcome ≡ machine.about state change act.now) }
-    ensures no_memory { DeskTakesNoMemory state.desk act.now → is_unmoved_on state.desk (effect state.desk act.now) change ≡ true → IsOk result }
+    requires room { HasRoom state.queue }
+    requires holds { IsNone (broken (look state.desk) (On change deed.now)) }
+    ensures value { IfOk result (λ outcome. outcome ≡ machine.about state change deed.now) }
+    ensures no_memory { DeedTakesNoMemory state.desk change deed.now → is_unmoved_on state.desk (effect state.desk change deed.now) change ≡ true → IsOk result }
 {
     let State { mut desk, queue } = state;
     let before = mark_on(&desk, change);
-    let orders = perform(&mut desk, alloc, change, act)?;
+    let orders = perform(&mut desk, alloc, change, deed)?;
     let queue = follow(queue, alloc, &desk, change, before)?;
     Ok(Outcome {
         state: State { desk, queue },
@@ -103,9 +83,36 @@ fn act_on_change(
     })
 }
 
+// What a fact comes to that is about no change, and that no rule denies.
+fn take_fact(state: State, alloc: Global, fact: &Fact) -> Result<Outcome, AllocError>
+    requires room { HasRoom state.queue }
+    requires holds { IsNone (denial state (Other fact.now)) }
+    ensures value { IfOk result (λ outcome. outcome ≡ machine.happens state fact.now) }
+    ensures no_memory { DeskTakesNoMemory state.desk (Other fact.now) → QueueTakesNoMemory state (Other fact.now) → IsOk result }
+{
+    match fact {
+        Fact::Role { person, role } => {
+            let State { mut desk, queue } = state;
+            desk.set_role(alloc, person, *role)?;
+            Ok(quiet(State { desk, queue }, alloc))
+        }
+        Fact::Settings { text } => accept_settings(state, alloc, text),
+        Fact::Base { commit } => Ok(quiet(move_base(state, alloc, *commit)?, alloc)),
+        Fact::Staged { batch, commit } => Ok(quiet(stage(state, alloc, *batch, *commit), alloc)),
+        Fact::Conflict { batch } => fail_ordered(state, alloc, *batch),
+        Fact::Status {
+            commit,
+            name,
+            state: said,
+        } => take_status(state, alloc, *commit, name, *said),
+        Fact::Refused { .. } => Ok(quiet(send_back(state, alloc, None)?, alloc)),
+        Fact::Tick { now } => tick(state, alloc, now.seconds()),
+    }
+}
+
 // Sets the base, on which what runs has to be tested anew, or has landed. What has landed isn't tried any longer.
 fn move_base(state: State, alloc: Global, base: Commit) -> Result<State, AllocError>
-    requires { state.queue.next ≤ 8_999_999_999_999_996 }
+    requires { HasRoom state.queue }
     ensures value { IfOk result (λ after. after ≡ machine.rebased base state) }
     ensures no_memory { is_none state.queue.staging.running ≡ true → IsOk result }
 {
@@ -137,7 +144,7 @@ fn is_landing_with(stage: &Stage, commit: Commit) -> bool
 
 // Takes out what isn't tried any longer, if a batch has landed.
 fn leave_tries(queue: Queue, desk: &Desk, has_landed: bool) -> Result<Queue, AllocError>
-    requires { queue.next < 9_000_000_000_000_000 }
+    requires { HasRoomFor 1 queue }
     ensures value { IfOk result (λ after. after ≡ machine.tries_left has_landed desk.now queue) }
     ensures no_memory { has_landed ≡ false → IsOk result }
 {
@@ -170,12 +177,10 @@ fn stage(state: State, alloc: Global, number: u64, commit: Commit) -> State
 }
 
 // The host can't merge the changes of the batch that it was ordered to stage.
-fn give_up_ordered(state: State, alloc: Global, number: u64) -> Result<Outcome, AllocError>
-    requires { state.queue.next ≤ 8_999_999_999_999_996 }
-    ensures { IfOk result (λ outcome. outcome ≡ machine.given_up (machine.ordered_on number state.queue) state) }
+fn fail_ordered(state: State, alloc: Global, number: u64) -> Result<Outcome, AllocError>
+    requires { HasRoom state.queue }
+    ensures { IfOk result (λ outcome. outcome ≡ machine.failing (machine.ordered_on number state.queue) why.Conflict state) }
 {
-    match ordered_on(&state.queue, number) {
-        Branch::Staging => give_up(state, alloc, Why::Conflict),
-        Branch::Trying => end_try(state, alloc, Why::TryFailed),
-    }
+    let branch = ordered_on(&state.queue, number);
+    fail(branch, state, alloc, Why::Conflict)
 }

@@ -4,10 +4,11 @@ ghost use Rattle.gate_rules.specs.View.{with_clock};
 ghost use Rattle.gate_queue.specs.Machine as machine;
 ghost use Rattle.gate_queue.specs.Machine.{IsIdle};
 ghost use Rattle.gate_state.specs.Queue.{lane_of};
+ghost use Rattle.gate_state.specs.Room.{HasRoom, HasRoomToEnd};
 
 use crate::changing::{no_orders, one_order};
 use crate::outcome::{Outcome, quiet, with_first};
-use crate::running::{end_try, give_up};
+use crate::running::fail;
 use gate_rules::Desk;
 use gate_state::{Batch, Branch, Head, Heads, Lane, Order, Orders, Stage, State, Why};
 use gate_text::ChangeNo;
@@ -17,8 +18,8 @@ use std::alloc::{AllocError, Global};
 /// waiting batch, if none runs. `AllocError` if there is no memory for it.
 pub fn tick(state: State, alloc: Global, now: u64) -> Result<Outcome, AllocError>
     requires clock { state.desk.clock ≤ now }
-    requires room { state.queue.next ≤ 8_999_999_999_999_996 }
-    ensures value { IfOk result (λ outcome. outcome ≡ machine.then_next (machine.ended_on_time now (machine.with_desk state (with_clock state.desk now))) (machine.all_starting now)) }
+    requires room { HasRoom state.queue }
+    ensures value { IfOk result (λ outcome. outcome ≡ machine.then_next (machine.on_both (machine.timed_out now) (machine.with_desk state (with_clock state.desk now))) (machine.on_both (machine.starting now))) }
     ensures no_memory { IsIdle now state.desk state.queue.staging → IsIdle now state.desk state.queue.trying → IsOk result }
 {
     let State { mut desk, queue } = state;
@@ -30,35 +31,23 @@ pub fn tick(state: State, alloc: Global, now: u64) -> Result<Outcome, AllocError
 
 // Ends the running batch of each branch, if it has taken too long.
 fn end_on_time(state: State, alloc: Global, now: u64) -> Result<Outcome, AllocError>
-    requires { state.queue.next ≤ 8_999_999_999_999_996 }
-    ensures value { IfOk result (λ outcome. outcome ≡ machine.ended_on_time now state) }
+    requires { HasRoom state.queue }
+    ensures value { IfOk result (λ outcome. outcome ≡ machine.on_both (machine.timed_out now) state) }
     ensures no_memory { machine.has_overdue now state.desk.settings state.queue.staging ≡ false → machine.has_overdue now state.desk.settings state.queue.trying ≡ false → result ≡ Ok (machine.quiet state) }
 {
-    let ended = time_out(state, alloc, now)?;
-    let next = time_out_try(ended.state, alloc, now)?;
-    with_first(ended.orders, next)
+    let first = time_out(Branch::Staging, state, alloc, now)?;
+    let next = time_out(Branch::Trying, first.state, alloc, now)?;
+    with_first(first.orders, next)
 }
 
-// Ends the running batch on `Staging` if it has taken too long.
-fn time_out(state: State, alloc: Global, now: u64) -> Result<Outcome, AllocError>
-    requires { state.queue.next ≤ 8_999_999_999_999_996 }
-    ensures value { IfOk result (λ outcome. outcome ≡ machine.timed_out now state) }
-    ensures no_memory { machine.has_overdue now state.desk.settings state.queue.staging ≡ false → result ≡ Ok (machine.quiet state) }
+// Ends the running batch of a branch, if it has taken too long.
+fn time_out(branch: Branch, state: State, alloc: Global, now: u64) -> Result<Outcome, AllocError>
+    requires { HasRoomToEnd branch state.queue }
+    ensures value { IfOk result (λ outcome. outcome ≡ machine.timed_out now branch state) }
+    ensures no_memory { machine.has_overdue now state.desk.settings (lane_of branch state.queue) ≡ false → result ≡ Ok (machine.quiet state) }
 {
-    if has_overdue(&state.desk, now, &state.queue.staging) {
-        give_up(state, alloc, Why::TimedOut)
-    } else {
-        Ok(quiet(state, alloc))
-    }
-}
-
-// Ends the running try if it has taken too long.
-fn time_out_try(state: State, alloc: Global, now: u64) -> Result<Outcome, AllocError>
-    ensures value { IfOk result (λ outcome. outcome ≡ machine.try_timed_out now state) }
-    ensures no_memory { machine.has_overdue now state.desk.settings state.queue.trying ≡ false → result ≡ Ok (machine.quiet state) }
-{
-    if has_overdue(&state.desk, now, &state.queue.trying) {
-        end_try(state, alloc, Why::TryFailed)
+    if has_overdue(&state.desk, now, state.queue.lane(branch)) {
+        fail(branch, state, alloc, Why::TimedOut)
     } else {
         Ok(quiet(state, alloc))
     }
@@ -89,7 +78,7 @@ fn is_overdue(desk: &Desk, now: u64, stage: &Stage) -> bool
 
 // Orders the first waiting batch of each branch, if none runs there.
 fn start_all(state: State, alloc: Global, now: u64) -> Result<Outcome, AllocError>
-    ensures value { IfOk result (λ outcome. outcome ≡ machine.all_starting now state) }
+    ensures value { IfOk result (λ outcome. outcome ≡ machine.on_both (machine.starting now) state) }
     ensures no_memory { machine.stage_orders state.desk state.queue.staging ≡ [] → machine.stage_orders state.desk state.queue.trying ≡ [] → IsOk result }
 {
     let first = start(Branch::Staging, state, alloc, now)?;
@@ -99,7 +88,7 @@ fn start_all(state: State, alloc: Global, now: u64) -> Result<Outcome, AllocErro
 
 // Orders the first waiting batch of a branch, if none runs there.
 fn start(branch: Branch, state: State, alloc: Global, now: u64) -> Result<Outcome, AllocError>
-    ensures value { IfOk result (λ outcome. outcome ≡ machine.starting branch now state) }
+    ensures value { IfOk result (λ outcome. outcome ≡ machine.starting now branch state) }
     ensures no_memory { machine.stage_orders state.desk (lane_of branch state.queue) ≡ [] → IsOk result }
 {
     let State { desk, queue } = state;

@@ -3,6 +3,7 @@
 --     State      what every state keeps
 --     Lanes      the batches of a branch in order of service, and what is done to them
 --     Queue      the batches of both branches, and the next number
+--     Room       how many numbers are left for new batches
 --     Counts     how often a change or a number is in batches
 --     Service    the order of service over a whole list
 --     Checks     what every state keeps as tests, for a state whose parts come from elsewhere
@@ -13,5 +14,6 @@ pub mod Counts
 pub mod Lanes
 pub mod Lemmas
 pub mod Queue
+pub mod Room
 pub mod Service
 pub mod State

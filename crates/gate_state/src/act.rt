@@ -1,5 +1,10 @@
+ghost use Rattle.std.specs.Prelude.{◌≡◌, IfOk};
+ghost use Rattle.gate_state.specs.Acts.{FactKeepsLimits};
+
+use crate::moment::Moment;
 use gate_rules::Role;
 use gate_text::{ChangeNo, Commit, Context, Label, Name, Spoken, Text};
+use std::alloc::{AllocError, Global};
 
 /// What a status of a commit says, in the words of the code hosts.
 #[derive(Clone, Copy, Debug, PartialEq, Eq)]
@@ -14,18 +19,78 @@ pub enum StatusState {
     Pending,
 }
 
-/// One thing that may change the state: a command of a comment, or a fact that the host hands in.
+/// What has happened to one change, as the host hands it in.
 #[derive(Debug, Drop, PartialEq, Eq)]
-pub enum Act {
-    /// One thing that a person's comment on a change says.
-    Spoken {
-        /// The change that the comment is on.
-        change: ChangeNo,
-        /// Who wrote it.
-        person: Name,
-        /// What is said: a command, or something that is none.
-        spoken: Spoken,
+pub enum ChangeFact {
+    /// The fact `opened`: it is opened, for the first time or again.
+    Opened {
+        /// Who opened it.
+        author: Name,
+        /// The commit that is to be merged.
+        head: Commit,
     },
+    /// The fact `pushed`: it has a head, another one or the same.
+    Pushed {
+        /// Its head from now on.
+        head: Commit,
+    },
+    /// The fact `closed`: it is closed.
+    Closed,
+    /// The fact `labeled`: it is given a label.
+    Labeled {
+        /// The label.
+        label: Label,
+    },
+    /// The fact `unlabeled`: a label is taken from it.
+    Unlabeled {
+        /// The label.
+        label: Label,
+    },
+    /// The fact `review`: a person reviews it.
+    Review {
+        /// Who reviews it.
+        person: Name,
+        /// The head that was reviewed.
+        head: Commit,
+        /// Whether the person approves of it.
+        approves: bool,
+    },
+}
+
+impl ChangeFact {
+    /// A copy, or `AllocError` if there is no memory for it.
+    pub fn copy(&self, alloc: Global) -> Result<ChangeFact, AllocError>
+        ensures value { IfOk result (λ copy. copy ≡ self.now) }
+    {
+        Ok(match self {
+            ChangeFact::Opened { author, head } => ChangeFact::Opened {
+                author: author.copy(alloc)?,
+                head: *head,
+            },
+            ChangeFact::Pushed { head } => ChangeFact::Pushed { head: *head },
+            ChangeFact::Closed => ChangeFact::Closed,
+            ChangeFact::Labeled { label } => ChangeFact::Labeled {
+                label: label.copy(alloc)?,
+            },
+            ChangeFact::Unlabeled { label } => ChangeFact::Unlabeled {
+                label: label.copy(alloc)?,
+            },
+            ChangeFact::Review {
+                person,
+                head,
+                approves,
+            } => ChangeFact::Review {
+                person: person.copy(alloc)?,
+                head: *head,
+                approves: *approves,
+            },
+        })
+    }
+}
+
+/// What has happened apart from any one change, as the host hands it in.
+#[derive(Debug, Drop, PartialEq, Eq)]
+pub enum Fact {
     /// The fact `role`: a person's role is set.
     Role {
         /// Whose role.
@@ -42,52 +107,6 @@ pub enum Act {
     Base {
         /// The commit.
         commit: Commit,
-    },
-    /// The fact `opened`: a change is opened, for the first time or again.
-    Opened {
-        /// The change.
-        change: ChangeNo,
-        /// Who opened it.
-        author: Name,
-        /// The commit that is to be merged.
-        head: Commit,
-    },
-    /// The fact `pushed`: a change has a head, another one or the same.
-    Pushed {
-        /// The change.
-        change: ChangeNo,
-        /// Its head from now on.
-        head: Commit,
-    },
-    /// The fact `closed`: a change is closed.
-    Closed {
-        /// The change.
-        change: ChangeNo,
-    },
-    /// The fact `labeled`: a change is given a label.
-    Labeled {
-        /// The change.
-        change: ChangeNo,
-        /// The label.
-        label: Label,
-    },
-    /// The fact `unlabeled`: a label is taken from a change.
-    Unlabeled {
-        /// The change.
-        change: ChangeNo,
-        /// The label.
-        label: Label,
-    },
-    /// The fact `review`: a person reviews a change.
-    Review {
-        /// The change.
-        change: ChangeNo,
-        /// Who reviews it.
-        person: Name,
-        /// The head that was reviewed.
-        head: Commit,
-        /// Whether the person approves of it.
-        approves: bool,
     },
     /// The fact `staged`: the host has made the staging commit of a batch.
     Staged {
@@ -117,7 +136,73 @@ pub enum Act {
     },
     /// The fact `tick`: the clock is read.
     Tick {
-        /// The reading, in seconds: 0 to 9,000,000,000,000,000.
-        now: u64,
+        /// The reading.
+        now: Moment,
     },
+}
+
+impl Fact {
+    /// A copy, or `AllocError` if there is no memory for it.
+    pub fn copy(&self, alloc: Global) -> Result<Fact, AllocError>
+        ensures value { IfOk result (λ copy. copy ≡ self.now) }
+        ensures limits { FactKeepsLimits self.now }
+    {
+        Ok(match self {
+            Fact::Role { person, role } => Fact::Role {
+                person: person.copy(alloc)?,
+                role: *role,
+            },
+            Fact::Settings { text } => Fact::Settings {
+                text: text.copy(alloc)?,
+            },
+            Fact::Base { commit } => Fact::Base { commit: *commit },
+            Fact::Staged { batch, commit } => Fact::Staged {
+                batch: *batch,
+                commit: *commit,
+            },
+            Fact::Conflict { batch } => Fact::Conflict { batch: *batch },
+            Fact::Status {
+                commit,
+                name,
+                state,
+            } => Fact::Status {
+                commit: *commit,
+                name: name.copy(alloc)?,
+                state: *state,
+            },
+            Fact::Refused { batch } => Fact::Refused { batch: *batch },
+            // Made anew, so that its limit is seen.
+            Fact::Tick { now } => Fact::Tick {
+                now: Moment::at(now.seconds()),
+            },
+        })
+    }
+}
+
+/// What is done to one change.
+#[derive(Debug, Drop, PartialEq, Eq)]
+pub enum Deed {
+    /// One thing that a person's comment on it says.
+    Said {
+        /// Who wrote it.
+        person: Name,
+        /// What is said: a command, or something that is none.
+        spoken: Spoken,
+    },
+    /// A fact about it.
+    Happened(ChangeFact),
+}
+
+/// One thing that may change the state.
+#[derive(Debug, Drop, PartialEq, Eq)]
+pub enum Act {
+    /// Something that is done to one change.
+    On {
+        /// The change.
+        change: ChangeNo,
+        /// What is done to it.
+        deed: Deed,
+    },
+    /// Any other fact.
+    Other(Fact),
 }

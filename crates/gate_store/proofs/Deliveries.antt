@@ -1,5 +1,5 @@
 -- What every list of deliveries tells of which none meets a full gate, by the law of entries and that of comments.
-use Rattle.std.proofs.Common.{◌≡◌, ◌≤◌, ℕ, nat_lt, Bool, true, false, not, ◌||◌, ◌&&◌, cond, List, [], ◌∷◌, ◌++◌, refl, ◌∙◌, ap, subst, arith}
+use Rattle.std.proofs.Common.{◌+◌, ◌≡◌, ◌≤◌, ℕ, nat_lt, Bool, true, false, not, ◌||◌, ◌&&◌, cond, List, [], ◌∷◌, ◌++◌, refl, ◌∙◌, ap, subst, arith}
 use Rattle.std.proofs.lemmas.Bool.Decides.{nat_tests}
 use Rattle.std.proofs.lemmas.List.Elements.{All-nil, All-append, All-head, All-tail}
 use Rattle.std.specs.List.{All}
@@ -9,6 +9,7 @@ use Rattle.gate_state.specs.declared.state.State.{State}
 use Rattle.gate_state.specs.Acts.{ActKeepsLimits}
 use Rattle.gate_state.specs.declared.act.Act.{Act}
 use Rattle.gate_state.specs.declared.act.Act.TheVariants as act
+use Rattle.gate_state.specs.declared.act.Deed.TheVariants.{Happened}
 use Rattle.gate_queue.specs.History.{Entry, Legal, LawOfEntries}
 use Rattle.gate_queue.specs.Machine.{after}
 use Rattle.gate_store.specs.Acts.{EventKeepsLimits, acts_of_event}
@@ -16,7 +17,7 @@ use Rattle.gate_store.specs.Headline.{Each, KeepLimits, LawOfHeadlines, LawOfTel
 use Rattle.gate_store.specs.Run.{NoneMeetsFull, Records, acts_in, acts_meet_full, after_all, after_deliveries, after_delivery, is_full, is_known, meets_full, new_acts}
 use Rattle.gate_store.specs.declared.delivery.Delivery.{Delivery}
 use Rattle.gate_store.specs.declared.delivery.Event.{Event}
-use Rattle.gate_store.specs.declared.delivery.Event.TheVariants.{Comment, Role, Settings, Base, Opened, Pushed, Closed, Labeled, Unlabeled, Review, Staged, Conflict, Status, Refused, Tick}
+use Rattle.gate_store.specs.declared.delivery.Event.TheVariants.{Comment, On, Other}
 use Rattle.gate_store.proofs.ActLimits.{all_keep, one_keeps}
 use Rattle.gate_store.proofs.Firsts.{first_step, one_state}
 use Rattle.gate_store.proofs.Runs.{TellAll, headline_so, tells_is}
@@ -50,20 +51,8 @@ all_room records (delivery ∷ deliveries) (room, none) =
 module _ (limits : (text : List ℕ) → All KeepsLimits (comment_says text)) where
   event_keeps : (event : Event) → EventKeepsLimits event → All ActKeepsLimits (acts_of_event event)
   event_keeps (Comment change person text) keeps = all_keep change person (comment_says text) (limits text)
-  event_keeps (Role person role) keeps = one_keeps (act.Role person role) keeps
-  event_keeps (Settings text) keeps = one_keeps (act.Settings text) keeps
-  event_keeps (Base commit) keeps = one_keeps (act.Base commit) keeps
-  event_keeps (Opened change author head) keeps = one_keeps (act.Opened change author head) keeps
-  event_keeps (Pushed change head) keeps = one_keeps (act.Pushed change head) keeps
-  event_keeps (Closed change) keeps = one_keeps (act.Closed change) keeps
-  event_keeps (Labeled change label) keeps = one_keeps (act.Labeled change label) keeps
-  event_keeps (Unlabeled change label) keeps = one_keeps (act.Unlabeled change label) keeps
-  event_keeps (Review change person head approves) keeps = one_keeps (act.Review change person head approves) keeps
-  event_keeps (Staged batch commit) keeps = one_keeps (act.Staged batch commit) keeps
-  event_keeps (Conflict batch) keeps = one_keeps (act.Conflict batch) keeps
-  event_keeps (Status commit name state) keeps = one_keeps (act.Status commit name state) keeps
-  event_keeps (Refused batch) keeps = one_keeps (act.Refused batch) keeps
-  event_keeps (Tick now) keeps = one_keeps (act.Tick now) keeps
+  event_keeps (On change fact) keeps = one_keeps (act.On change (Happened fact)) tt
+  event_keeps (Other fact) keeps = one_keeps (act.Other fact) keeps
 
   firsts_keep : (known : List ℕ → Bool) (deliveries : List Delivery) → KeepLimits deliveries → All ActKeepsLimits (acts_of_all (firsts known deliveries))
   firsts_keep known [] keep = All-nil ActKeepsLimits
@@ -81,7 +70,7 @@ module _ (limits : (text : List ℕ) → All KeepsLimits (comment_says text)) wh
         All-append ActKeepsLimits (acts_in delivery) (acts_of_all (firsts (or_same delivery.id known) deliveries)) (event_keeps delivery.event (All-head keeps delivery deliveries keep)) next
 
 -- EACH ACT TELLS.
-room_for : (n : ℕ) → nat_lt 8_999_999_999_999_996 n ≡ false → n ≤ 8_999_999_999_999_996
+room_for : (n : ℕ) → nat_lt 9_000_000_000_000_000 (n + 4) ≡ false → n + 4 ≤ 9_000_000_000_000_000
 room_for n room = grind (arith, nat_tests)
 
 module _ (entries : LawOfEntries) where

@@ -1,5 +1,5 @@
 -- THE RUN: what deliveries are answered, one after the other, and the records after them.
-use Rattle.std.specs.Prelude.{◌≡◌, ◌⊎◌, ℕ, nat_lt, not, Bool, true, false, ◌||◌, ◌&&◌, ⊤, List, [], ◌∷◌, Option, None, Some, is_some, Result, Ok, Err, if◌then◌else◌}
+use Rattle.std.specs.Prelude.{◌+◌, ◌≡◌, ◌⊎◌, ℕ, nat_lt, not, Bool, true, false, ◌||◌, ◌&&◌, ⊤, List, [], ◌∷◌, Option, None, Some, is_some, Result, Ok, Err, if◌then◌else◌}
 use Rattle.std.specs.Cmp.Lexicographic.{slice_cmp}
 use Rattle.std.specs.FinMap as finite
 use Rattle.std.specs.FinMap.{FinMap}
@@ -66,9 +66,9 @@ abbrev pub after_deliveries : Records → List Delivery → Records
 after_deliveries records [] = records
 after_deliveries records (delivery ∷ deliveries) = after_deliveries (after_delivery records delivery) deliveries
 
--- FAULTS. No act steps on a full gate.
+-- FAULTS. No act steps on a full gate. It has no room for the four numbers that an act may use.
 abbrev pub is_full : State → Bool
-is_full s = nat_lt 8_999_999_999_999_996 s.queue.next
+is_full s = nat_lt 9_000_000_000_000_000 (s.queue.next + 4)
 
 -- whether one of the acts meets a full gate, after those before it
 abbrev pub acts_meet_full : State → List Act → Bool

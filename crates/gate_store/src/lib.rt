@@ -6,14 +6,13 @@ mod book;
 mod delivery;
 mod keeper;
 mod laws;
-mod moment;
 mod plain_book;
 mod stepping;
 
 pub use book::Book;
 pub use delivery::{Delivery, Event, acts_of};
 pub use gate_answers::{Answer, AnswerFault, answer_text, law_of_texts, read_answer, reread};
+pub use gate_queue::Moment;
 pub use keeper::Keeper;
 pub use laws::law_of_deliveries;
-pub use moment::Moment;
 pub use plain_book::PlainBook;

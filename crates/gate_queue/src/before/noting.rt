@@ -4,7 +4,7 @@ ghost use Rattle.std.specs.FinMap.{get};
 ghost use Rattle.std.specs.Option.{option_copied, option_map_or};
 ghost use Rattle.gate_queue.specs.Before.{HasNoted, IsBefore, NotesMore, with_batch, with_change, with_person, with_settings};
 ghost use Rattle.gate_queue.specs.Machine.{after, all_but};
-ghost use Rattle.gate_queue.specs.MayChange.{in_front as front_of, may_do, of_base, of_change, of_settings, of_status, of_text};
+ghost use Rattle.gate_queue.specs.MayChange.{fact_may_do, in_front as front_of, may_do, next_priority, of_base, of_change, of_settings, of_status, of_text};
 ghost use Rattle.gate_queue.specs.Touching.{lists};
 ghost use Rattle.gate_state.specs.Lanes.{loses};
 ghost use Rattle.gate_state.specs.State.{priority_on};
@@ -18,7 +18,7 @@ use crate::laws::law_of_untouched;
 use crate::settings::{LosesApproval, are_present};
 use crate::touching::{StaysTried, in_front, that_lose, that_may_join, that_may_settle};
 use gate_rules::Role;
-use gate_state::{Act, Batch, State};
+use gate_state::{Act, Batch, Deed, Fact, State};
 use gate_text::{
     ChangeNo, Command, Commit, Name, Settings, SettingsFault, Spoken, Text, TryCopy, read_settings,
 };
@@ -45,30 +45,31 @@ impl Before {
         ensures has { OnOk result (HasNoted (may_do state.now act.now) self.new) }
     {
         match act {
-            Act::Spoken {
-                change,
-                spoken: Spoken::Known(Command::Priority(priority)),
-                ..
-            } => self.note_about(alloc, state, *change, *priority),
-            Act::Spoken { change, .. }
-            | Act::Opened { change, .. }
-            | Act::Pushed { change, .. }
-            | Act::Closed { change }
-            | Act::Labeled { change, .. }
-            | Act::Unlabeled { change, .. }
-            | Act::Review { change, .. } => {
-                self.note_about(alloc, state, *change, priority_on(state, *change))
+            Act::On { change, deed } => {
+                self.note_about(alloc, state, *change, priority_after(state, *change, deed))
             }
-            Act::Role { person, .. } => self.note_person(alloc, state, person),
-            Act::Settings { text } => self.note_text(alloc, state, text),
-            Act::Base { .. } => self.note_base(alloc, state),
-            Act::Status { commit, .. } => self.note_status(alloc, state, *commit),
-            Act::Staged { .. } | Act::Conflict { .. } | Act::Refused { .. } | Act::Tick { .. } =>
-                self.note_front(alloc, state),
+            Act::Other(fact) => self.note_fact(alloc, state, fact),
         }
     }
 
-    // Notes what an act about a change may change, that has this priority after it.
+    // The same of a fact that is about no change.
+    fn note_fact(&mut self, alloc: Global, state: &State, fact: &Fact) -> Result<(), AllocError>
+        ensures more { OnOk result (NotesMore state.now self.old self.new) }
+        ensures has { OnOk result (HasNoted (fact_may_do state.now fact.now) self.new) }
+    {
+        match fact {
+            Fact::Role { person, .. } => self.note_person(alloc, state, person),
+            Fact::Settings { text } => self.note_text(alloc, state, text),
+            Fact::Base { .. } => self.note_base(alloc, state),
+            Fact::Status { commit, .. } => self.note_status(alloc, state, *commit),
+            Fact::Staged { .. }
+            | Fact::Conflict { .. }
+            | Fact::Refused { .. }
+            | Fact::Tick { .. } => self.note_front(alloc, state),
+        }
+    }
+
+    // Notes what a deed may change on a change that has this priority after it.
     fn note_about(
         &mut self,
         alloc: Global,
@@ -286,6 +287,19 @@ fn settings_on(alloc: Global, state: &State) -> Result<Option<Settings>, AllocEr
     match state.desk.settings() {
         Some(settings) => Ok(Some(settings.copy(alloc)?)),
         None => Ok(None),
+    }
+}
+
+// The priority that a change has after a deed on it.
+fn priority_after(state: &State, change: ChangeNo, deed: &Deed) -> i32
+    ensures { result ≡ next_priority state.now.desk change deed.now }
+{
+    match deed {
+        Deed::Said {
+            spoken: Spoken::Known(Command::Priority(priority)),
+            ..
+        } => *priority,
+        _ => priority_on(state, change),
     }
 }
 

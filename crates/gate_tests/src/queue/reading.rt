@@ -5,7 +5,9 @@ ghost use Rattle.gate_state.specs.Acts.{ActKeepsLimits};
 use crate::checks::{check_words, cut};
 use crate::readers::{commit, context, label, name, number, role};
 use crate::words::{digit, rule_words};
-use gate_queue::{Act, Head, Heads, Order, Reply, StatusState, Why};
+use gate_queue::{
+    Act, ChangeFact, Deed, Fact, Head, Heads, Moment, Order, Reply, StatusState, Why,
+};
 use gate_text::{ChangeNo, Spoken, Text, read_comment};
 use std::alloc::Global;
 use std::process::Abort;
@@ -26,28 +28,28 @@ fn settings(rt: &impl Abort, alloc: Global, text: &str) -> Text {
 fn read_settings(rt: &impl Abort, alloc: Global, text: &str) -> Act
     ensures { ActKeepsLimits result }
 {
-    Act::Settings {
+    Act::Other(Fact::Settings {
         text: settings(rt, alloc, text),
-    }
+    })
 }
 
 fn read_role(rt: &impl Abort, alloc: Global, person: &str, role_word: &str) -> Act
     ensures { ActKeepsLimits result }
 {
-    Act::Role {
+    Act::Other(Fact::Role {
         person: name(rt, alloc, person),
         role: role(role_word),
-    }
+    })
 }
 
 fn read_spoken(rt: &impl Abort, alloc: Global, change: ChangeNo, person: &str, line: &str) -> Act
     ensures { ActKeepsLimits result }
 {
-    Act::Spoken {
-        change,
+    let deed = Deed::Said {
         person: name(rt, alloc, person),
         spoken: spoken(rt, alloc, line),
-    }
+    };
+    Act::On { change, deed }
 }
 
 fn whole(rt: &impl Abort, word: &str) -> u64 {
@@ -55,12 +57,12 @@ fn whole(rt: &impl Abort, word: &str) -> u64 {
 }
 
 // A reading of the clock within its limit.
-fn moment(rt: &impl Abort, word: &str) -> u64
+fn moment(rt: &impl Abort, word: &str) -> Moment
     ensures { IsMoment result }
 {
     let now = whole(rt, word);
     assert!(rt; now <= 9_000_000_000_000_000);
-    now
+    Moment::at(now)
 }
 
 // The act of a line: a fact's name and its fields, or `1 alice bors r+` for a comment.
@@ -72,23 +74,23 @@ pub(crate) fn read_act(rt: &impl Abort, alloc: Global, line: &str) -> Act
     match word {
         "role" => read_role(rt, alloc, first, fields),
         "settings" => read_settings(rt, alloc, rest),
-        "base" => Act::Base {
+        "base" => Act::Other(Fact::Base {
             commit: commit(rt, alloc, rest),
-        },
-        "staged" => Act::Staged {
+        }),
+        "staged" => Act::Other(Fact::Staged {
             batch: whole(rt, first),
             commit: commit(rt, alloc, fields),
-        },
-        "conflict" => Act::Conflict {
+        }),
+        "conflict" => Act::Other(Fact::Conflict {
             batch: whole(rt, first),
-        },
-        "refused" => Act::Refused {
+        }),
+        "refused" => Act::Other(Fact::Refused {
             batch: whole(rt, first),
-        },
+        }),
         "status" => read_status(rt, alloc, first, fields),
-        "tick" => Act::Tick {
+        "tick" => Act::Other(Fact::Tick {
             now: moment(rt, first),
-        },
+        }),
         _ => read_on_change(rt, alloc, word, first, fields),
     }
 }
@@ -99,47 +101,41 @@ fn read_on_change(rt: &impl Abort, alloc: Global, word: &str, first: &str, field
 {
     match ChangeNo::read(word) {
         Ok(change) => read_spoken(rt, alloc, change, first, fields),
-        Err(_) => read_fact(rt, alloc, word, number(rt, first), fields),
+        Err(_) => Act::On {
+            change: number(rt, first),
+            deed: Deed::Happened(read_fact(rt, alloc, word, fields)),
+        },
     }
 }
 
-// The act of a fact on a change.
-fn read_fact(rt: &impl Abort, alloc: Global, word: &str, change: ChangeNo, fields: &str) -> Act
-    ensures { ActKeepsLimits result }
-{
+// A fact about a change.
+fn read_fact(rt: &impl Abort, alloc: Global, word: &str, fields: &str) -> ChangeFact {
     let (first, rest) = cut(fields);
     match word {
-        "opened" => Act::Opened {
-            change,
+        "opened" => ChangeFact::Opened {
             author: name(rt, alloc, first),
             head: commit(rt, alloc, rest),
         },
-        "pushed" => Act::Pushed {
-            change,
+        "pushed" => ChangeFact::Pushed {
             head: commit(rt, alloc, first),
         },
-        "closed" => Act::Closed { change },
-        "labeled" => Act::Labeled {
-            change,
+        "closed" => ChangeFact::Closed,
+        "labeled" => ChangeFact::Labeled {
             label: label(rt, alloc, fields),
         },
-        "unlabeled" => Act::Unlabeled {
-            change,
+        "unlabeled" => ChangeFact::Unlabeled {
             label: label(rt, alloc, fields),
         },
         _ => {
             check_words(rt, fields, word, "review");
-            read_review(rt, alloc, change, first, rest)
+            read_review(rt, alloc, first, rest)
         }
     }
 }
 
-fn read_review(rt: &impl Abort, alloc: Global, change: ChangeNo, person: &str, rest: &str) -> Act
-    ensures { ActKeepsLimits result }
-{
+fn read_review(rt: &impl Abort, alloc: Global, person: &str, rest: &str) -> ChangeFact {
     let (head, answer) = cut(rest);
-    Act::Review {
-        change,
+    ChangeFact::Review {
         person: name(rt, alloc, person),
         head: commit(rt, alloc, head),
         approves: answer == "yes",
@@ -159,11 +155,11 @@ fn read_status(rt: &impl Abort, alloc: Global, digit: &str, rest: &str) -> Act
     ensures { ActKeepsLimits result }
 {
     let (name, state_word) = cut(rest);
-    Act::Status {
+    Act::Other(Fact::Status {
         commit: commit(rt, alloc, digit),
         name: context(rt, alloc, name),
         state: state(state_word),
-    }
+    })
 }
 
 // A reply in words: `done` with the orders, or the rule with what it names.

@@ -1,6 +1,6 @@
 use Rattle.std.proofs.Common.{◌≡◌, Bool, true, if◌then◌else◌, IfOk, sym, ◌∙◌, ap, subst}
 use Rattle.gate_rules.specs.View.{is_required}
-use Rattle.gate_queue.specs.Machine.{told_staging, told_trying, told, then_next, quiet}
+use Rattle.gate_queue.specs.Machine.{on_both, told_on, told, quiet}
 use Rattle.gate_queue.specs.declared.outcome.Outcome.{Outcome}
 use Rattle.gate_queue.proofs.running.tell_batches.Goals as goal
 
@@ -10,7 +10,7 @@ returns-then-is_required-clause-value c =
     let commit = c.args.commit in
     let name = c.args.name.now in
     let said = c.args.said in
-    let both : Outcome = then_next (told_staging commit name said s) (told_trying commit name said) in
+    let both : Outcome = on_both (told_on commit name said) s in
     let required : is_required s.desk.settings name ≡ true = sym c.is_required.ensures.value ∙ c.if-is_required.true in
     let same : both ≡ told commit name said s = sym (ap (λ (b : Bool). if b then both else quiet s) required) in
     subst (λ (o : Outcome). IfOk c.tell_both.result (λ outcome. outcome ≡ o)) same c.tell_both.ensures

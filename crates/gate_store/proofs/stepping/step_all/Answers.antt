@@ -1,4 +1,4 @@
-use Rattle.std.proofs.Common.{rules, inl, refl, sym, ◌∙◌, ap, ◌≡◌, ◌<◌, ℕ, false, ltb, ◌++◌, [], ◌∷◌, arith}
+use Rattle.std.proofs.Common.{◌+◌, rules, inl, refl, sym, ◌∙◌, ap, ◌≡◌, ◌<◌, ℕ, false, ltb, ◌++◌, [], ◌∷◌, arith}
 use Rattle.std.proofs.lemmas.Bool.Decides.{nat_tests}
 use Rattle.std.proofs.lemmas.Bool.{true≢false}
 use Rattle.std.proofs.lemmas.List.{drop_all}
@@ -23,7 +23,7 @@ loop-act-preserved c =
     let reply = c.in_ok-next.reply in
     let step = c.in_ok-next.ensures.step in
     let pushed : c.push.new.self ≡ replies ++ reply ∷ [] = search rules in
-    let room : is_full s ≡ false = not_past 8_999_999_999_999_996 s.queue.next (λ past. cc (c.in_ok-next.ensures.full.1 past)) in
+    let room : is_full s ≡ false = not_past 9_000_000_000_000_000 (s.queue.next + 4) (λ past. cc (c.in_ok-next.ensures.full.1 past)) in
     record {
       told = rw pushed (told_next acts place act c.act-item.is within old s t replies reply step c.loop-act.invariant.told);
       full = full_next acts place act c.act-item.is within old s t step.1 room c.loop-act.invariant.full;

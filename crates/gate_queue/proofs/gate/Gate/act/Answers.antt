@@ -1,5 +1,6 @@
 use Rattle.std.proofs.Common.{◌≡◌, ◌≤◌, sym, subst, rules}
 use Rattle.gate_queue.specs.Machine.{Step, after}
+use Rattle.gate_state.specs.Room.{HasRoom}
 use Rattle.gate_state.specs.State.{IsState}
 use Rattle.gate_state.specs.declared.state.State.{State}
 use Rattle.gate_queue.proofs.Law.{tells}
@@ -10,7 +11,7 @@ kept : (c : goal.In-Ok) → IsState (after c.args.self c.args.act.now)
 kept c =
     let old : State = c.self.inside.state in
     let same : c.args.self ≡ old = search rules in
-    let room : old.queue.next ≤ 8_999_999_999_999_996 = search rules in
+    let room : HasRoom old.queue = search rules in
     subst (λ (s : State). IsState (after s c.args.act.now)) (sym same) (still_state old c.self.invariant room c.args.act.now c.requires)
 
 stepped : (c : goal.In-Ok) → Step c.args.self c.args.act.now c.in-Ok.reply c.in-Ok.state
