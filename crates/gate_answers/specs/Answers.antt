@@ -6,8 +6,7 @@ use Rattle.serde_json.specs.Written.{compact_text}
 use Rattle.gate_rules.specs.Words.{number_of, word_of, level_word_of}
 use Rattle.gate_rules.specs.declared.rule.Rule.{Rule}
 use Rattle.gate_rules.specs.declared.rule.Rule.TheVariants.{UnknownChange, NotACommand, NotPermitted, NotOpen, NothingToRetry, Landing, NoSettings, NoBase, AlreadyApproved, NotApproved, AlreadyTrying, NotTrying, Blocked, TooFewReviews, AlreadyOpen, ChangeLanded, StaleHead, NotMember, OwnChange, BadSettings, ClockBack, NoSuchBatch, SameAsBase, HeadStatus}
-use Rattle.gate_state.specs.declared.batch.Branch.{Branch}
-use Rattle.gate_state.specs.declared.batch.Branch.TheVariants.{Staging, Trying}
+use Rattle.gate_state.specs.Words.{branch_word_of, why_word_of}
 use Rattle.gate_state.specs.declared.reply.Head.{Head}
 use Rattle.gate_state.specs.declared.reply.Order.{Order}
 use Rattle.gate_state.specs.declared.reply.Order.TheVariants.{Stage, Land, Notice}
@@ -16,7 +15,7 @@ use Rattle.gate_state.specs.declared.reply.Why.TheVariants as why
 use Rattle.gate_state.specs.declared.reply.Reply.{Reply}
 use Rattle.gate_state.specs.declared.reply.Reply.TheVariants.{Done, Denied}
 
-abbrev denied_members : Rule → Members
+abbrev pub denied_members : Rule → Members
 denied_members rule =
     member (codes "number") (number (unsigned (number_of rule)))
     (member (codes "rule") (string (word_of rule))
@@ -49,38 +48,23 @@ detail_of NoSuchBatch = None
 detail_of SameAsBase = None
 detail_of (HeadStatus name) = Some (string name)
 
-abbrev with_detail : Option Data → Members → Members
-with_detail None members = members
-with_detail (Some detail) members = member (codes "detail") detail members
-
-abbrev pub why_word_of : Why → List ℕ
-why_word_of why.Conflict = codes "Conflict"
-why_word_of (why.Failed name) = codes "Failed"
-why_word_of why.TimedOut = codes "TimedOut"
-why_word_of why.Pushed = codes "Pushed"
-why_word_of why.Closed = codes "Closed"
-why_word_of why.Labeled = codes "Labeled"
-why_word_of why.Reviews = codes "Reviews"
-why_word_of why.Settings = codes "Settings"
-why_word_of why.TryPassed = codes "TryPassed"
-why_word_of why.TryFailed = codes "TryFailed"
-
 -- the status that has failed, which its notice names beside the word
-abbrev pub with_name : Why → Members → Members
-with_name why.Conflict members = members
-with_name (why.Failed name) members = member (codes "name") (string name) members
-with_name why.TimedOut members = members
-with_name why.Pushed members = members
-with_name why.Closed members = members
-with_name why.Labeled members = members
-with_name why.Reviews members = members
-with_name why.Settings members = members
-with_name why.TryPassed members = members
-with_name why.TryFailed members = members
+abbrev pub name_of : Why → Option Data
+name_of why.Conflict = None
+name_of (why.Failed name) = Some (string name)
+name_of why.TimedOut = None
+name_of why.Pushed = None
+name_of why.Closed = None
+name_of why.Labeled = None
+name_of why.Reviews = None
+name_of why.Settings = None
+name_of why.TryPassed = None
+name_of why.TryFailed = None
 
-abbrev pub branch_word_of : Branch → List ℕ
-branch_word_of Staging = codes "staging"
-branch_word_of Trying = codes "trying"
+-- a member of this name, if there is something to tell
+abbrev pub with_told : List ℕ → Option Data → Members → Members
+with_told name None members = members
+with_told name (Some told) members = member name told members
 
 -- a change and its head, as a pair
 abbrev pub head_data : Head → Data
@@ -103,7 +87,7 @@ order_data (Land batch base commit) =
     (member (codes "order") (string (codes "land")) no_members))))
 order_data (Notice change why) =
     object (member (codes "change") (number (unsigned change))
-    (with_name why
+    (with_told (codes "name") (name_of why)
     (member (codes "order") (string (codes "notice"))
     (member (codes "why") (string (why_word_of why)) no_members))))
 
@@ -114,7 +98,7 @@ abbrev pub reply_data : Reply → Data
 reply_data (Done orders) =
     object (member (codes "orders") (orders_data orders)
     (member (codes "verdict") (string (codes "done")) no_members))
-reply_data (Denied rule) = object (with_detail (detail_of rule) (denied_members rule))
+reply_data (Denied rule) = object (with_told (codes "detail") (detail_of rule) (denied_members rule))
 
 -- an answer: a list with one object for each reply
 abbrev pub answer_data : List Reply → Data

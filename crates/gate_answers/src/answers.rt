@@ -6,12 +6,12 @@ ghost use Rattle.serde_json.specs.Read.{read};
 ghost use Rattle.serde_json.specs.View.{view};
 ghost use Rattle.gate_state.specs.declared.reply.Order.TheVariants.{Notice};
 ghost use Rattle.gate_state.specs.declared.reply.Reply.TheVariants.{Denied};
-ghost use Rattle.gate_answers.specs.Answers.{detail_of, branch_word_of, head_data, heads_data, order_data, orders_data, why_word_of, reply_data, answer_data, answer_text_of};
+ghost use Rattle.gate_answers.specs.Answers.{detail_of, head_data, heads_data, order_data, orders_data, reply_data, answer_data, answer_text_of};
 ghost use Rattle.gate_answers.specs.Reading.{answer_of};
 ghost use Rattle.gate_answers.specs.Limits.{IsRule, IsHead, IsOrder, IsReply, IsAnswer};
 
 use gate_rules::Rule;
-use gate_state::{Branch, Head, Order, Reply, Why};
+use gate_state::{Head, Order, Reply, Why};
 use gate_text::{ChangeNo, List};
 use serde_json::{Value, json};
 use std::alloc::{AllocError, Global};
@@ -50,34 +50,6 @@ fn denied_value(alloc: Global, rule: &Rule) -> Result<Value, AllocError>
     }
 }
 
-// The name of a reason, as notices write it.
-fn why_word(why: &Why) -> &'static str
-    ensures { result.now ≡ why_word_of why.now }
-{
-    match why {
-        Why::Conflict => "Conflict",
-        Why::Failed(_) => "Failed",
-        Why::TimedOut => "TimedOut",
-        Why::Pushed => "Pushed",
-        Why::Closed => "Closed",
-        Why::Labeled => "Labeled",
-        Why::Reviews => "Reviews",
-        Why::Settings => "Settings",
-        Why::TryPassed => "TryPassed",
-        Why::TryFailed => "TryFailed",
-    }
-}
-
-// The name of a branch, as orders write it.
-fn branch_word(branch: Branch) -> &'static str
-    ensures { result.now ≡ branch_word_of branch }
-{
-    match branch {
-        Branch::Staging => "staging",
-        Branch::Trying => "trying",
-    }
-}
-
 // A change and its head as JSON.
 fn head_value(alloc: Global, staged: &Head) -> Result<Value, AllocError>
     ensures value { IfOk result (λ value. view value ≡ head_data staged.now) }
@@ -106,7 +78,7 @@ fn notice_value(alloc: Global, change: ChangeNo, why: &Why) -> Result<Value, All
     ensures good { OnOk result (IsOrder (Notice change why.now)) }
 {
     let number = change.number();
-    let word = why_word(why);
+    let word = why.word();
     match why {
         Why::Failed(name) => {
             let name = name.text();
@@ -130,7 +102,7 @@ fn order_value(alloc: Global, order: &Order) -> Result<Value, AllocError>
         } => {
             let heads = heads_value(alloc, heads.as_slice())?;
             let base = base.text();
-            let branch = branch_word(*branch);
+            let branch = branch.word();
             json!(in alloc; {"base": base, "batch": *batch, "branch": branch, "heads": heads, "order": "stage"})
         }
         Order::Land {

@@ -1,8 +1,19 @@
-ghost use Rattle.std.specs.Prelude.{◌≡◌, IfOk, IfSome};
+ghost use Rattle.std.specs.Prelude.{◌≡◌, ◌<◌, ◌^◌, ℕ, IfOk, List, Some, map};
 ghost use Rattle.std.specs.List.{All};
-ghost use Rattle.serde_json.specs.View.{view, items_view};
+ghost use Rattle.serde_json.specs.Data.{Data as DataOf, array, number, string, unsigned};
+ghost use Rattle.serde_json.specs.View.{items_of, view};
+ghost use Rattle.gate_rules.specs.Words.{level_word_of, word_of};
+ghost use Rattle.gate_rules.specs.declared.role.Level.{Level as LevelOf};
+ghost use Rattle.gate_rules.specs.declared.rule.Rule.{Rule as RuleOf};
+ghost use Rattle.gate_state.specs.Words.{branch_word_of, why_word_of};
+ghost use Rattle.gate_state.specs.declared.batch.Branch.{Branch as BranchOf};
+ghost use Rattle.gate_state.specs.declared.reply.Head.{Head as HeadOf};
+ghost use Rattle.gate_state.specs.declared.reply.Order.{Order as OrderOf};
+ghost use Rattle.gate_state.specs.declared.reply.Reply.{Reply as ReplyOf};
+ghost use Rattle.gate_state.specs.declared.reply.Why.{Why as WhyOf};
+ghost use Rattle.gate_answers.specs.Answers.{answer_data, detail_of, head_data, name_of, order_data, reply_data};
 ghost use Rattle.gate_answers.specs.Found as found;
-ghost use Rattle.gate_answers.specs.Found.{Finds, now_of, items_now, seen};
+ghost use Rattle.gate_answers.specs.Found.{Finds, FindsItems, FindsText, seen};
 ghost use Rattle.gate_answers.specs.Limits.{IsChange, IsCommit, IsPlain, IsBatch, IsRule, IsWhy, IsHead, IsOrder, IsReply, IsAnswer};
 
 use crate::answers::Answer;
@@ -13,6 +24,8 @@ use gate_text::{ChangeNo, Commit, Context, Label, TextFault, unless_bad};
 use serde_json::Value;
 use std::alloc::Global;
 
+// Each of these says: if the value is written for something that keeps its limits, that is found, unless memory is wanting.
+
 // What a small text gives.
 fn small<T>(read: Result<T, TextFault>) -> Result<T, AnswerFault>
     ensures { result ≡ found.small read }
@@ -21,20 +34,21 @@ fn small<T>(read: Result<T, TextFault>) -> Result<T, AnswerFault>
 }
 
 fn text_in(value: Option<&Value>) -> Result<&str, AnswerFault>
-    ensures { Finds (now_of result) (found.text_in (seen value.entry)) }
+    ensures again { (text : List ℕ) → seen value.entry ≡ Some (string text) → FindsText result text }
 {
     value.and_then(Value::as_str).ok_or(AnswerFault::NotAnswer)
 }
 
 fn number_in(value: Option<&Value>) -> Result<u64, AnswerFault>
-    ensures value { Finds result (found.number_in (seen value.entry)) }
+    ensures again { (whole : ℕ) → seen value.entry ≡ Some (number (unsigned whole)) → Finds result whole }
     ensures good { IfOk result IsBatch }
 {
     value.and_then(Value::as_u64).ok_or(AnswerFault::NotAnswer)
 }
 
+#[tactic(auto, using(crate::proofs::Items::items_same))]
 fn items_in(value: Option<&Value>) -> Result<&[Value], AnswerFault>
-    ensures { Finds (items_now result) (found.items_in (seen value.entry)) }
+    ensures again { (items : List DataOf) → seen value.entry ≡ Some (array (items_of items)) → FindsItems result items }
 {
     let values = value
         .and_then(Value::as_array)
@@ -43,98 +57,55 @@ fn items_in(value: Option<&Value>) -> Result<&[Value], AnswerFault>
 }
 
 fn count_in(value: Option<&Value>) -> Result<u32, AnswerFault>
-    ensures { Finds result (found.count_in (seen value.entry)) }
+    ensures again { (whole : ℕ) → whole < 2 ^ 32 → seen value.entry ≡ Some (number (unsigned whole)) → Finds result whole }
 {
     u32::try_from(number_in(value)?).map_err(|_| AnswerFault::NotAnswer)
 }
 
 fn refusal_in(value: Option<&Value>) -> Result<u8, AnswerFault>
-    ensures { Finds result (found.refusal_in (seen value.entry)) }
+    ensures again { (whole : ℕ) → whole < 2 ^ 8 → seen value.entry ≡ Some (number (unsigned whole)) → Finds result whole }
 {
     u8::try_from(number_in(value)?).map_err(|_| AnswerFault::NotAnswer)
 }
 
 fn change_in(value: Option<&Value>) -> Result<ChangeNo, AnswerFault>
-    ensures value { Finds result (found.change_in (seen value.entry)) }
+    ensures again { (whole : ℕ) → IsChange whole → seen value.entry ≡ Some (number (unsigned whole)) → Finds result whole }
     ensures good { IfOk result IsChange }
 {
     ChangeNo::from_number(number_in(value)?).ok_or(AnswerFault::NotAnswer)
 }
 
 fn commit_in(value: Option<&Value>) -> Result<Commit, AnswerFault>
-    ensures value { Finds result (found.commit_in (seen value.entry)) }
+    ensures again { (text : List ℕ) → IsCommit text → seen value.entry ≡ Some (string text) → Finds result text }
     ensures good { IfOk result IsCommit }
 {
     small(Commit::read(text_in(value)?))
 }
 
 fn label_in(alloc: Global, value: Option<&Value>) -> Result<Label, AnswerFault>
-    ensures value { Finds result (found.plain_in (seen value.entry)) }
+    ensures again { (text : List ℕ) → IsPlain text → seen value.entry ≡ Some (string text) → Finds result text }
     ensures good { IfOk result IsPlain }
 {
     small(Label::read(alloc, text_in(value)?))
 }
 
 fn context_in(alloc: Global, value: Option<&Value>) -> Result<Context, AnswerFault>
-    ensures value { Finds result (found.plain_in (seen value.entry)) }
+    ensures again { (text : List ℕ) → IsPlain text → seen value.entry ≡ Some (string text) → Finds result text }
     ensures good { IfOk result IsPlain }
 {
     small(Context::read(alloc, text_in(value)?))
 }
 
-// The level of this name.
-fn level_called(word: &str) -> Option<Level>
-    ensures { result ≡ found.level_called word.now }
-{
-    match word {
-        "Anyone" => Some(Level::Anyone),
-        "Member" => Some(Level::Member),
-        "MemberOrDelegate" => Some(Level::MemberOrDelegate),
-        "ReviewerOrDelegate" => Some(Level::ReviewerOrDelegate),
-        "Reviewer" => Some(Level::Reviewer),
-        _ => None,
-    }
-}
-
-// The rule of this name, if it tells no more.
-fn rule_called(word: &str) -> Option<Rule>
-    ensures value { result ≡ found.rule_called word.now }
-    ensures good { IfSome result IsRule }
-{
-    match word {
-        "UnknownChange" => Some(Rule::UnknownChange),
-        "NotACommand" => Some(Rule::NotACommand),
-        "NotOpen" => Some(Rule::NotOpen),
-        "NothingToRetry" => Some(Rule::NothingToRetry),
-        "Landing" => Some(Rule::Landing),
-        "NoSettings" => Some(Rule::NoSettings),
-        "NoBase" => Some(Rule::NoBase),
-        "AlreadyApproved" => Some(Rule::AlreadyApproved),
-        "NotApproved" => Some(Rule::NotApproved),
-        "AlreadyTrying" => Some(Rule::AlreadyTrying),
-        "NotTrying" => Some(Rule::NotTrying),
-        "AlreadyOpen" => Some(Rule::AlreadyOpen),
-        "ChangeLanded" => Some(Rule::ChangeLanded),
-        "StaleHead" => Some(Rule::StaleHead),
-        "NotMember" => Some(Rule::NotMember),
-        "OwnChange" => Some(Rule::OwnChange),
-        "ClockBack" => Some(Rule::ClockBack),
-        "NoSuchBatch" => Some(Rule::NoSuchBatch),
-        "SameAsBase" => Some(Rule::SameAsBase),
-        _ => None,
-    }
-}
-
 fn not_permitted_in(detail: Option<&Value>) -> Result<Rule, AnswerFault>
-    ensures value { Finds result (found.not_permitted_in (seen detail.entry)) }
+    ensures again { (level : LevelOf) → seen detail.entry ≡ Some (string (level_word_of level)) → Finds result (Rule.NotPermitted level) }
     ensures good { IfOk result IsRule }
 {
-    let level = level_called(text_in(detail)?).ok_or(AnswerFault::NotAnswer)?;
+    let level = Level::called(text_in(detail)?).ok_or(AnswerFault::NotAnswer)?;
     Ok(Rule::NotPermitted(level))
 }
 
 fn blocked_in(alloc: Global, detail: Option<&Value>) -> Result<Rule, AnswerFault>
-    ensures value { Finds result (found.blocked_in (seen detail.entry)) }
+    ensures again { (label : List ℕ) → IsPlain label → seen detail.entry ≡ Some (string label) → Finds result (Rule.Blocked label) }
     ensures good { IfOk result IsRule }
 {
     let label = label_in(alloc, detail)?;
@@ -142,7 +113,8 @@ fn blocked_in(alloc: Global, detail: Option<&Value>) -> Result<Rule, AnswerFault
 }
 
 fn counts_in(pair: &Value) -> Result<Rule, AnswerFault>
-    ensures value { Finds result (found.counts_in (view pair.now)) }
+    ensures again { (have need : ℕ) → IsRule (Rule.TooFewReviews have need)
+        → Some (view pair.now) ≡ detail_of (Rule.TooFewReviews have need) → Finds result (Rule.TooFewReviews have need) }
     ensures good { IfOk result IsRule }
 {
     let have = count_in(pair.get(0usize))?;
@@ -151,14 +123,16 @@ fn counts_in(pair: &Value) -> Result<Rule, AnswerFault>
 }
 
 fn too_few_in(detail: Option<&Value>) -> Result<Rule, AnswerFault>
-    ensures value { Finds result (found.too_few_in (seen detail.entry)) }
+    ensures again { (have need : ℕ) → IsRule (Rule.TooFewReviews have need)
+        → seen detail.entry ≡ detail_of (Rule.TooFewReviews have need) → Finds result (Rule.TooFewReviews have need) }
     ensures good { IfOk result IsRule }
 {
     counts_in(detail.ok_or(AnswerFault::NotAnswer)?)
 }
 
 fn bad_settings_in(detail: Option<&Value>) -> Result<Rule, AnswerFault>
-    ensures value { Finds result (found.bad_settings_in (seen detail.entry)) }
+    ensures again { (refusal : ℕ) → refusal < 2 ^ 8 → seen detail.entry ≡ Some (number (unsigned refusal))
+        → Finds result (Rule.BadSettings refusal) }
     ensures good { IfOk result IsRule }
 {
     let refusal = refusal_in(detail)?;
@@ -166,7 +140,7 @@ fn bad_settings_in(detail: Option<&Value>) -> Result<Rule, AnswerFault>
 }
 
 fn head_status_in(alloc: Global, detail: Option<&Value>) -> Result<Rule, AnswerFault>
-    ensures value { Finds result (found.head_status_in (seen detail.entry)) }
+    ensures again { (name : List ℕ) → IsPlain name → seen detail.entry ≡ Some (string name) → Finds result (Rule.HeadStatus name) }
     ensures good { IfOk result IsRule }
 {
     let name = context_in(alloc, detail)?;
@@ -174,7 +148,7 @@ fn head_status_in(alloc: Global, detail: Option<&Value>) -> Result<Rule, AnswerF
 }
 
 fn rule_with(alloc: Global, word: &str, detail: Option<&Value>) -> Result<Rule, AnswerFault>
-    ensures value { Finds result (found.rule_with word.now (seen detail.entry)) }
+    ensures again { (rule : RuleOf) → IsRule rule → word.now ≡ word_of rule → seen detail.entry ≡ detail_of rule → Finds result rule }
     ensures good { IfOk result IsRule }
 {
     match word {
@@ -183,12 +157,12 @@ fn rule_with(alloc: Global, word: &str, detail: Option<&Value>) -> Result<Rule, 
         "TooFewReviews" => too_few_in(detail),
         "BadSettings" => bad_settings_in(detail),
         "HeadStatus" => head_status_in(alloc, detail),
-        _ => rule_called(word).ok_or(AnswerFault::NotAnswer),
+        _ => Rule::called(word).ok_or(AnswerFault::NotAnswer),
     }
 }
 
 fn denied_in(alloc: Global, value: &Value) -> Result<Reply, AnswerFault>
-    ensures value { Finds result (found.denied_in (view value.now)) }
+    ensures again { (rule : RuleOf) → IsRule rule → view value.now ≡ reply_data (Reply.Denied rule) → Finds result (Reply.Denied rule) }
     ensures good { IfOk result IsReply }
 {
     let word = text_in(value.get("rule"))?;
@@ -197,7 +171,7 @@ fn denied_in(alloc: Global, value: &Value) -> Result<Reply, AnswerFault>
 }
 
 fn head_in(pair: &Value) -> Result<Head, AnswerFault>
-    ensures value { Finds result (found.head_in (view pair.now)) }
+    ensures again { (staged : HeadOf) → IsHead staged → view pair.now ≡ head_data staged → Finds result staged }
     ensures good { IfOk result IsHead }
 {
     let change = change_in(pair.get(0usize))?;
@@ -206,7 +180,7 @@ fn head_in(pair: &Value) -> Result<Head, AnswerFault>
 }
 
 fn heads_in(alloc: Global, values: &[Value]) -> Result<Heads, AnswerFault>
-    ensures value { Finds result (found.each_in found.head_in (items_view values.now)) }
+    ensures again { (heads : List HeadOf) → All IsHead heads → map view values.now ≡ map head_data heads → Finds result heads }
     ensures good { IfOk result (All IsHead) }
 {
     let mut heads = Heads::from(Vec::new(alloc));
@@ -216,25 +190,15 @@ fn heads_in(alloc: Global, values: &[Value]) -> Result<Heads, AnswerFault>
     Ok(heads)
 }
 
-// The branch of this name.
-fn branch_called(word: &str) -> Option<Branch>
-    ensures { result ≡ found.branch_called word.now }
-{
-    match word {
-        "staging" => Some(Branch::Staging),
-        "trying" => Some(Branch::Trying),
-        _ => None,
-    }
-}
-
 fn branch_in(value: Option<&Value>) -> Result<Branch, AnswerFault>
-    ensures { Finds result (found.branch_in (seen value.entry)) }
+    ensures again { (branch : BranchOf) → seen value.entry ≡ Some (string (branch_word_of branch)) → Finds result branch }
 {
-    branch_called(text_in(value)?).ok_or(AnswerFault::NotAnswer)
+    Branch::called(text_in(value)?).ok_or(AnswerFault::NotAnswer)
 }
 
 fn stage_in(alloc: Global, value: &Value) -> Result<Order, AnswerFault>
-    ensures value { Finds result (found.stage_in (view value.now)) }
+    ensures again { (batch : ℕ) (branch : BranchOf) (base : List ℕ) (heads : List HeadOf) → IsOrder (Order.Stage batch branch base heads)
+        → view value.now ≡ order_data (Order.Stage batch branch base heads) → Finds result (Order.Stage batch branch base heads) }
     ensures good { IfOk result IsOrder }
 {
     let batch = number_in(value.get("batch"))?;
@@ -250,7 +214,8 @@ fn stage_in(alloc: Global, value: &Value) -> Result<Order, AnswerFault>
 }
 
 fn land_in(value: &Value) -> Result<Order, AnswerFault>
-    ensures value { Finds result (found.land_in (view value.now)) }
+    ensures again { (batch : ℕ) (base commit : List ℕ) → IsOrder (Order.Land batch base commit)
+        → view value.now ≡ order_data (Order.Land batch base commit) → Finds result (Order.Land batch base commit) }
     ensures good { IfOk result IsOrder }
 {
     let batch = number_in(value.get("batch"))?;
@@ -263,27 +228,8 @@ fn land_in(value: &Value) -> Result<Order, AnswerFault>
     })
 }
 
-// The reason of this name, if it names no status.
-fn why_called(word: &str) -> Option<Why>
-    ensures value { result ≡ found.why_called word.now }
-    ensures good { IfSome result IsWhy }
-{
-    match word {
-        "Conflict" => Some(Why::Conflict),
-        "TimedOut" => Some(Why::TimedOut),
-        "Pushed" => Some(Why::Pushed),
-        "Closed" => Some(Why::Closed),
-        "Labeled" => Some(Why::Labeled),
-        "Reviews" => Some(Why::Reviews),
-        "Settings" => Some(Why::Settings),
-        "TryPassed" => Some(Why::TryPassed),
-        "TryFailed" => Some(Why::TryFailed),
-        _ => None,
-    }
-}
-
 fn failed_in(alloc: Global, name: Option<&Value>) -> Result<Why, AnswerFault>
-    ensures value { Finds result (found.failed_in (seen name.entry)) }
+    ensures again { (status : List ℕ) → IsPlain status → seen name.entry ≡ Some (string status) → Finds result (Why.Failed status) }
     ensures good { IfOk result IsWhy }
 {
     let name = context_in(alloc, name)?;
@@ -291,17 +237,18 @@ fn failed_in(alloc: Global, name: Option<&Value>) -> Result<Why, AnswerFault>
 }
 
 fn why_with(alloc: Global, word: &str, name: Option<&Value>) -> Result<Why, AnswerFault>
-    ensures value { Finds result (found.why_with word.now (seen name.entry)) }
+    ensures again { (why : WhyOf) → IsWhy why → word.now ≡ why_word_of why → seen name.entry ≡ name_of why → Finds result why }
     ensures good { IfOk result IsWhy }
 {
     match word {
         "Failed" => failed_in(alloc, name),
-        _ => why_called(word).ok_or(AnswerFault::NotAnswer),
+        _ => Why::called(word).ok_or(AnswerFault::NotAnswer),
     }
 }
 
 fn notice_in(alloc: Global, value: &Value) -> Result<Order, AnswerFault>
-    ensures value { Finds result (found.notice_in (view value.now)) }
+    ensures again { (change : ℕ) (why : WhyOf) → IsOrder (Order.Notice change why)
+        → view value.now ≡ order_data (Order.Notice change why) → Finds result (Order.Notice change why) }
     ensures good { IfOk result IsOrder }
 {
     let change = change_in(value.get("change"))?;
@@ -311,7 +258,7 @@ fn notice_in(alloc: Global, value: &Value) -> Result<Order, AnswerFault>
 }
 
 fn order_in(alloc: Global, value: &Value) -> Result<Order, AnswerFault>
-    ensures value { Finds result (found.order_in (view value.now)) }
+    ensures again { (order : OrderOf) → IsOrder order → view value.now ≡ order_data order → Finds result order }
     ensures good { IfOk result IsOrder }
 {
     match text_in(value.get("order"))? {
@@ -323,7 +270,7 @@ fn order_in(alloc: Global, value: &Value) -> Result<Order, AnswerFault>
 }
 
 fn orders_in(alloc: Global, values: &[Value]) -> Result<Orders, AnswerFault>
-    ensures value { Finds result (found.each_in found.order_in (items_view values.now)) }
+    ensures again { (orders : List OrderOf) → All IsOrder orders → map view values.now ≡ map order_data orders → Finds result orders }
     ensures good { IfOk result (All IsOrder) }
 {
     let mut orders = Orders::from(Vec::new(alloc));
@@ -334,7 +281,8 @@ fn orders_in(alloc: Global, values: &[Value]) -> Result<Orders, AnswerFault>
 }
 
 fn done_in(alloc: Global, value: &Value) -> Result<Reply, AnswerFault>
-    ensures value { Finds result (found.done_in (view value.now)) }
+    ensures again { (orders : List OrderOf) → All IsOrder orders → view value.now ≡ reply_data (Reply.Done orders)
+        → Finds result (Reply.Done orders) }
     ensures good { IfOk result IsReply }
 {
     let orders = orders_in(alloc, items_in(value.get("orders"))?)?;
@@ -342,7 +290,7 @@ fn done_in(alloc: Global, value: &Value) -> Result<Reply, AnswerFault>
 }
 
 fn reply_in(alloc: Global, value: &Value) -> Result<Reply, AnswerFault>
-    ensures value { Finds result (found.reply_in (view value.now)) }
+    ensures again { (reply : ReplyOf) → IsReply reply → view value.now ≡ reply_data reply → Finds result reply }
     ensures good { IfOk result IsReply }
 {
     match text_in(value.get("verdict"))? {
@@ -353,7 +301,7 @@ fn reply_in(alloc: Global, value: &Value) -> Result<Reply, AnswerFault>
 }
 
 fn replies_in(alloc: Global, values: &[Value]) -> Result<Answer, AnswerFault>
-    ensures value { Finds result (found.each_in found.reply_in (items_view values.now)) }
+    ensures again { (replies : List ReplyOf) → IsAnswer replies → map view values.now ≡ map reply_data replies → Finds result replies }
     ensures good { IfOk result IsAnswer }
 {
     let mut replies = Answer::from(Vec::new(alloc));
@@ -363,10 +311,11 @@ fn replies_in(alloc: Global, values: &[Value]) -> Result<Answer, AnswerFault>
     Ok(replies)
 }
 
-/// The answer that is found in a value by looking up each part under its name. No part is looked for that has no place in
-/// an answer, so the value may be another than the one that is written for the answer.
+/// The answer that is found in a value by looking up each part under its name: if the value is written for an answer, that one.
+/// No part is looked for that has no place in an answer, so the value may be another than the one that is written for what is
+/// found.
 pub(crate) fn answer_in(alloc: Global, value: &Value) -> Result<Answer, AnswerFault>
-    ensures value { Finds result (found.answer_in (view value.now)) }
+    ensures again { (answer : List ReplyOf) → IsAnswer answer → view value.now ≡ answer_data answer → Finds result answer }
     ensures good { IfOk result IsAnswer }
 {
     let values = items_in(Some(value))?;

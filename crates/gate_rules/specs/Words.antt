@@ -1,5 +1,7 @@
--- The number and the name of each rule, and the name of each level.
-use Rattle.std.specs.Prelude.{ℕ, List, codes}
+-- The number and the name of each rule, and the name of each level; and the level and the rule of a name.
+use Rattle.std.specs.Prelude.{ℕ, List, [], ◌∷◌, Option, codes}
+use Rattle.std.specs.List.{find}
+use Rattle.std.specs.Str.{bytes_eq}
 use Rattle.gate_rules.specs.declared.role.Level.{Level}
 use Rattle.gate_rules.specs.declared.role.Level.TheVariants.{Anyone, Member, MemberOrDelegate, ReviewerOrDelegate, Reviewer}
 use Rattle.gate_rules.specs.declared.rule.Rule.{Rule}
@@ -63,3 +65,13 @@ level_word_of Member = codes "Member"
 level_word_of MemberOrDelegate = codes "MemberOrDelegate"
 level_word_of ReviewerOrDelegate = codes "ReviewerOrDelegate"
 level_word_of Reviewer = codes "Reviewer"
+
+-- the level of this name
+abbrev pub level_called : List ℕ → Option Level
+level_called word = find (λ level. bytes_eq word (level_word_of level)) (Anyone ∷ Member ∷ MemberOrDelegate ∷ ReviewerOrDelegate ∷ Reviewer ∷ [])
+
+-- the rule of this name, of those that tell no more than their number and name
+abbrev pub rule_called : List ℕ → Option Rule
+rule_called word = find (λ rule. bytes_eq word (word_of rule)) (
+    UnknownChange ∷ NotACommand ∷ NotOpen ∷ NothingToRetry ∷ Landing ∷ NoSettings ∷ NoBase ∷ AlreadyApproved ∷ NotApproved
+    ∷ AlreadyTrying ∷ NotTrying ∷ AlreadyOpen ∷ ChangeLanded ∷ StaleHead ∷ NotMember ∷ OwnChange ∷ ClockBack ∷ NoSuchBatch ∷ SameAsBase ∷ [])

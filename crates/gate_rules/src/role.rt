@@ -1,6 +1,6 @@
 ghost use Rattle.std.specs.Prelude.{◌≡◌};
 ghost use Rattle.gate_rules.specs.Rules as rules;
-ghost use Rattle.gate_rules.specs.Words.{level_word_of};
+ghost use Rattle.gate_rules.specs.Words.{level_called, level_word_of};
 
 use gate_text::TryCopy;
 use std::alloc::{AllocError, Global};
@@ -83,6 +83,20 @@ impl Level {
             Level::MemberOrDelegate => "MemberOrDelegate",
             Level::ReviewerOrDelegate => "ReviewerOrDelegate",
             Level::Reviewer => "Reviewer",
+        }
+    }
+
+    /// The level of this name, if there is one.
+    pub fn called(word: &str) -> Option<Level>
+        ensures value { result ≡ level_called word.now }
+    {
+        match word {
+            "Anyone" => Some(Level::Anyone),
+            "Member" => Some(Level::Member),
+            "MemberOrDelegate" => Some(Level::MemberOrDelegate),
+            "ReviewerOrDelegate" => Some(Level::ReviewerOrDelegate),
+            "Reviewer" => Some(Level::Reviewer),
+            _ => None,
         }
     }
 }

@@ -1,5 +1,5 @@
 ghost use Rattle.std.specs.Prelude.{◌≡◌, IfOk};
-ghost use Rattle.gate_rules.specs.Words.{number_of, word_of};
+ghost use Rattle.gate_rules.specs.Words.{number_of, rule_called, word_of};
 
 use crate::role::Level;
 use gate_text::{Context, Label};
@@ -119,6 +119,34 @@ impl Rule {
             Rule::NoSuchBatch => "NoSuchBatch",
             Rule::SameAsBase => "SameAsBase",
             Rule::HeadStatus(_) => "HeadStatus",
+        }
+    }
+
+    /// The rule of this name, if there is one that tells no more than its number and name.
+    pub fn called(word: &str) -> Option<Rule>
+        ensures value { result ≡ rule_called word.now }
+    {
+        match word {
+            "UnknownChange" => Some(Rule::UnknownChange),
+            "NotACommand" => Some(Rule::NotACommand),
+            "NotOpen" => Some(Rule::NotOpen),
+            "NothingToRetry" => Some(Rule::NothingToRetry),
+            "Landing" => Some(Rule::Landing),
+            "NoSettings" => Some(Rule::NoSettings),
+            "NoBase" => Some(Rule::NoBase),
+            "AlreadyApproved" => Some(Rule::AlreadyApproved),
+            "NotApproved" => Some(Rule::NotApproved),
+            "AlreadyTrying" => Some(Rule::AlreadyTrying),
+            "NotTrying" => Some(Rule::NotTrying),
+            "AlreadyOpen" => Some(Rule::AlreadyOpen),
+            "ChangeLanded" => Some(Rule::ChangeLanded),
+            "StaleHead" => Some(Rule::StaleHead),
+            "NotMember" => Some(Rule::NotMember),
+            "OwnChange" => Some(Rule::OwnChange),
+            "ClockBack" => Some(Rule::ClockBack),
+            "NoSuchBatch" => Some(Rule::NoSuchBatch),
+            "SameAsBase" => Some(Rule::SameAsBase),
+            _ => None,
         }
     }
 

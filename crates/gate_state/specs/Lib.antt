@@ -1,5 +1,6 @@
 -- What the contracts of this crate cite. For a reader, in this order:
 --     Acts       which change an act is about, and the limits that it keeps
+--     Words      the name of each branch, of each reason and of what a status says, and what has a name
 --     State      what every state keeps
 --     Lanes      the batches of a branch in order of service, and what is done to them
 --     Queue      the batches of both branches, and the next number
@@ -17,3 +18,4 @@ pub mod Queue
 pub mod Room
 pub mod Service
 pub mod State
+pub mod Words

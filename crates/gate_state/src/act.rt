@@ -1,5 +1,6 @@
 ghost use Rattle.std.specs.Prelude.{◌≡◌, IfOk};
 ghost use Rattle.gate_state.specs.Acts.{FactKeepsLimits};
+ghost use Rattle.gate_state.specs.Words.{state_called};
 
 use crate::moment::Moment;
 use gate_rules::Role;
@@ -17,6 +18,21 @@ pub enum StatusState {
     Error,
     /// It goes on.
     Pending,
+}
+
+impl StatusState {
+    /// What a status says by this name, if it says anything: `success`, `failure`, `error` or `pending`.
+    pub fn called(word: &str) -> Option<StatusState>
+        ensures value { result ≡ state_called word.now }
+    {
+        match word {
+            "success" => Some(StatusState::Success),
+            "failure" => Some(StatusState::Failure),
+            "error" => Some(StatusState::Error),
+            "pending" => Some(StatusState::Pending),
+            _ => None,
+        }
+    }
 }
 
 /// What has happened to one change, as the host hands it in.

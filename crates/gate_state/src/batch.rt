@@ -2,6 +2,7 @@ ghost use Rattle.std.specs.Prelude.{◌≡◌, IfOk, OnOk};
 ghost use Rattle.std.specs.FinMap.{empty, from_entries, get, insert};
 ghost use Rattle.gate_state.specs.Lanes as lanes;
 ghost use Rattle.gate_state.specs.Lanes.{has_succeeded};
+ghost use Rattle.gate_state.specs.Words.{branch_called, branch_word_of};
 
 use crate::choice::Choice;
 use crate::waiting::has_all;
@@ -17,6 +18,29 @@ pub enum Branch {
     Staging,
     /// What somebody wants to try is tested here, and doesn't land.
     Trying,
+}
+
+impl Branch {
+    /// The name of the branch, as orders and reports write it: `staging` or `trying`.
+    pub fn word(self) -> &'static str
+        ensures value { result.now ≡ branch_word_of self }
+    {
+        match self {
+            Branch::Staging => "staging",
+            Branch::Trying => "trying",
+        }
+    }
+
+    /// The branch of this name, if there is one.
+    pub fn called(word: &str) -> Option<Branch>
+        ensures value { result ≡ branch_called word.now }
+    {
+        match word {
+            "staging" => Some(Branch::Staging),
+            "trying" => Some(Branch::Trying),
+            _ => None,
+        }
+    }
 }
 
 /// What was last told of a required status.

@@ -1,4 +1,5 @@
 ghost use Rattle.std.specs.Prelude.{◌≡◌, IfOk};
+ghost use Rattle.gate_state.specs.Words.{why_called, why_word_of};
 
 use crate::batch::Branch;
 use gate_rules::Rule;
@@ -31,6 +32,42 @@ pub enum Why {
 }
 
 impl Why {
+    /// The name of the reason, as notices write it.
+    pub fn word(&self) -> &'static str
+        ensures value { result.now ≡ why_word_of self.now }
+    {
+        match self {
+            Why::Conflict => "Conflict",
+            Why::Failed(_) => "Failed",
+            Why::TimedOut => "TimedOut",
+            Why::Pushed => "Pushed",
+            Why::Closed => "Closed",
+            Why::Labeled => "Labeled",
+            Why::Reviews => "Reviews",
+            Why::Settings => "Settings",
+            Why::TryPassed => "TryPassed",
+            Why::TryFailed => "TryFailed",
+        }
+    }
+
+    /// The reason of this name, if there is one that names no status.
+    pub fn called(word: &str) -> Option<Why>
+        ensures value { result ≡ why_called word.now }
+    {
+        match word {
+            "Conflict" => Some(Why::Conflict),
+            "TimedOut" => Some(Why::TimedOut),
+            "Pushed" => Some(Why::Pushed),
+            "Closed" => Some(Why::Closed),
+            "Labeled" => Some(Why::Labeled),
+            "Reviews" => Some(Why::Reviews),
+            "Settings" => Some(Why::Settings),
+            "TryPassed" => Some(Why::TryPassed),
+            "TryFailed" => Some(Why::TryFailed),
+            _ => None,
+        }
+    }
+
     // A copy, or `AllocError` if there is no memory for it.
     fn copy(&self, alloc: Global) -> Result<Why, AllocError>
         ensures { IfOk result (λ copy. copy ≡ self.now) }

@@ -1,10 +1,8 @@
-use Rattle.std.proofs.Common.{◌≡◌, drop}
 use Rattle.std.specs.List.{All}
-use Rattle.serde_json.specs.View.{items_view}
-use Rattle.gate_answers.specs.Found.{each_in, order_in}
+use Rattle.gate_answers.specs.Answers.{order_data}
 use Rattle.gate_answers.specs.Limits.{IsOrder}
-use Rattle.gate_answers.proofs.Items.{then_more}
+use Rattle.gate_answers.proofs.Items.{Begins}
 use Rattle.gate_answers.proofs.finding.orders_in.Given as goal
 
 abbrev pub invariant-loop-value : goal.invariant-loop-value
-invariant-loop-value l = (each_in order_in (items_view l.values) ≡ then_more order_in l.orders (drop l.value-index l.values)) × All IsOrder l.orders
+invariant-loop-value l = Begins order_data IsOrder l.values l.orders l.value-index × All IsOrder l.orders
