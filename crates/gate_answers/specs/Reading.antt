@@ -31,6 +31,7 @@ text_of there = unwrap_or (option_and_then as_str there) []
 abbrev number_of : Option Data → ℕ
 number_of there = unwrap_or (option_and_then as_u64 (option_and_then as_number there)) 0
 
+-- the number, if it is less than the limit
 abbrev pub below : ℕ → ℕ → ℕ
 below limit number = if nat_lt number limit then number else 0
 
@@ -63,12 +64,14 @@ rules_telling detail =
       count_in : ℕ → ℕ
       count_in place = below (2 ^ 32) (number_of (option_and_then (at place) detail))
 
+-- the rule of this name that tells this
 abbrev pub rule_of : List ℕ → Option Data → Rule
 rule_of word detail = unwrap_or (find (λ rule. bytes_eq word (word_of rule)) (rules_telling detail)) (unwrap_or (rule_called word) UnknownChange)
 
 abbrev pub head_of : Data → Head
 head_of pair = record { change = change_in (at 0 pair); head = commit_in (at 1 pair) }
 
+-- the reason of this name; only one that has failed names a status
 abbrev pub why_of : List ℕ → Option Data → Why
 why_of word name = unwrap_or (why_called word) (Failed (plain_in name))
 

@@ -6,9 +6,10 @@ mod reporting;
 mod running;
 
 use crate::records::{book_in_file, book_in_memory, close};
+use gate_hook::Token;
 use gate_jobs::{
-    Connections, Ending, Job, JobFault, WordsFault, announce, complaint, ended, explain, no_text,
-    read_words, status,
+    Connections, Ending, Job, JobFault, LineLog, Silence, WordsFault, announce, complaint, ended,
+    explain, no_text, read_words, status, token_of,
 };
 use gate_queue::Fault;
 use gate_store::{Book, Keeper};
@@ -56,11 +57,16 @@ fn done(rt: &HostRuntime, job: &Job) -> Result<(), JobFault> {
             count,
             patience,
             db,
+            token,
+            log,
         } => {
+            let token = token_in(rt, token.as_ref())?;
             let service = Service {
                 port: *port,
                 count: *count,
                 patience: *patience,
+                token: token.as_ref(),
+                has_log: *log,
             };
             match db {
                 None => serve(rt, service),
@@ -89,38 +95,60 @@ fn run_in_file(rt: &HostRuntime, file: &str) -> Result<(), JobFault> {
     Ok(())
 }
 
-// On which port connections are served, how many, and how long each is waited for.
+// The token that a file holds, if one is named. It is read before all else.
+fn token_in(rt: &HostRuntime, file: Option<&String>) -> Result<Option<Token>, JobFault> {
+    let Some(file) = file else {
+        return Ok(None);
+    };
+    match File::open(rt, file.as_str()) {
+        Ok(mut file) => Ok(Some(token_of(rt.alloc(), &mut file)?)),
+        Err(_) => Err(JobFault::Token),
+    }
+}
+
+// On which port connections are served, how many, how long each is waited for, the token that a request has to bear, if any, and
+// whether there is a log.
 #[derive(Clone, Copy)]
-struct Service {
+struct Service<'a> {
     port: u16,
     count: u32,
     patience: u32,
+    token: Option<&'a Token>,
+    has_log: bool,
 }
 
 // The records are made, or opened, before the address is bound.
-fn serve(rt: &HostRuntime, service: Service) -> Result<(), JobFault> {
+fn serve<'a>(rt: &'a HostRuntime, service: Service<'a>) -> Result<(), JobFault> {
     let (served, book) = serve_over(rt, book_in_memory(rt.alloc())?, service);
     drop(book);
     served
 }
 
-fn serve_in_file(rt: &HostRuntime, file: &str, service: Service) -> Result<(), JobFault> {
+fn serve_in_file<'a>(
+    rt: &'a HostRuntime,
+    file: &str,
+    service: Service<'a>,
+) -> Result<(), JobFault> {
     let (served, book) = serve_over(rt, book_in_file(rt, file, Unknown)?, service);
     close(book);
     served
 }
 
 // Over any book, which it gives back. A keeper whose book is known is dear to prove.
-fn serve_over<B: Book>(rt: &HostRuntime, book: B, service: Service) -> (Result<(), JobFault>, B) {
+fn serve_over<'a, B: Book>(
+    rt: &'a HostRuntime,
+    book: B,
+    service: Service<'a>,
+) -> (Result<(), JobFault>, B) {
     let mut keeper = Keeper::new(book);
     let served = serve_on(rt, &mut keeper, service);
     (served, keeper.into_book())
 }
 
-fn serve_on<B: Book>(
-    rt: &HostRuntime,
+fn serve_on<'a, B: Book>(
+    rt: &'a HostRuntime,
     keeper: &mut Keeper<B>,
-    service: Service,
+    service: Service<'a>,
 ) -> Result<(), JobFault> {
     match TcpListener::bind(rt, ("127.0.0.1", service.port)) {
         Ok(listener) => {
@@ -128,14 +156,32 @@ fn serve_on<B: Book>(
                 rt.alloc(),
                 rt,
                 &listener,
+                service.token,
                 service.patience,
             ).map_err(|_| JobFault::from(Fault::Memory))?;
             announce(rt.alloc(), service.port, &mut io::writer(rt))?;
-            let served = gate_jobs::serve(rt.alloc(), keeper, &mut connections, service.count);
+            let served = serve_with(rt, keeper, &mut connections, service);
             connections.finish();
             served
         }
         Err(_) => Err(JobFault::Bind),
+    }
+}
+
+// Serves these connections, with a log or without one.
+fn serve_with<B: Book>(
+    rt: &HostRuntime,
+    keeper: &mut Keeper<B>,
+    connections: &mut Connections<'_, HostRuntime>,
+    service: Service<'_>,
+) -> Result<(), JobFault> {
+    let alloc = rt.alloc();
+    let Service { token, count, .. } = service;
+    if service.has_log {
+        let mut log = LineLog::new(alloc, rt, rt.stderr());
+        gate_jobs::serve(alloc, keeper, token, &mut log, connections, count)
+    } else {
+        gate_jobs::serve(alloc, keeper, token, &mut Silence, connections, count)
     }
 }
 

@@ -26,7 +26,7 @@ asked-same (Ok (Delivery size)) rest more fits = rw (body-same size rest more fi
 asked-same (Ok (Report report)) rest more fits = refl
 asked-same (Err refusal) rest more fits = refl
 
-left-none : (after : Option (List ℕ)) → IsAtEnd after → left_of after ≡ []
+pub left-none : (after : Option (List ℕ)) → IsAtEnd after → left_of after ≡ []
 left-none None end = refl
 left-none (Some known) end = end
 
@@ -36,7 +36,7 @@ asked-whole ask rest after (inl fits) = asked-same ask rest (left_of after) fits
 asked-whole ask rest after (inr end) = ap (asked_by ask) (ap (λ (more : List ℕ). rest ++ more) (left-none after end) ∙ append-nil rest)
 
 -- a head stands at the front of all that was read and is left
-pub begins : (first more others : List ℕ) (told : Head) (is : IsHeadOf told first) → told.len ≤ max_head → BeginsWith ((first ++ more) ++ others) is.head (drop told.len first ++ (more ++ others))
+pub begins : {token : Option (List ℕ)} (first more others : List ℕ) (told : Head) (is : IsHeadOf token told first) → told.len ≤ max_head → BeginsWith ((first ++ more) ++ others) is.head (drop told.len first ++ (more ++ others))
 begins first more others told is fits = record {
   reads = (
     is.reads.0,
@@ -49,15 +49,15 @@ begins first more others told is fits = record {
 }
 
 -- what stands behind the head, and that there is a head
-behind : (first more : List ℕ) (told : Head) → IsHeadOf told first → drop told.len (first ++ more) ≡ drop told.len first ++ more
+behind : {token : Option (List ℕ)} (first more : List ℕ) (told : Head) → IsHeadOf token told first → drop told.len (first ++ more) ≡ drop told.len first ++ more
 behind first more told is = drop-append-le told.len first more (omega (arith, is.len, ap length is.reads.1, length-append (print_request is.head) (drop told.len first)))
 
-pub asks-whole : (old mid new : Option (List ℕ)) (told : Head) (first bytes : List ℕ) (wish : Result Request Refusal)
-    → HasReadHead (Ok (Some told)) old mid first
+pub asks-whole : (token old mid new : Option (List ℕ)) (told : Head) (first bytes : List ℕ) (wish : Result Request Refusal)
+    → HasReadHead token (Ok (Some told)) old mid first
     → HasReadBody (Ok tt) mid new first bytes told.len (needed_by told.ask)
     → wish ≡ asked_by told.ask (drop told.len bytes)
-    → (input : List ℕ) × IsInput old new input × Asks input wish
-asks-whole old mid new told first bytes wish found read asks =
+    → (input : List ℕ) × IsInput old new input × Asks token input wish
+asks-whole token old mid new told first bytes wish found read asks =
     let more = read.0 in
     let is = found.1 in
     let all : drop told.len bytes ≡ drop told.len first ++ more = ap (drop told.len) read.2 ∙ behind first more told is in

@@ -1,7 +1,9 @@
 pub mod Asking
+pub mod Bearing
 pub mod ChangeNumbers
 pub mod Ending
 pub mod Fields
+pub mod FirstDenials
 pub mod Kept
 pub mod Needing
 pub mod NoHead
@@ -15,5 +17,6 @@ pub mod Responding
 pub mod Splitting
 pub mod Taking
 pub mod Targets
+pub mod Tokens
 pub mod Walks
 pub mod Whole

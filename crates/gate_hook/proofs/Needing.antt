@@ -1,5 +1,5 @@
 -- No more of the input is taken than the answer needs.
-use Rattle.std.proofs.Common.{◌≡◌, ◌⊎◌, ℕ, ◌+◌, ◌<◌, ◌≤◌, true, false, inl, inr, List, [], ◌++◌, length, drop, Result, sym, ap, subst, ◌∙◌, length-append, append_assoc, arith}
+use Rattle.std.proofs.Common.{◌≡◌, ◌⊎◌, ℕ, ◌+◌, ◌<◌, ◌≤◌, true, false, inl, inr, List, [], ◌++◌, length, drop, Option, Result, sym, ap, subst, ◌∙◌, length-append, append_assoc, arith}
 use Rattle.std.proofs.Math.Dec.{leb}
 use Rattle.std.proofs.lemmas.Bool.Decides.{leb_tells}
 use Rattle.std.proofs.lemmas.List.{append-nil}
@@ -32,7 +32,7 @@ abbrev pub IsNew : List ℕ → Type 0
 IsNew bytes = (length bytes ≡ 0) ⊎ ((front : List ℕ) × (more : List ℕ) × (bytes ≡ front ++ more) × HasNoRequest front × (length more ≤ piece))
 
 -- whatever stands there, if reading ends here
-pub takes-new : (bytes : List ℕ) → IsNew bytes → length bytes ≤ max_head → TakesAsNeeded bytes
+pub takes-new : {token : Option (List ℕ)} (bytes : List ℕ) → IsNew bytes → length bytes ≤ max_head → TakesAsNeeded token bytes
 takes-new bytes (inl empty) limit = record {
   behind = λ head rest is. inl (omega (arith, empty, ap length is.reads.1, length-append (print_request head) rest));
   before = λ _. limit;
@@ -44,13 +44,13 @@ takes-new bytes (inr (front, more, same, none, fits)) limit = record {
 }
 
 -- if a head stands there, it ends in the last piece
-pub few-left : (bytes : List ℕ) (told : Head) → IsHeadOf told bytes → IsNew bytes → length bytes < told.len + piece
+pub few-left : {token : Option (List ℕ)} (bytes : List ℕ) (told : Head) → IsHeadOf token told bytes → IsNew bytes → length bytes < told.len + piece
 few-left bytes told is (inl empty) = omega (arith, empty)
 few-left bytes told is (inr (front, more, same, none, fits)) =
     let few = few-behind front more is.head (drop told.len bytes) none fits (subst (λ (all : List ℕ). ReadsRequest all is.head (drop told.len bytes)) same is.reads) in
     omega (arith, few, is.len, ap length is.reads.1, length-append (print_request is.head) (drop told.len bytes))
 
-pub len-within : (bytes : List ℕ) (told : Head) → IsHeadOf told bytes → told.len ≤ length bytes
+pub len-within : {token : Option (List ℕ)} (bytes : List ℕ) (told : Head) → IsHeadOf token told bytes → told.len ≤ length bytes
 len-within bytes told is = omega (arith, is.len, ap length is.reads.1, length-append (print_request is.head) (drop told.len bytes))
 
 longer : (bytes rest : List ℕ) (head : RequestHead) (left : List ℕ) → BeginsWith bytes head left → BeginsWith (bytes ++ rest) head (left ++ rest)
@@ -61,32 +61,32 @@ longer bytes rest head left is = record {
 }
 
 -- input in which no head comes
-pub takes-none : (bytes rest : List ℕ) → HasNoHead (bytes ++ rest) → length bytes ≤ max_head → TakesAsNeeded bytes
+pub takes-none : {token : Option (List ℕ)} (bytes rest : List ℕ) → HasNoHead (bytes ++ rest) → length bytes ≤ max_head → TakesAsNeeded token bytes
 takes-none bytes rest none limit = record {
   behind = λ head left is. absurd (none head (left ++ rest) (longer bytes rest head left is));
   before = λ _. limit;
 }
 
 -- all that was read begins with the head that was found
-whole : (first more : List ℕ) (told : Head) (is : IsHeadOf told first) → told.len ≤ max_head → BeginsWith (first ++ more) is.head (drop told.len first ++ more)
+whole : {token : Option (List ℕ)} (first more : List ℕ) (told : Head) (is : IsHeadOf token told first) → told.len ≤ max_head → BeginsWith (first ++ more) is.head (drop told.len first ++ more)
 whole first more told is limit = subst (λ (bytes : List ℕ). BeginsWith bytes is.head (drop told.len first ++ more)) (append-nil (first ++ more))
     (subst (λ (rest : List ℕ). BeginsWith ((first ++ more) ++ []) is.head (drop told.len first ++ rest)) (append-nil more) (begins first more [] told is limit))
 
-length-behind : (first more rest : List ℕ) (told : Head) → IsHeadOf told first → drop told.len first ++ more ≡ rest → told.len + length rest ≡ length (first ++ more)
+length-behind : {token : Option (List ℕ)} (first more rest : List ℕ) (told : Head) → IsHeadOf token told first → drop told.len first ++ more ≡ rest → told.len + length rest ≡ length (first ++ more)
 length-behind first more rest told is same =
     omega (arith, ap length same, is.len, length-append (drop told.len first) more, length-append first more, ap length is.reads.1, length-append (print_request is.head) (drop told.len first))
 
-few-or-needed : (first more rest : List ℕ) (head : RequestHead) (told : Head) (is : IsHeadOf told first) → length first < told.len + piece
+few-or-needed : {token : Option (List ℕ)} (first more rest : List ℕ) (head : RequestHead) (told : Head) (is : IsHeadOf token told first) → length first < told.len + piece
     → EndsWithin first more told.len (needed_by told.ask) → (is.head ≡ head) × (drop told.len first ++ more ≡ rest)
-    → (length rest < piece) ⊎ (length rest ≤ needed_by (ask_in head))
-few-or-needed first more rest head told is few (inl empty) same =
+    → (length rest < piece) ⊎ (length rest ≤ needed_by (ask_in token head))
+few-or-needed {token} first more rest head told is few (inl empty) same =
     inl (omega (arith, few, length-behind first more rest told is same.1, length-append first more, ap length empty))
-few-or-needed first more rest head told is few (inr inside) same =
-    inr (subst (λ (said : Result Ask Refusal). length rest ≤ needed_by said) (is.ask ∙ ap ask_in same.0) (omega (arith, inside, length-behind first more rest told is same.1)))
+few-or-needed {token} first more rest head told is few (inr inside) same =
+    inr (subst (λ (said : Result Ask Refusal). length rest ≤ needed_by said) (is.ask ∙ ap (ask_in token) same.0) (omega (arith, inside, length-behind first more rest told is same.1)))
 
 -- a head, and what was read behind it
-pub takes-behind : (first more : List ℕ) (told : Head) → IsHeadOf told first → told.len ≤ max_head → length first < told.len + piece
-    → EndsWithin first more told.len (needed_by told.ask) → TakesAsNeeded (first ++ more)
+pub takes-behind : {token : Option (List ℕ)} (first more : List ℕ) (told : Head) → IsHeadOf token told first → told.len ≤ max_head → length first < told.len + piece
+    → EndsWithin first more told.len (needed_by told.ask) → TakesAsNeeded token (first ++ more)
 takes-behind first more told is limit few ends = record {
   behind = λ head rest found.
       few-or-needed first more rest head told is few ends

@@ -1,5 +1,5 @@
 -- A delivery that a request asks for keeps the limits of its type, and is served as the run on it.
-use Rattle.std.proofs.Common.{ℕ, List, [], Result, Ok, Err, inl, inr, IfOk, sym, subst}
+use Rattle.std.proofs.Common.{ℕ, List, [], Option, Result, Ok, Err, inl, inr, IfOk, sym, subst}
 use Rattle.std.specs.Prelude.{⊤}
 use Rattle.std.proofs.lemmas.List.Elements.{All-nil, All-cons}
 use Rattle.gate_text.specs.Steps.{◌>>=◌}
@@ -35,13 +35,13 @@ asked_keeps (Ok (ask.Delivery size)) rest = body_keeps (body_in size rest)
 asked_keeps (Ok (ask.Report report)) rest = tt
 asked_keeps (Err refusal) rest = tt
 
-wish_keeps : (input : List ℕ) (wish : Result Request Refusal) → Asks input wish → WishKeeps wish
-wish_keeps input wish (inl asks) = subst WishKeeps (sym asks.3) (asked_keeps (ask_in asks.0) asks.1)
-wish_keeps input wish (inr none) = subst WishKeeps (sym none.1) tt
+wish_keeps : (token : Option (List ℕ)) (input : List ℕ) (wish : Result Request Refusal) → Asks token input wish → WishKeeps wish
+wish_keeps token input wish (inl asks) = subst WishKeeps (sym asks.3) (asked_keeps (ask_in token asks.0) asks.1)
+wish_keeps token input wish (inr none) = subst WishKeeps (sym none.1) tt
 
 -- THE LAW
 pub requests_law : LawOfHeadlines → LawOfRequests
-requests_law law old input delivery asks room = law old _ (All-cons DeliveryKeeps delivery [] (wish_keeps input _ asks) (All-nil DeliveryKeeps)) (room, tt)
+requests_law law token old input delivery asks room = law old _ (All-cons DeliveryKeeps delivery [] (wish_keeps token input _ asks) (All-nil DeliveryKeeps)) (room, tt)
 
 pub request_histories_law : LawOfTelling → LawOfRequestHistories
-request_histories_law law old input delivery asks room = law old _ (All-cons DeliveryKeeps delivery [] (wish_keeps input _ asks) (All-nil DeliveryKeeps)) (room, tt)
+request_histories_law law token old input delivery asks room = law old _ (All-cons DeliveryKeeps delivery [] (wish_keeps token input _ asks) (All-nil DeliveryKeeps)) (room, tt)

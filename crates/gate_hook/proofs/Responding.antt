@@ -7,7 +7,7 @@ use Rattle.gate_queue.specs.declared.fault.Fault.TheVariants.{Memory, Store, Ful
 use Rattle.gate_store.specs.Run.{IsOpenAfter, Records}
 use Rattle.gate_hook.specs.Receiving.{IsInput, IsUnread}
 use Rattle.gate_hook.specs.Requests.{Asks}
-use Rattle.gate_hook.specs.Responding.{Answers, HasSent, Responds}
+use Rattle.gate_hook.specs.Responding.{Answers, HasConsumed, HasSent, IsTranscript, Responds}
 use Rattle.gate_hook.specs.Responses.{Response, fault_response, response_text}
 use Rattle.gate_hook.specs.Sending.{IsCutOff}
 use Rattle.gate_hook.specs.Served.{AnswersOne, AsksNoDelivery, Breaks, IsDue, StaysServing, after_wish, report_in, response_to, response_to_report}
@@ -17,7 +17,7 @@ use Rattle.gate_hook.specs.declared.refusal.Refusal.{Refusal}
 use Rattle.gate_hook.specs.declared.requests.Request.{Request}
 use Rattle.gate_hook.specs.declared.requests.Request.TheVariants.{Delivery, Report}
 use Rattle.gate_hook.specs.declared.requests.Served.{Served}
-use Rattle.gate_hook.specs.declared.refusal.Refusal.TheVariants.{BadRequest, NotFound, MethodNotAllowed, NotImplemented, LengthRequired, ContentTooLarge, NoDelivery}
+use Rattle.gate_hook.specs.declared.refusal.Refusal.TheVariants.{BadRequest, Unauthorized, NotFound, MethodNotAllowed, NotImplemented, LengthRequired, ContentTooLarge, NoDelivery}
 use Rattle.gate_hook.specs.declared.reading.DeliveryFault.TheVariants.{NotJson, BadField, UnknownEvent, Memory as NoMemory}
 use Rattle.gate_hook.specs.declared.response.Response.{Response as Made}
 use Rattle.gate_hook.proofs.NoHead.{is-left, left_of}
@@ -26,58 +26,78 @@ use Rattle.gate_hook.proofs.NoHead.{is-left, left_of}
 pub some-input : (before after : Option (List ℕ)) → ((taken : List ℕ) × Consumes before after taken) → (input : List ℕ) × IsInput before after input
 some-input before after (taken, consumed) = (taken ++ left_of after, (taken, left_of after, consumed, is-left after, refl))
 
-pub answers-unread : (fault : HookFault) (input : List ℕ) (records : Records) → IsUnread fault → Answers (Err fault) input records records
-answers-unread fault input records (inl read) = rw read refl
-answers-unread fault input records (inr memory) = rw memory (inl refl)
+pub answers-unread : (token : Option (List ℕ)) (fault : HookFault) (input : List ℕ) (records : Records) → IsUnread fault → Answers token (Err fault) input records records
+answers-unread token fault input records (inl read) = rw read refl
+answers-unread token fault input records (inr memory) = rw memory (inl refl)
 
 -- ONE THAT WAS READ
-pub answers-read : (result : Result Made HookFault) (input : List ℕ) (wish : Result Request Refusal) (old new : Records)
-    → Asks input wish → Responds result old wish new → Answers result input old new
-answers-read (Ok made) input wish old new asks responds = (wish, asks, responds.0, responds.1, responds.2)
-answers-read (Err (Gate Memory)) input wish old new asks (inl same) = inl same
-answers-read (Err (Gate Memory)) input wish old new asks (inr kept) = inr (wish, asks, kept.0, kept.1)
-answers-read (Err (Gate Store)) input wish old new asks responds = (responds.0, (wish, asks, responds.1))
-answers-read (Err (Gate Full)) input wish old new asks responds = (responds.0, (wish, asks, responds.1))
-answers-read (Err (Gate Foreign)) input wish old new asks responds = absurd responds
-answers-read (Err Read) input wish old new asks responds = absurd responds
-answers-read (Err Write) input wish old new asks responds = absurd responds
-answers-read (Err TooMuch) input wish old new asks responds = absurd responds
+pub answers-read : (token : Option (List ℕ)) (result : Result Made HookFault) (input : List ℕ) (wish : Result Request Refusal) (old new : Records)
+    → Asks token input wish → Responds result old wish new → Answers token result input old new
+answers-read token (Ok made) input wish old new asks responds = (wish, asks, responds.0, responds.1, responds.2)
+answers-read token (Err (Gate Memory)) input wish old new asks (inl same) = inl same
+answers-read token (Err (Gate Memory)) input wish old new asks (inr kept) = inr (wish, asks, kept.0, kept.1)
+answers-read token (Err (Gate Store)) input wish old new asks responds = (responds.0, (wish, asks, responds.1))
+answers-read token (Err (Gate Full)) input wish old new asks responds = (responds.0, (wish, asks, responds.1))
+answers-read token (Err (Gate Foreign)) input wish old new asks responds = absurd responds
+answers-read token (Err Read) input wish old new asks responds = absurd responds
+answers-read token (Err Write) input wish old new asks responds = absurd responds
+answers-read token (Err TooMuch) input wish old new asks responds = absurd responds
 
 -- WHAT IS SENT
-due : (made : Made) (input : List ℕ) (old new : Records) → (is : Answers (Ok made) input old new) → IsDue input old (response_to old is.0) None new
-due made input old new is = (is.0, is.1, refl, is.3, is.4)
+due : (token : Option (List ℕ)) (made : Made) (input : List ℕ) (old new : Records) → (is : Answers token (Ok made) input old new) → IsDue token input old (response_to old is.0) None new
+due token made input old new is = (is.0, is.1, refl, is.3, is.4)
 
-pub sends-response : (result : Result Served HookFault) (made : Made) (input : List ℕ) (old new : Records) (before after : Option (List ℕ))
-    → Answers (Ok made) input old new → HasSent result (record { status = made.status; fault = None }) (string_bytes made.text) before after
-    → AnswersOne result input old new before after
-sends-response (Ok done) made input old new before after is sent =
-    subst (λ (served : Served). AnswersOne (Ok served) input old new before after) (sym sent.0)
-    (response_to old is.0, due made input old new is, is.2.status, subst (Appends before after) is.2.text sent.1)
-sends-response (Err Write) made input old new before after is sent = (
+pub sends-response : (token : Option (List ℕ)) (result : Result Served HookFault) (made : Made) (input : List ℕ) (old new : Records) (before after : Option (List ℕ))
+    → Answers token (Ok made) input old new → HasSent result (record { status = made.status; fault = None }) (string_bytes made.text) before after
+    → AnswersOne token result input old new before after
+sends-response token (Ok done) made input old new before after is sent =
+    subst (λ (served : Served). AnswersOne token (Ok served) input old new before after) (sym sent.0)
+    (response_to old is.0, due token made input old new is, is.2.status, subst (Appends before after) is.2.text sent.1)
+sends-response token (Err Write) made input old new before after is sent = (
   response_to old is.0,
   None,
-  due made input old new is,
+  due token made input old new is,
   subst (λ (text : List ℕ). (taken : ℕ) × (taken < length text) × Appends before after (take taken text)) is.2.text sent,
 )
-sends-response (Err Read) made input old new before after is sent = absurd sent
-sends-response (Err (Gate fault)) made input old new before after is sent = absurd sent
-sends-response (Err TooMuch) made input old new before after is sent = absurd sent
+sends-response token (Err Read) made input old new before after is sent = absurd sent
+sends-response token (Err (Gate fault)) made input old new before after is sent = absurd sent
+sends-response token (Err TooMuch) made input old new before after is sent = absurd sent
 
-pub sends-fault : (result : Result Served HookFault) (fault : Fault) (input : List ℕ) (old new : Records) (before after : Option (List ℕ)) (text : List ℕ)
-    → text ≡ response_text fault_response → Breaks input fault old new → HasSent result (record { status = 503; fault = Some fault }) text before after
-    → AnswersOne result input old new before after
-sends-fault (Ok done) fault input old new before after text is breaks sent =
-    subst (λ (served : Served). AnswersOne (Ok served) input old new before after) (sym sent.0)
+pub sends-fault : (token : Option (List ℕ)) (result : Result Served HookFault) (fault : Fault) (input : List ℕ) (old new : Records) (before after : Option (List ℕ)) (text : List ℕ)
+    → text ≡ response_text fault_response → Breaks token input fault old new → HasSent result (record { status = 503; fault = Some fault }) text before after
+    → AnswersOne token result input old new before after
+sends-fault token (Ok done) fault input old new before after text is breaks sent =
+    subst (λ (served : Served). AnswersOne token (Ok served) input old new before after) (sym sent.0)
     (fault_response, (refl, breaks), refl, subst (Appends before after) is sent.1)
-sends-fault (Err Write) fault input old new before after text is breaks sent = (
+sends-fault token (Err Write) fault input old new before after text is breaks sent = (
   fault_response,
   Some fault,
   (refl, breaks),
   subst (λ (text : List ℕ). (taken : ℕ) × (taken < length text) × Appends before after (take taken text)) is sent,
 )
-sends-fault (Err Read) fault input old new before after text is breaks sent = absurd sent
-sends-fault (Err (Gate other)) fault input old new before after text is breaks sent = absurd sent
-sends-fault (Err TooMuch) fault input old new before after text is breaks sent = absurd sent
+sends-fault token (Err Read) fault input old new before after text is breaks sent = absurd sent
+sends-fault token (Err (Gate other)) fault input old new before after text is breaks sent = absurd sent
+sends-fault token (Err TooMuch) fault input old new before after text is breaks sent = absurd sent
+
+-- THE TRANSCRIPT
+pub consumed-anyhow : {X : Type 0} (result : Result X HookFault) (before after : Option (List ℕ)) (bytes : List ℕ) → Consumes before after bytes → HasConsumed result before after bytes
+consumed-anyhow (Ok done) before after bytes consumed = consumed
+consumed-anyhow (Err fault) before after bytes consumed = tt
+
+pub written-down : (result : Result Served HookFault) (status : ℕ) (request response text : List ℕ) (before after old new : Option (List ℕ))
+    → text ≡ response → Consumes before after request
+    → HasSent result (record { status = status; fault = None }) text old new
+    → IfOk result (λ (served : Served). IsTranscript request response served.fault before after old new)
+written-down (Ok done) status request response text before after old new is consumed sent =
+    subst (λ (served : Served). IsTranscript request response served.fault before after old new) (sym sent.0) (consumed, subst (Appends old new) is sent.1)
+written-down (Err fault) status request response text before after old new is consumed sent = tt
+
+pub not-written-down : (result : Result Served HookFault) (status : ℕ) (fault : Fault) (request response text : List ℕ) (before after old new : Option (List ℕ))
+    → HasSent result (record { status = status; fault = Some fault }) text old new
+    → IfOk result (λ (served : Served). IsTranscript request response served.fault before after old new)
+not-written-down (Ok done) status fault request response text before after old new sent =
+    subst (λ (served : Served). IsTranscript request response served.fault before after old new) (sym sent.0) tt
+not-written-down (Err other) status fault request response text before after old new sent = tt
 
 -- WHAT IS TOLD OF A BOOK THAT WAS SOUND AND IS HONEST
 pub stays-response : (result : Result Served HookFault) (made : Made) (sound : Type 0) (before after : Option (List ℕ))
@@ -108,26 +128,26 @@ known-input (Some known) whole input is = is.4 ∙ ap (λ (rest : List ℕ). is.
 same-input : (before after : Option (List ℕ)) (whole input : List ℕ) → before ≡ Some whole → IsInput before after input → input ≡ whole
 same-input before after whole input known is = known-input after whole input (subst (λ (old : Option (List ℕ)). IsInput old after input) known is)
 
-quiet-wish : (wish : Result Request Refusal) (input : List ℕ) (old new : Records) → AsksNoDelivery input → Asks input wish → new ≡ after_wish old wish → new ≡ old
-quiet-wish (Ok (Delivery delivery)) input old new none asks is = absurd (none delivery asks)
-quiet-wish (Ok (Report report)) input old new none asks is = is
-quiet-wish (Err refusal) input old new none asks is = is
+quiet-wish : (token : Option (List ℕ)) (wish : Result Request Refusal) (input : List ℕ) (old new : Records) → AsksNoDelivery token input → Asks token input wish → new ≡ after_wish old wish → new ≡ old
+quiet-wish token (Ok (Delivery delivery)) input old new none asks is = absurd (none delivery asks)
+quiet-wish token (Ok (Report report)) input old new none asks is = is
+quiet-wish token (Err refusal) input old new none asks is = is
 
-pub quiet-same : (result : Result Made HookFault) (input : List ℕ) (old new : Records) → AsksNoDelivery input → Answers result input old new → new ≡ old
-quiet-same (Ok made) input old new none is = quiet-wish is.0 input old new none is.1 is.3
-quiet-same (Err (Gate Memory)) input old new none (inl same) = same
-quiet-same (Err (Gate Memory)) input old new none (inr kept) = quiet-wish kept.0 input old new none kept.1 kept.2
-quiet-same (Err (Gate Store)) input old new none is = is.0
-quiet-same (Err (Gate Full)) input old new none is = is.0
-quiet-same (Err (Gate Foreign)) input old new none is = absurd is
-quiet-same (Err Read) input old new none is = is
-quiet-same (Err Write) input old new none is = absurd is
-quiet-same (Err TooMuch) input old new none is = absurd is
+pub quiet-same : (token : Option (List ℕ)) (result : Result Made HookFault) (input : List ℕ) (old new : Records) → AsksNoDelivery token input → Answers token result input old new → new ≡ old
+quiet-same token (Ok made) input old new none is = quiet-wish token is.0 input old new none is.1 is.3
+quiet-same token (Err (Gate Memory)) input old new none (inl same) = same
+quiet-same token (Err (Gate Memory)) input old new none (inr kept) = quiet-wish token kept.0 input old new none kept.1 kept.2
+quiet-same token (Err (Gate Store)) input old new none is = is.0
+quiet-same token (Err (Gate Full)) input old new none is = is.0
+quiet-same token (Err (Gate Foreign)) input old new none is = absurd is
+quiet-same token (Err Read) input old new none is = is
+quiet-same token (Err Write) input old new none is = absurd is
+quiet-same token (Err TooMuch) input old new none is = absurd is
 
-pub unchanged : (result : Result Made HookFault) (before after : Option (List ℕ)) (whole input : List ℕ) (old new : Records)
-    → before ≡ Some whole → IsInput before after input → Answers result input old new → AsksNoDelivery whole → new ≡ old
-unchanged result before after whole input old new known is answers none =
-    quiet-same result input old new (subst AsksNoDelivery (sym (same-input before after whole input known is)) none) answers
+pub unchanged : (token : Option (List ℕ)) (result : Result Made HookFault) (before after : Option (List ℕ)) (whole input : List ℕ) (old new : Records)
+    → before ≡ Some whole → IsInput before after input → Answers token result input old new → AsksNoDelivery token whole → new ≡ old
+unchanged token result before after whole input old new known is answers none =
+    quiet-same token result input old new (subst (AsksNoDelivery token) (sym (same-input before after whole input known is)) none) answers
 
 -- 503 IS THE STATUS AFTER A FAULT ALONE
 report-not_503 : (text : Option (List ℕ)) → (response_to_report text).status ≡ 503 → ⊥
@@ -138,6 +158,7 @@ not_503 : (records : Records) (wish : Result Request Refusal) → (response_to r
 not_503 records (Ok (Delivery delivery)) is = grind (arith, is)
 not_503 records (Ok (Report report)) is = report-not_503 (report_in records.state report) is
 not_503 records (Err BadRequest) is = grind (arith, is)
+not_503 records (Err Unauthorized) is = grind (arith, is)
 not_503 records (Err NotFound) is = grind (arith, is)
 not_503 records (Err (MethodNotAllowed target)) is = grind (arith, is)
 not_503 records (Err NotImplemented) is = grind (arith, is)
@@ -148,12 +169,12 @@ not_503 records (Err (NoDelivery (BadField field))) is = grind (arith, is)
 not_503 records (Err (NoDelivery UnknownEvent)) is = grind (arith, is)
 not_503 records (Err (NoDelivery NoMemory)) is = grind (arith, is)
 
-told : (status : ℕ) (fault : Option Fault) (input : List ℕ) (old new : Records) (response : Response) → IsDue input old response fault new → status ≡ response.status
+told : (token : Option (List ℕ)) (status : ℕ) (fault : Option Fault) (input : List ℕ) (old new : Records) (response : Response) → IsDue token input old response fault new → status ≡ response.status
     → (status ≡ 503) ↔ IsSome fault
-told status None input old new response is_due is = (λ (unavailable : status ≡ 503). absurd (not_503 old is_due.0 (sym (ap (λ (one : Response). one.status) is_due.2) ∙ sym is ∙ unavailable)), λ some. absurd (true≢false (sym some)))
-told status (Some fault) input old new response is_due is = (λ unavailable. refl, λ some. is ∙ ap (λ (one : Response). one.status) is_due.0)
+told token status None input old new response is_due is = (λ (unavailable : status ≡ 503). absurd (not_503 old is_due.0 (sym (ap (λ (one : Response). one.status) is_due.2) ∙ sym is ∙ unavailable)), λ some. absurd (true≢false (sym some)))
+told token status (Some fault) input old new response is_due is = (λ unavailable. refl, λ some. is ∙ ap (λ (one : Response). one.status) is_due.0)
 
-pub exact-one : (result : Result Served HookFault) (input : List ℕ) (old new : Records) (before after : Option (List ℕ))
-    → AnswersOne result input old new before after → IfOk result (λ (served : Served). (served.status ≡ 503) ↔ IsSome served.fault)
-exact-one (Ok served) input old new before after is = told served.status served.fault input old new is.0 is.1 is.2
-exact-one (Err fault) input old new before after is = tt
+pub exact-one : (token : Option (List ℕ)) (result : Result Served HookFault) (input : List ℕ) (old new : Records) (before after : Option (List ℕ))
+    → AnswersOne token result input old new before after → IfOk result (λ (served : Served). (served.status ≡ 503) ↔ IsSome served.fault)
+exact-one token (Ok served) input old new before after is = told token served.status served.fault input old new is.0 is.1 is.2
+exact-one token (Err fault) input old new before after is = tt

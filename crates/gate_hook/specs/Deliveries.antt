@@ -14,10 +14,10 @@ use Rattle.serde_json.specs.declared.value.Value.{Value}
 use Rattle.std.specs.Borrow.{Bor}
 use Rattle.gate_rules.specs.declared.role.Role.{Role as RoleOf}
 use Rattle.gate_rules.specs.declared.role.Role.TheVariants.{Nobody, Member, Reviewer}
+use Rattle.gate_state.specs.Words.{state_called}
 use Rattle.gate_state.specs.declared.act.ChangeFact.TheVariants.{Opened, Pushed, Closed, Labeled, Unlabeled, Review}
 use Rattle.gate_state.specs.declared.act.Fact.TheVariants.{Role, Settings, Base, Staged, Conflict, Status, Refused, Tick}
 use Rattle.gate_state.specs.declared.act.StatusState.{StatusState}
-use Rattle.gate_state.specs.declared.act.StatusState.TheVariants.{Success, Failure, Error, Pending}
 use Rattle.gate_store.specs.declared.delivery.Delivery.{Delivery}
 use Rattle.gate_store.specs.declared.delivery.Event.{Event}
 use Rattle.gate_store.specs.declared.delivery.Event.TheVariants.{Comment, On, Other}
@@ -115,14 +115,6 @@ abbrev pub role_at : Data → Result RoleOf DeliveryFault
 role_at d = do
   text ← text_at field.Role d
   required field.Role (role_called text)
-
-abbrev pub state_called : List ℕ → Option StatusState
-state_called text =
-    if bytes_eq text (codes "success") then Some Success
-    else (if bytes_eq text (codes "failure") then Some Failure
-    else (if bytes_eq text (codes "error") then Some Error
-    else (if bytes_eq text (codes "pending") then Some Pending
-    else None)))
 
 abbrev pub state_at : Data → Result StatusState DeliveryFault
 state_at d = do

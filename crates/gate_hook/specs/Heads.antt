@@ -9,10 +9,11 @@ use Rattle.httparse.specs.Grammar.{RequestHead, ReadsRequest, print_request}
 use Rattle.httparse.specs.Spans.{name_and_value}
 use Rattle.gate_text.specs.Steps.{◌>>=◌}
 use Rattle.gate_hook.specs.Targets.{method_of, target_of}
+use Rattle.gate_hook.specs.Tokens.{is_let_in}
 use Rattle.gate_hook.specs.declared.head.Ask.{Ask}
 use Rattle.gate_hook.specs.declared.head.Ask.TheVariants.{Delivery, Report}
 use Rattle.gate_hook.specs.declared.refusal.Refusal.{Refusal}
-use Rattle.gate_hook.specs.declared.refusal.Refusal.TheVariants.{BadRequest, NotFound, MethodNotAllowed, NotImplemented, LengthRequired, ContentTooLarge}
+use Rattle.gate_hook.specs.declared.refusal.Refusal.TheVariants.{BadRequest, Unauthorized, NotFound, MethodNotAllowed, NotImplemented, LengthRequired, ContentTooLarge}
 use Rattle.gate_hook.specs.declared.target.Target.{Target}
 use Rattle.gate_hook.specs.declared.target.Target.TheVariants.{Deliveries, Report as ReportOf}
 
@@ -97,9 +98,15 @@ ask_by target method head = do
   right ← checked (bytes_eq method (method_of target)) (MethodNotAllowed target)
   ask_of target head
 
--- what a head asks for
-abbrev pub ask_in : RequestHead → Result Ask Refusal
-ask_in head = do
+-- what a head asks for that is let in
+abbrev pub ask_let_in : RequestHead → Result Ask Refusal
+ask_let_in head = do
   host ← checked (head.minor == 0 || has_one (values_of (codes "host") head)) BadRequest
   target ← known (target_of (path_of head.target))
   ask_by target head.method head
+
+-- what a head asks for, if this token is needed, or none: whether it is let in is looked at first
+abbrev pub ask_in : Option (List ℕ) → RequestHead → Result Ask Refusal
+ask_in token head = do
+  let_in ← checked (is_let_in token (values_of (codes "authorization") head)) Unauthorized
+  ask_let_in head

@@ -12,25 +12,33 @@ use Rattle.gate_hook.specs.declared.fault.HookFault.TheVariants.{Gate, Read, Wri
 use Rattle.gate_hook.specs.declared.head.Found.{Found}
 use Rattle.gate_hook.specs.declared.head.Found.TheVariants.{Whole, Unfinished, Never}
 use Rattle.gate_hook.specs.declared.head.Head.{Head}
+use Rattle.gate_hook.specs.declared.head.RequestLine.{RequestLine}
 use Rattle.gate_hook.specs.declared.requests.Request.{Request}
+use Rattle.gate_hook.specs.Tokens.{token_in}
 
 -- the first of some values, if there is one
 abbrev pub first_value : List (List ℕ) → Option (List ℕ)
 first_value [] = None
 first_value (value ∷ others) = Some value
 
--- these bytes begin with a head, of which this is told
-pub record IsHeadOf (told : Head) (bytes : List ℕ) : Type 0 where
+-- these bytes begin with a head, of which this is told, if this token is needed, or none
+pub record IsHeadOf (token : Option (List ℕ)) (told : Head) (bytes : List ℕ) : Type 0 where
   pub head : RequestHead
   pub reads : ReadsRequest bytes head (drop told.len bytes)
   pub len : told.len ≡ length (print_request head)
   pub fields : length head.fields ≤ max_fields
-  pub ask : told.ask ≡ ask_in head
+  pub ask : told.ask ≡ ask_in token head
 
-abbrev pub IsFound : Found → List ℕ → Type 0
-IsFound (Whole told) bytes = IsHeadOf told bytes
-IsFound Unfinished bytes = HasNoRequest bytes
-IsFound Never bytes = RequestOverflows max_fields bytes
+abbrev pub IsFound : Option (List ℕ) → Found → List ℕ → Type 0
+IsFound token (Whole told) bytes = IsHeadOf token told bytes
+IsFound token Unfinished bytes = HasNoRequest bytes
+IsFound token Never bytes = RequestOverflows max_fields bytes
+
+-- the first line of the head with which these bytes begin, if they have one
+abbrev pub IsLineOf : Option RequestLine → List ℕ → Type 0
+IsLineOf None bytes = HasNoRequest bytes ⊎ RequestOverflows max_fields bytes
+IsLineOf (Some line) bytes =
+    (head : RequestHead) × (rest : List ℕ) × ReadsRequest bytes head rest × (line.method.now ≡ head.method) × (line.target.now ≡ head.target)
 
 -- these bytes are what a reader has left, if that is known
 abbrev pub IsLeft : Option (List ℕ) → List ℕ → Type 0
@@ -57,21 +65,21 @@ IsMore (Err fault) before after old new room =
     IsUnread fault × ((taken : List ℕ) × Consumes before after taken × (length taken ≤ room) × (length taken ≤ piece))
 
 -- no more of the input was taken than its answer needs
-abbrev pub HasTaken : Option (List ℕ) → Option (List ℕ) → Type 0
-HasTaken before after = (taken : List ℕ) × Consumes before after taken × TakesAsNeeded taken
+abbrev pub HasTaken : Option (List ℕ) → Option (List ℕ) → Option (List ℕ) → Type 0
+HasTaken token before after = (taken : List ℕ) × Consumes before after taken × TakesAsNeeded token taken
 
 -- the request wasn't read
-abbrev pub Fails : HookFault → Option (List ℕ) → Option (List ℕ) → Type 0
-Fails fault before after = IsUnread fault × HasTaken before after
+abbrev pub Fails : Option (List ℕ) → HookFault → Option (List ℕ) → Option (List ℕ) → Type 0
+Fails token fault before after = IsUnread fault × HasTaken token before after
 
 -- The bytes that were read begin with a head within the limit, and fewer than a piece stand behind it; or with what is left of the
 -- input they have no head.
-abbrev pub HasReadHead : Result (Option Head) HookFault → Option (List ℕ) → Option (List ℕ) → List ℕ → Type 0
-HasReadHead (Ok (Some told)) before after bytes =
-    Consumes before after bytes × IsHeadOf told bytes × (told.len ≤ max_head) × (length bytes < told.len + piece)
-HasReadHead (Ok None) before after bytes =
+abbrev pub HasReadHead : Option (List ℕ) → Result (Option Head) HookFault → Option (List ℕ) → Option (List ℕ) → List ℕ → Type 0
+HasReadHead token (Ok (Some told)) before after bytes =
+    Consumes before after bytes × IsHeadOf token told bytes × (told.len ≤ max_head) × (length bytes < told.len + piece)
+HasReadHead token (Ok None) before after bytes =
     Consumes before after bytes × ((rest : List ℕ) × IsLeft after rest × HasNoHead (bytes ++ rest)) × (length bytes ≤ max_head)
-HasReadHead (Err fault) before after bytes = Fails fault before after
+HasReadHead token (Err fault) before after bytes = Fails token fault before after
 
 -- There are no more bytes, or they end within so many behind the first `front`.
 abbrev pub EndsWithin : (old more : List ℕ) (front size : ℕ) → Type 0
@@ -88,16 +96,21 @@ HasReadBody (Err fault) before after old new front size =
 abbrev pub IsInput : Option (List ℕ) → Option (List ℕ) → List ℕ → Type 0
 IsInput before after input = (taken : List ℕ) × (rest : List ℕ) × Consumes before after taken × IsLeft after rest × (input ≡ taken ++ rest)
 
+-- The input holds this token, or none; or the input wasn't read.
+abbrev pub HasReadToken : Result (Option (List ℕ)) HookFault → Option (List ℕ) → Option (List ℕ) → Type 0
+HasReadToken (Ok read) before after = (input : List ℕ) × IsInput before after input × (read ≡ token_in input)
+HasReadToken (Err fault) before after = IsUnread fault
+
 -- The request was read, as far as its answer needs.
-abbrev pub HasAsked : Result (Result Request Refusal) HookFault → Option (List ℕ) → Option (List ℕ) → Type 0
-HasAsked (Ok wish) before after = ((input : List ℕ) × IsInput before after input × Asks input wish) × HasTaken before after
-HasAsked (Err fault) before after = Fails fault before after
+abbrev pub HasAsked : Option (List ℕ) → Result (Result Request Refusal) HookFault → Option (List ℕ) → Option (List ℕ) → Type 0
+HasAsked token (Ok wish) before after = ((input : List ℕ) × IsInput before after input × Asks token input wish) × HasTaken token before after
+HasAsked token (Err fault) before after = Fails token fault before after
 
 -- Whether these bytes are as many as the answer needs: a head and its body, or so much that there is no head.
-abbrev pub IsEnough : Bool → List ℕ → Type 0
-IsEnough true bytes =
-    ((head : RequestHead) × (rest : List ℕ) × ReadsRequest bytes head rest × (needed_by (ask_in head) ≤ length rest))
+abbrev pub IsEnough : Option (List ℕ) → Bool → List ℕ → Type 0
+IsEnough token true bytes =
+    ((head : RequestHead) × (rest : List ℕ) × ReadsRequest bytes head rest × (needed_by (ask_in token head) ≤ length rest))
     ⊎ (RequestOverflows max_fields bytes ⊎ (max_head ≤ length bytes))
-IsEnough false bytes =
-    ((head : RequestHead) × (rest : List ℕ) × ReadsRequest bytes head rest × (length rest < needed_by (ask_in head)))
+IsEnough token false bytes =
+    ((head : RequestHead) × (rest : List ℕ) × ReadsRequest bytes head rest × (length rest < needed_by (ask_in token head)))
     ⊎ (HasNoRequest bytes × (length bytes < max_head))

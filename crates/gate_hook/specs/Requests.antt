@@ -1,5 +1,5 @@
 -- REQUESTS: what a request asks for, or why it is refused, in the order of the checks.
-use Rattle.std.specs.Prelude.{◌≡◌, ◌⊎◌, ℕ, ◌<◌, ◌≤◌, nat_le, List, length, take, Result, Ok, Err, if◌then◌else◌}
+use Rattle.std.specs.Prelude.{◌≡◌, ◌⊎◌, ℕ, ◌<◌, ◌≤◌, nat_le, List, length, take, Option, Result, Ok, Err, if◌then◌else◌}
 use Rattle.httparse.specs.Grammar.{RequestHead}
 use Rattle.gate_text.specs.Steps.{◌>>=◌}
 use Rattle.gate_store.specs.declared.delivery.Delivery.{Delivery}
@@ -33,14 +33,14 @@ asked_by said rest = do
   ask ← said
   asked_for ask rest
 
--- what the request asks for
-abbrev pub asked : RequestHead → List ℕ → Result Request Refusal
-asked head rest = asked_by (ask_in head) rest
+-- what the request asks for, if this token is needed, or none
+abbrev pub asked : Option (List ℕ) → RequestHead → List ℕ → Result Request Refusal
+asked token head rest = asked_by (ask_in token head) rest
 
 -- what the input asks for: it has one head at the most, and input without a head is refused
-abbrev pub Asks : List ℕ → Result Request Refusal → Type 0
-Asks input wish =
-    ((head : RequestHead) × (rest : List ℕ) × BeginsWith input head rest × (wish ≡ asked head rest))
+abbrev pub Asks : Option (List ℕ) → List ℕ → Result Request Refusal → Type 0
+Asks token input wish =
+    ((head : RequestHead) × (rest : List ℕ) × BeginsWith input head rest × (wish ≡ asked token head rest))
     ⊎ (HasNoHead input × (wish ≡ Err BadRequest))
 
 -- how many bytes of a body the answer needs
@@ -55,6 +55,6 @@ piece = 1024
 
 -- HOW MUCH IS TAKEN. Behind a head stand as many bytes of the input as the answer needs, or fewer than a piece: they may have come with
 -- the end of the head. Of input that shows no head, as many are taken as a head may have.
-pub record TakesAsNeeded (taken : List ℕ) : Type 0 where
-  pub behind : (head : RequestHead) (rest : List ℕ) → BeginsWith taken head rest → (length rest < piece) ⊎ (length rest ≤ needed_by (ask_in head))
+pub record TakesAsNeeded (token : Option (List ℕ)) (taken : List ℕ) : Type 0 where
+  pub behind : (head : RequestHead) (rest : List ℕ) → BeginsWith taken head rest → (length rest < piece) ⊎ (length rest ≤ needed_by (ask_in token head))
   pub before : HasNoHead taken → length taken ≤ max_head

@@ -1,6 +1,6 @@
 -- How a response is made and sent, for the contracts of the functions that `serve_one` is made of.
-use Rattle.std.specs.Prelude.{◌≡◌, ◌⊎◌, ℕ, ◌<◌, ⊤, List, length, take, Option, Result, Ok, Err}
-use Rattle.std.specs.Io.KnownBytes.{Appends}
+use Rattle.std.specs.Prelude.{◌≡◌, ◌⊎◌, ℕ, ◌<◌, ⊤, List, length, take, Option, Some, None, Result, Ok, Err}
+use Rattle.std.specs.Io.KnownBytes.{Appends, Consumes}
 use Rattle.gate_queue.specs.declared.fault.Fault.{Fault}
 use Rattle.gate_queue.specs.declared.fault.Fault.TheVariants.{Memory, Store, Full, Foreign}
 use Rattle.gate_store.specs.Run.{Records, IsOfKeepers}
@@ -33,13 +33,23 @@ MayFail may_answer Write = ⊥
 MayFail may_answer TooMuch = ⊥
 
 -- what reading a request and making its response leave
-abbrev pub Answers : Result Response HookFault → List ℕ → Records → Records → Type 0
-Answers (Ok made) input old new =
-    (wish : Result Request Refusal) × Asks input wish × IsResponse made (response_to old wish) × (new ≡ after_wish old wish) × HasRoom old wish
-Answers (Err (Gate fault)) input old new = Breaks input fault old new
-Answers (Err Read) input old new = new ≡ old
-Answers (Err Write) input old new = ⊥
-Answers (Err TooMuch) input old new = ⊥
+abbrev pub Answers : Option (List ℕ) → Result Response HookFault → List ℕ → Records → Records → Type 0
+Answers token (Ok made) input old new =
+    (wish : Result Request Refusal) × Asks token input wish × IsResponse made (response_to old wish) × (new ≡ after_wish old wish) × HasRoom old wish
+Answers token (Err (Gate fault)) input old new = Breaks token input fault old new
+Answers token (Err Read) input old new = new ≡ old
+Answers token (Err Write) input old new = ⊥
+Answers token (Err TooMuch) input old new = ⊥
+
+-- these bytes were taken of the input, if nothing went wrong
+abbrev pub HasConsumed : {X : Type 0} → Result X HookFault → Option (List ℕ) → Option (List ℕ) → List ℕ → Type 0
+HasConsumed (Ok _) before after bytes = Consumes before after bytes
+HasConsumed (Err fault) before after bytes = ⊤
+
+-- A transcript, of a request and a response, has what was taken of the input, and what was written. After a fault nothing is said of it.
+abbrev pub IsTranscript : (request response : List ℕ) → Option Fault → (before after old new : Option (List ℕ)) → Type 0
+IsTranscript request response None before after old new = Consumes before after request × Appends old new response
+IsTranscript request response (Some fault) before after old new = ⊤
 
 -- a text was sent whole, or the writer refused it or the rest of it
 abbrev pub HasSent : Result Served HookFault → Served → List ℕ → Option (List ℕ) → Option (List ℕ) → Type 0

@@ -9,13 +9,14 @@ use Rattle.gate_hook.specs.declared.reading.DeliveryFault.{DeliveryFault}
 use Rattle.gate_hook.specs.declared.reading.DeliveryFault.TheVariants.{NotJson, BadField, UnknownEvent, Memory}
 use Rattle.gate_hook.specs.declared.response.Response.{Response as ResponseOf}
 use Rattle.gate_hook.specs.declared.refusal.Refusal.{Refusal}
-use Rattle.gate_hook.specs.declared.refusal.Refusal.TheVariants.{BadRequest, NotFound, MethodNotAllowed, NotImplemented, LengthRequired, ContentTooLarge, NoDelivery}
+use Rattle.gate_hook.specs.declared.refusal.Refusal.TheVariants.{BadRequest, Unauthorized, NotFound, MethodNotAllowed, NotImplemented, LengthRequired, ContentTooLarge, NoDelivery}
 
--- what is sent: the kind of the body if there is one, and the method of the target if another was used
+-- what is sent: the kind of the body if there is one, the method of the target if another was used, and what a token is asked for by
 pub record Response : Type 0 where
   pub status : ℕ
   pub kind : Option (List ℕ)
   pub allow : Option (List ℕ)
+  pub challenge : Option (List ℕ)
   pub body : List ℕ
 
 -- each line ends so
@@ -29,20 +30,22 @@ abbrev pub field_if : List ℕ → Option (List ℕ) → List ℕ
 field_if name (Some value) = field name value
 field_if name None = []
 
--- the message, of which two fields stand here only if they are needed
-abbrev pub message : ℕ → List ℕ → List ℕ → List ℕ → List ℕ
-message status kind allow body =
+-- the message, of which three fields stand here only if they are needed
+abbrev pub message : ℕ → List ℕ → List ℕ → List ℕ → List ℕ → List ℕ
+message status kind allow challenge body =
     (codes "HTTP/1.1 " ++ status_text status ++ line_end)
     ++ (kind
     ++ (field (codes "Content-Length") (decimal (length body))
     ++ (allow
+    ++ (challenge
     ++ (field (codes "Connection") (codes "close")
     ++ (line_end
-    ++ body)))))
+    ++ body))))))
 
 unfoldable pub response_text : Response → List ℕ
 response_text response =
-    message response.status (field_if (codes "Content-Type") response.kind) (field_if (codes "Allow") response.allow) response.body
+    message response.status (field_if (codes "Content-Type") response.kind) (field_if (codes "Allow") response.allow)
+    (field_if (codes "WWW-Authenticate") response.challenge) response.body
 
 -- the kind of a body that is JSON, and of one that is a report
 abbrev pub json : List ℕ
@@ -51,13 +54,17 @@ json = codes "application/json"
 abbrev pub plain : List ℕ
 plain = codes "text/plain; charset=utf-8"
 
+-- the scheme by which a token is asked for (RFC 6750, section 3)
+abbrev pub bearer : List ℕ
+bearer = codes "Bearer realm=\"gate\""
+
 -- WHICH RESPONSE. One without a body:
 abbrev pub bare : ℕ → Response
-bare status = record { status = status; kind = None; allow = None; body = [] }
+bare status = record { status = status; kind = None; allow = None; challenge = None; body = [] }
 
 -- one whose body is a JSON text and a line feed
 abbrev pub of_json : ℕ → List ℕ → Response
-of_json status text = record { status = status; kind = Some json; allow = None; body = text ++ 10 ∷ [] }
+of_json status text = record { status = status; kind = Some json; allow = None; challenge = None; body = text ++ 10 ∷ [] }
 
 -- of a body that is no delivery; `Memory` isn't what a body says, and never comes here
 abbrev pub fault_status : DeliveryFault → ℕ
@@ -68,8 +75,9 @@ fault_status Memory = 400
 
 abbrev pub refusal_response : Refusal → Response
 refusal_response BadRequest = bare 400
+refusal_response Unauthorized = record { status = 401; kind = None; allow = None; challenge = Some bearer; body = [] }
 refusal_response NotFound = bare 404
-refusal_response (MethodNotAllowed target) = record { status = 405; kind = None; allow = Some (method_of target); body = [] }
+refusal_response (MethodNotAllowed target) = record { status = 405; kind = None; allow = Some (method_of target); challenge = None; body = [] }
 refusal_response NotImplemented = bare 501
 refusal_response LengthRequired = bare 411
 refusal_response ContentTooLarge = bare 413
@@ -81,7 +89,7 @@ answer_response text = of_json 200 text
 
 -- a report
 abbrev pub report_response : List ℕ → Response
-report_response text = record { status = 200; kind = Some plain; allow = None; body = text }
+report_response text = record { status = 200; kind = Some plain; allow = None; challenge = None; body = text }
 
 -- after a fault
 abbrev pub fault_response : Response

@@ -62,35 +62,35 @@ IsTaken (Err refusal) = ⊥
 -- The faults, and what each leaves: nothing has changed; or after `Memory`, the delivery has acted and its answer is kept, but there
 -- was no memory for its text or its response. The records fail only at a delivery or a report, and `Full` comes only at a delivery
 -- of which an act meets a full gate. `Foreign` never comes here.
-abbrev pub Breaks : List ℕ → Fault → Records → Records → Type 0
-Breaks input Memory old new =
-    (new ≡ old) ⊎ ((wish : Result Request Refusal) × Asks input wish × (new ≡ after_wish old wish) × HasRoom old wish)
-Breaks input Store old new = (new ≡ old) × ((wish : Result Request Refusal) × Asks input wish × IsTaken wish)
-Breaks input Full old new = (new ≡ old) × ((wish : Result Request Refusal) × Asks input wish × MeetsFull old wish)
-Breaks input Foreign old new = ⊥
+abbrev pub Breaks : Option (List ℕ) → List ℕ → Fault → Records → Records → Type 0
+Breaks token input Memory old new =
+    (new ≡ old) ⊎ ((wish : Result Request Refusal) × Asks token input wish × (new ≡ after_wish old wish) × HasRoom old wish)
+Breaks token input Store old new = (new ≡ old) × ((wish : Result Request Refusal) × Asks token input wish × IsTaken wish)
+Breaks token input Full old new = (new ≡ old) × ((wish : Result Request Refusal) × Asks token input wish × MeetsFull old wish)
+Breaks token input Foreign old new = ⊥
 
 -- this response is due, with this fault if there was one, and leaves these records
-abbrev pub IsDue : List ℕ → Records → Response → Option Fault → Records → Type 0
-IsDue input old response None new =
-    (wish : Result Request Refusal) × Asks input wish × (response ≡ response_to old wish) × (new ≡ after_wish old wish) × HasRoom old wish
-IsDue input old response (Some fault) new = (response ≡ fault_response) × Breaks input fault old new
+abbrev pub IsDue : Option (List ℕ) → List ℕ → Records → Response → Option Fault → Records → Type 0
+IsDue token input old response None new =
+    (wish : Result Request Refusal) × Asks token input wish × (response ≡ response_to old wish) × (new ≡ after_wish old wish) × HasRoom old wish
+IsDue token input old response (Some fault) new = (response ≡ fault_response) × Breaks token input fault old new
 
 -- What serving one request leaves, of the input that there is: the response that is due is written, or a part from its front if the
 -- writer refused the rest; after a failed read nothing is written and nothing has changed.
-abbrev pub AnswersOne : Result Served HookFault → List ℕ → Records → Records → Option (List ℕ) → Option (List ℕ) → Type 0
-AnswersOne (Ok served) input old new before after =
-    (response : Response) × IsDue input old response served.fault new × (served.status ≡ response.status)
+abbrev pub AnswersOne : Option (List ℕ) → Result Served HookFault → List ℕ → Records → Records → Option (List ℕ) → Option (List ℕ) → Type 0
+AnswersOne token (Ok served) input old new before after =
+    (response : Response) × IsDue token input old response served.fault new × (served.status ≡ response.status)
     × Appends before after (response_text response)
-AnswersOne (Err Write) input old new before after =
-    (response : Response) × (fault : Option Fault) × IsDue input old response fault new
+AnswersOne token (Err Write) input old new before after =
+    (response : Response) × (fault : Option Fault) × IsDue token input old response fault new
     × ((taken : ℕ) × (taken < length (response_text response)) × Appends before after (take taken (response_text response)))
-AnswersOne (Err Read) input old new before after = (new ≡ old) × Appends before after []
-AnswersOne (Err (Gate fault)) input old new before after = ⊥
-AnswersOne (Err TooMuch) input old new before after = ⊥
+AnswersOne token (Err Read) input old new before after = (new ≡ old) × Appends before after []
+AnswersOne token (Err (Gate fault)) input old new before after = ⊥
+AnswersOne token (Err TooMuch) input old new before after = ⊥
 
 -- the input asks for no delivery: it is refused, or asks for a report
-abbrev pub AsksNoDelivery : List ℕ → Type 0
-AsksNoDelivery input = (delivery : Delivery) → Asks input (Ok (DeliveryOf delivery)) → ⊥
+abbrev pub AsksNoDelivery : Option (List ℕ) → List ℕ → Type 0
+AsksNoDelivery token input = (delivery : Delivery) → Asks token input (Ok (DeliveryOf delivery)) → ⊥
 
 -- No fault but `Memory` and `Store` may have shut the book, and after any fault this was sent. (`Foreign` never comes here.)
 abbrev pub IsSoundUnless : Option Fault → (sound sent : Type 0) → Type 0

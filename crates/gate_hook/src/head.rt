@@ -4,11 +4,13 @@ ghost use Rattle.std.specs.Char.{is_ascii_digit};
 ghost use Rattle.httparse.specs.Grammar.{RequestHead};
 ghost use Rattle.httparse.specs.Spans.{IsHeaderWithin, IsRequestAt, IsRequestWithin, header_bytes, name_and_value};
 ghost use Rattle.gate_hook.specs.Heads as heads;
-ghost use Rattle.gate_hook.specs.Receiving.{IsFound, first_value};
+ghost use Rattle.gate_hook.specs.Receiving.{IsFound, IsLineOf, first_value};
 ghost use Rattle.gate_hook.specs.Requests.{needed_by};
+ghost use Rattle.gate_hook.specs.Tokens as tokens;
 
 use crate::refusal::Refusal;
 use crate::target::{Report, Target, target_of};
+use crate::token::Token;
 use httparse::Status;
 use httparse::spans::{EMPTY_HEADER_SPAN, HeaderSpan, RequestSpans, parse_request};
 use std::alloc::{AllocError, Global};
@@ -206,15 +208,29 @@ fn ask_by(
     ask_of(bytes, fields, *target)
 }
 
-// What a request asks for, or why it is refused.
-fn ask_in(
+// Whether the fields bear the token, if one is needed.
+fn is_let_in(bytes: &[u8], fields: &[HeaderSpan], token: Option<&Token>) -> bool
+    requires { All (IsHeaderWithin (length bytes.now)) fields.now }
+    ensures { result ≡ tokens.is_let_in (option_copied token.entry) (heads.values_in (codes "authorization") (map (header_bytes bytes.now) fields.now)) }
+{
+    let Some(token) = token else {
+        return true;
+    };
+    match first_of(bytes, fields, "authorization") {
+        Some(value) => count_of(bytes, fields, "authorization") == 1 && token.is_borne_by(value),
+        None => false,
+    }
+}
+
+// What a request asks for that is let in, or why it is refused.
+fn ask_let_in(
     alloc: Global,
     bytes: &[u8],
     fields: &[HeaderSpan],
     request: &RequestSpans,
 ) -> Result<Result<Ask, Refusal>, AllocError>
     requires within { IsRequestWithin bytes.now fields.now request.now }
-    ensures { IfOk result (λ ask. (head : RequestHead) → IsRequestAt bytes.now fields.now request.now head → ask ≡ heads.ask_in head) }
+    ensures { IfOk result (λ ask. (head : RequestHead) → IsRequestAt bytes.now fields.now request.now head → ask ≡ heads.ask_let_in head) }
 {
     let fields = &fields[..request.headers];
     if request.version != 0 && count_of(bytes, fields, "host") != 1 {
@@ -226,15 +242,55 @@ fn ask_in(
     }
 }
 
-/// What stands at the front of these bytes.
-pub fn head_in(alloc: Global, bytes: &[u8]) -> Result<Found, AllocError>
-    ensures { IfOk result (λ found. IsFound found bytes.now) }
+// What a request asks for, or why it is refused.
+fn ask_in(
+    alloc: Global,
+    token: Option<&Token>,
+    bytes: &[u8],
+    fields: &[HeaderSpan],
+    request: &RequestSpans,
+) -> Result<Result<Ask, Refusal>, AllocError>
+    requires within { IsRequestWithin bytes.now fields.now request.now }
+    ensures { IfOk result (λ ask. (head : RequestHead) → IsRequestAt bytes.now fields.now request.now head → ask ≡ heads.ask_in (option_copied token.entry) head) }
+{
+    if !is_let_in(bytes, &fields[..request.headers], token) {
+        return Ok(Err(Refusal::Unauthorized));
+    }
+    ask_let_in(alloc, bytes, fields, request)
+}
+
+/// The first line of a request, as its head has it.
+#[derive(Clone, Copy)]
+pub struct RequestLine<'a> {
+    /// The method.
+    pub method: &'a [u8],
+    /// The target.
+    pub target: &'a [u8],
+}
+
+/// The first line of the request that these bytes begin with, if they have a head of at most 64 fields.
+pub fn request_line(bytes: &[u8]) -> Option<RequestLine<'_>>
+    ensures line { IsLineOf result bytes.now }
+{
+    let mut fields = [EMPTY_HEADER_SPAN; MAX_FIELDS];
+    match parse_request(bytes, &mut fields) {
+        Ok(Status::Complete(request)) => Some(RequestLine {
+            method: request.method.of(bytes),
+            target: request.path.of(bytes),
+        }),
+        Ok(Status::Partial) | Err(_) => None,
+    }
+}
+
+/// What stands at the front of these bytes, if this token is needed, or none.
+pub fn head_in(alloc: Global, token: Option<&Token>, bytes: &[u8]) -> Result<Found, AllocError>
+    ensures { IfOk result (λ found. IsFound (option_copied token.entry) found bytes.now) }
 {
     let mut fields = [EMPTY_HEADER_SPAN; MAX_FIELDS];
     match parse_request(bytes, &mut fields) {
         Ok(Status::Complete(request)) => Ok(Found::Whole(Head {
             len: request.len,
-            ask: ask_in(alloc, bytes, &fields, &request)?,
+            ask: ask_in(alloc, token, bytes, &fields, &request)?,
         })),
         Ok(Status::Partial) => Ok(Found::Unfinished),
         Err(_) => Ok(Found::Never),

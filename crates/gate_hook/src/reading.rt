@@ -148,13 +148,8 @@ fn role_at(value: &Value) -> Result<Role, DeliveryFault>
 fn state_at(value: &Value) -> Result<StatusState, DeliveryFault>
     ensures { Reads result (deliveries.state_at (view value.now)) }
 {
-    match text_at(Field::State, value)? {
-        "success" => Ok(StatusState::Success),
-        "failure" => Ok(StatusState::Failure),
-        "error" => Ok(StatusState::Error),
-        "pending" => Ok(StatusState::Pending),
-        _ => Err(DeliveryFault::BadField(Field::State)),
-    }
+    let word = text_at(Field::State, value)?;
+    StatusState::called(word).ok_or(DeliveryFault::BadField(Field::State))
 }
 
 fn comment_in(alloc: Global, value: &Value) -> Result<Event, DeliveryFault>

@@ -1,11 +1,15 @@
-ghost use Rattle.std.specs.Prelude.{◌≡◌, ◌<◌, ◌≤◌, [], length, IfOk};
-ghost use Rattle.gate_hook.specs.Receiving.{IsEnough, IsRead, IsMore, HasReadHead, HasReadBody};
+ghost use Rattle.std.specs.Prelude.{◌≡◌, ◌<◌, ◌≤◌, [], length, IfOk, option_copied};
+ghost use Rattle.gate_hook.specs.Receiving.{IsEnough, IsRead, IsMore, HasReadHead, HasReadBody, HasReadToken};
 
 use crate::fault::HookFault;
 use crate::head::{Found, Head, MAX_HEAD, head_in};
+use crate::token::Token;
 use gate_queue::Fault;
 use std::alloc::{AllocError, Global};
 use std::io::Read;
+
+// So many bytes are no token, whatever comes behind them: those of the longest, and of the end of a line, and one more.
+const NO_TOKEN: usize = 1_027;
 
 // How many bytes are read at once: the `piece` of the definitions.
 const PIECE: usize = 1_024;
@@ -41,14 +45,15 @@ fn read_more<R: Read>(reader: &mut R, bytes: &mut Vec<u8>, room: usize) -> Resul
 /// knows.
 pub fn read_head<R: Read>(
     alloc: Global,
+    token: Option<&Token>,
     reader: &mut R,
     bytes: &mut Vec<u8>,
 ) -> Result<Option<Head>, HookFault>
     requires { bytes.old.items ≡ [] }
-    ensures { HasReadHead result (R.remaining reader.old) (R.remaining reader.new) bytes.new.items }
+    ensures { HasReadHead (option_copied token.entry) result (R.remaining reader.old) (R.remaining reader.new) bytes.new.items }
 {
     loop {
-        match head_in(alloc, bytes) {
+        match head_in(alloc, token, bytes) {
             Ok(Found::Whole(head)) => return Ok(Some(head)),
             Ok(Found::Never) => return Ok(None),
             Ok(Found::Unfinished) => {}
@@ -87,15 +92,28 @@ pub fn read_body<R: Read>(
     Ok(())
 }
 
-/// Whether these bytes of a request are as many as its answer needs, so that no byte more is waited for. `AllocError` if there is no
-/// memory to tell.
-pub fn is_enough(alloc: Global, bytes: &[u8]) -> Result<bool, AllocError>
-    ensures value { IfOk result (λ enough. IsEnough enough bytes.now) }
+/// Whether these bytes of a request are as many as its answer needs, if this token is needed, or none; so that no byte more is waited
+/// for. `AllocError` if there is no memory to tell.
+pub fn is_enough(alloc: Global, token: Option<&Token>, bytes: &[u8]) -> Result<bool, AllocError>
+    ensures value { IfOk result (λ enough. IsEnough (option_copied token.entry) enough bytes.now) }
 {
-    match head_in(alloc, bytes) {
+    match head_in(alloc, token, bytes) {
         Ok(Found::Whole(head)) => Ok(head.needed() <= bytes.len().saturating_sub(head.len)),
         Ok(Found::Unfinished) => Ok(bytes.len() >= MAX_HEAD),
         Ok(Found::Never) => Ok(true),
         Err(error) => Err(error),
     }
+}
+
+/// Reads a file with a token, as `Token::read` takes it: `None` if it holds none. It reads no more than shows that. The errors are `Read`,
+/// and `Gate(Memory)` if there is no memory for the token.
+pub fn read_token<R: Read>(alloc: Global, reader: &mut R) -> Result<Option<Token>, HookFault>
+    ensures read { HasReadToken result (R.remaining reader.old) (R.remaining reader.new) }
+{
+    let mut bytes = Vec::new(alloc);
+    match read_body(reader, &mut bytes, 0, NO_TOKEN) {
+        Ok(()) => {}
+        Err(fault) => return Err(fault),
+    }
+    Ok(Token::read(alloc, &bytes)?)
 }

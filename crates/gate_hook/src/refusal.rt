@@ -10,6 +10,8 @@ use http::StatusCode;
 pub enum Refusal {
     /// There is no whole head within the limits, or not one `Host`, or no good length, or the body is cut short: 400.
     BadRequest,
+    /// A token is needed, and the request bears another one or none: 401.
+    Unauthorized,
     /// The target names nothing, or a change that was never opened: 404.
     NotFound,
     /// The target has another method than this: 405.
@@ -42,6 +44,7 @@ impl Refusal {
     {
         match self {
             Refusal::BadRequest => StatusCode::BAD_REQUEST,
+            Refusal::Unauthorized => StatusCode::UNAUTHORIZED,
             Refusal::NotFound => StatusCode::NOT_FOUND,
             Refusal::MethodNotAllowed(_) => StatusCode::METHOD_NOT_ALLOWED,
             Refusal::NotImplemented => StatusCode::NOT_IMPLEMENTED,

@@ -1,11 +1,11 @@
-ghost use Rattle.std.specs.Prelude.{◌≡◌, ◌≤◌, ◌↔◌, ℕ, List, Ok, Some, IfSome, IsSome, length, drop, IfOk, IfErr, OnOk, ◌⊎◌, false};
+ghost use Rattle.std.specs.Prelude.{◌≡◌, ◌≤◌, ◌↔◌, ℕ, List, [], Ok, Some, None, IfSome, IsSome, length, option_copied, drop, IfOk, IfErr, OnOk, ◌⊎◌, false};
 ghost use Rattle.std.specs.Option.{option_map};
 ghost use Rattle.std.specs.String.{string_bytes};
 ghost use Rattle.gate_store.specs.Run.{AgreesOnFull, IsOfBooks, IsOfKeepers, StaysOpen, after_delivery, meets_full};
 ghost use Rattle.gate_hook.specs.Deliveries.{delivery_of};
 ghost use Rattle.gate_hook.specs.Receiving.{HasAsked, HasTaken, IsInput};
 ghost use Rattle.gate_hook.specs.Requests.{asked_by, delivery_or_refusal};
-ghost use Rattle.gate_hook.specs.Responding.{Answers, HasSent, MayFail, Responds};
+ghost use Rattle.gate_hook.specs.Responding.{Answers, HasConsumed, HasSent, IsTranscript, MayFail, Responds};
 ghost use Rattle.gate_hook.specs.Responses.{IsResponse};
 ghost use Rattle.gate_hook.specs.declared.requests.Request.TheVariants.{Delivery as DeliveryOf, Report as ReportOf};
 ghost use Rattle.gate_hook.specs.Served.{AnswersOne, AsksNoDelivery, StaysServing, report_in, response_to, response_to_report};
@@ -20,6 +20,7 @@ use crate::refusal::Refusal;
 use crate::response::{Response, json_response, refusal_response, report_response};
 use crate::sending::send;
 use crate::target::Report;
+use crate::token::Token;
 use gate_queue::{Fault, Gate};
 use gate_report::{change_text, queue_text};
 use gate_store::{Book, Delivery, Keeper};
@@ -38,6 +39,28 @@ pub struct Served {
     pub status: StatusCode,
     /// The fault that was met, if the status is 503.
     pub fault: Option<Fault>,
+}
+
+/// What came in and what went out of one request. It isn't to be printed, since a head may bear a token.
+#[derive(Drop)]
+pub struct Transcript {
+    /// The bytes that were taken of the input.
+    pub request: Vec<u8>,
+    /// The response, unless it is the one after a fault.
+    pub response: String,
+}
+
+impl Transcript {
+    /// One in which nothing stands yet. It takes no memory.
+    pub fn new(alloc: Global) -> Transcript
+        ensures request { result.request.items ≡ [] }
+        ensures response { string_bytes result.response ≡ [] }
+    {
+        Transcript {
+            request: Vec::new(alloc),
+            response: String::new(alloc),
+        }
+    }
 }
 
 /// What a request asks for.
@@ -80,20 +103,26 @@ fn wish_in(alloc: Global, bytes: &[u8], head: &Head) -> Result<Wish, AllocError>
 }
 
 // Reads a request, as far as its answer needs.
-fn read_wish<R: Read>(alloc: Global, reader: &mut R) -> Result<Wish, HookFault>
-    ensures { HasAsked result (R.remaining reader.old) (R.remaining reader.new) }
+fn read_wish<R: Read>(
+    alloc: Global,
+    token: Option<&Token>,
+    reader: &mut R,
+    bytes: &mut Vec<u8>,
+) -> Result<Wish, HookFault>
+    requires { bytes.old.items ≡ [] }
+    ensures asked { HasAsked (option_copied token.entry) result (R.remaining reader.old) (R.remaining reader.new) }
+    ensures consumed { HasConsumed result (R.remaining reader.old) (R.remaining reader.new) bytes.new.items }
 {
-    let mut bytes = Vec::new(alloc);
-    let head = match read_head(alloc, reader, &mut bytes) {
+    let head = match read_head(alloc, token, reader, bytes) {
         Ok(Some(head)) => head,
         Ok(None) => return Ok(Err(Refusal::BadRequest)),
         Err(fault) => return Err(fault),
     };
-    match read_body(reader, &mut bytes, head.len, head.needed()) {
+    match read_body(reader, bytes, head.len, head.needed()) {
         Ok(()) => {}
         Err(fault) => return Err(fault),
     }
-    Ok(wish_in(alloc, &bytes, &head)?)
+    Ok(wish_in(alloc, bytes, &head)?)
 }
 
 // The response to a delivery.
@@ -183,18 +212,22 @@ fn respond<B: Book>(
 fn answer<B: Book, R: Read>(
     alloc: Global,
     keeper: &mut Keeper<B>,
+    token: Option<&Token>,
     reader: &mut R,
+    bytes: &mut Vec<u8>,
 ) -> Result<Response, HookFault>
+    requires { bytes.old.items ≡ [] }
+    ensures consumed { HasConsumed result (R.remaining reader.old) (R.remaining reader.new) bytes.new.items }
     ensures answered { (input : List ℕ) × IsInput (R.remaining reader.old) (R.remaining reader.new) input
-        × (B.is_sound keeper.new → Answers result input (B.shows keeper.old) (B.shows keeper.new)) }
-    ensures taken { HasTaken (R.remaining reader.old) (R.remaining reader.new) }
+        × (B.is_sound keeper.new → Answers (option_copied token.entry) result input (B.shows keeper.old) (B.shows keeper.new)) }
+    ensures taken { HasTaken (option_copied token.entry) (R.remaining reader.old) (R.remaining reader.new) }
     ensures was { B.is_sound keeper.new → B.is_sound keeper.old }
     ensures honest { B.is_honest keeper.new → B.is_honest keeper.old }
     ensures shield { B.is_shielded keeper.old → B.is_shielded keeper.new }
     ensures stays { (B.is_honest keeper.old → B.is_sound keeper.old) → B.is_honest keeper.new → StaysSound result (B.is_sound keeper.new) }
     ensures cause { IfErr result (MayFail B.may_answer) }
 {
-    let wish = match read_wish(alloc, reader) {
+    let wish = match read_wish(alloc, token, reader, bytes) {
         Ok(wish) => wish,
         Err(fault) => return Err(fault),
     };
@@ -207,6 +240,73 @@ fn send_as<W: Write>(writer: &mut W, text: &str, served: Served) -> Result<Serve
 {
     send(writer, text.as_bytes())?;
     Ok(served)
+}
+
+/// Serves one request as `serve_one` does, but if a token is given, a request that doesn't bear it is refused first, whatever else it
+/// is: a head without exactly one field `Authorization`, of the scheme `Bearer` and with this token (RFC 6750, section 2.1), gets the
+/// status 401. Its body isn't taken. Input without a head is refused as ever.
+///
+/// Into the transcript it puts what came in and what went out. All else is said at `serve_one`.
+pub fn serve_guarded<B: Book, R: Read, W: Write>(
+    alloc: Global,
+    keeper: &mut Keeper<B>,
+    token: Option<&Token>,
+    transcript: &mut Transcript,
+    reader: &mut R,
+    writer: &mut W,
+) -> Result<Served, HookFault>
+    // If there is no fault, the transcript has what was taken of the input, and what was written.
+    ensures transcript { IfOk result (λ served. IsTranscript transcript.new.request.items (string_bytes transcript.new.response) served.fault (R.remaining reader.old) (R.remaining reader.new) (W.contents writer.old) (W.contents writer.new)) }
+
+    // What is written, and the records after it, are those that the input asks for.
+    ensures served { (input : List ℕ) × IsInput (R.remaining reader.old) (R.remaining reader.new) input
+        × (B.is_sound keeper.new
+        → AnswersOne (option_copied token.entry) result input (B.shows keeper.old) (B.shows keeper.new) (W.contents writer.old) (W.contents writer.new)) }
+
+    // Of the input no more is taken than the answer needs, whatever comes of it.
+    ensures taken { HasTaken (option_copied token.entry) (R.remaining reader.old) (R.remaining reader.new) }
+
+    // Input that asks for no delivery leaves the records as they were.
+    ensures same { B.is_sound keeper.new → (input : List ℕ) → R.remaining reader.old ≡ Some input → AsksNoDelivery (option_copied token.entry) input → B.shows keeper.new ≡ B.shows keeper.old }
+
+    // It ends by a failed read or a failed write alone.
+    ensures ends { IfErr result (λ fault. (fault ≡ HookFault.Read) ⊎ (fault ≡ HookFault.Write)) }
+
+    // The status is 503 exactly if there was a fault.
+    ensures exact { B.is_sound keeper.new → IfOk result (λ served. (served.status ≡ 503) ↔ IsSome served.fault) }
+
+    // A fault is one that the keeper may answer.
+    ensures cause { IfOk result (λ served. IfSome served.fault (IsOfKeepers B.may_answer)) }
+
+    // A book that is sound in the end was sound before, one that is honest was so, and one that was shielded still is.
+    ensures was { B.is_sound keeper.new → B.is_sound keeper.old }
+    ensures honest { B.is_honest keeper.new → B.is_honest keeper.old }
+    ensures shield { B.is_shielded keeper.old → B.is_shielded keeper.new }
+
+    // Of a book that was sound and is honest, only `Memory` and `Store` may have shut it, and then the response is 503, or after `Write`
+    // a part of it. After any other response it is still sound, so what is said above of that response holds, whatever comes later.
+    ensures stays { B.is_sound keeper.old → B.is_honest keeper.new → StaysServing result (B.is_sound keeper.new) (W.contents writer.old) (W.contents writer.new) }
+{
+    transcript.request.clear();
+    transcript.response.clear();
+    match answer(alloc, keeper, token, reader, &mut transcript.request) {
+        Ok(response) => {
+            let served = Served {
+                status: response.status,
+                fault: None,
+            };
+            transcript.response = response.text;
+            send_as(writer, transcript.response.as_str(), served)
+        }
+        Err(HookFault::Gate(fault)) => {
+            let served = Served {
+                status: StatusCode::SERVICE_UNAVAILABLE,
+                fault: Some(fault),
+            };
+            send_as(writer, UNAVAILABLE, served)
+        }
+        Err(fault) => Err(fault),
+    }
 }
 
 /// Serves one request of HTTP/1.0 or HTTP/1.1 (RFC 9112): reads it, lets a keeper answer the delivery that it has or makes the
@@ -234,13 +334,13 @@ pub fn serve_one<B: Book, R: Read, W: Write>(
     // What is written, and the records after it, are those that the input asks for.
     ensures served { (input : List ℕ) × IsInput (R.remaining reader.old) (R.remaining reader.new) input
         × (B.is_sound keeper.new
-        → AnswersOne result input (B.shows keeper.old) (B.shows keeper.new) (W.contents writer.old) (W.contents writer.new)) }
+        → AnswersOne None result input (B.shows keeper.old) (B.shows keeper.new) (W.contents writer.old) (W.contents writer.new)) }
 
     // Of the input no more is taken than the answer needs, whatever comes of it.
-    ensures taken { HasTaken (R.remaining reader.old) (R.remaining reader.new) }
+    ensures taken { HasTaken None (R.remaining reader.old) (R.remaining reader.new) }
 
     // Input that asks for no delivery leaves the records as they were.
-    ensures same { B.is_sound keeper.new → (input : List ℕ) → R.remaining reader.old ≡ Some input → AsksNoDelivery input → B.shows keeper.new ≡ B.shows keeper.old }
+    ensures same { B.is_sound keeper.new → (input : List ℕ) → R.remaining reader.old ≡ Some input → AsksNoDelivery None input → B.shows keeper.new ≡ B.shows keeper.old }
 
     // It ends by a failed read or a failed write alone.
     ensures ends { IfErr result (λ fault. (fault ≡ HookFault.Read) ⊎ (fault ≡ HookFault.Write)) }
@@ -260,21 +360,9 @@ pub fn serve_one<B: Book, R: Read, W: Write>(
     // a part of it. After any other response it is still sound, so what is said above of that response holds, whatever comes later.
     ensures stays { B.is_sound keeper.old → B.is_honest keeper.new → StaysServing result (B.is_sound keeper.new) (W.contents writer.old) (W.contents writer.new) }
 {
-    match answer(alloc, keeper, reader) {
-        Ok(response) => {
-            let served = Served {
-                status: response.status,
-                fault: None,
-            };
-            send_as(writer, response.text.as_str(), served)
-        }
-        Err(HookFault::Gate(fault)) => {
-            let served = Served {
-                status: StatusCode::SERVICE_UNAVAILABLE,
-                fault: Some(fault),
-            };
-            send_as(writer, UNAVAILABLE, served)
-        }
-        Err(fault) => Err(fault),
-    }
+    let mut transcript = Transcript::new(alloc);
+    let served = serve_guarded(alloc, keeper, None, &mut transcript, reader, writer);
+    // By name, since what ends with its function is dear to prove.
+    drop(transcript);
+    served
 }

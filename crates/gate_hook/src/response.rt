@@ -14,6 +14,9 @@ const JSON: &str = "application/json";
 
 const PLAIN: &str = "text/plain; charset=utf-8";
 
+// The scheme by which a token is asked for.
+const BEARER: &str = "Bearer realm=\"gate\"";
+
 /// A response as it is sent: its status, and all its bytes.
 #[derive(Drop)]
 pub struct Response {
@@ -40,19 +43,20 @@ fn field_if(alloc: Global, name: &str, value: Option<&str>) -> Result<String, Al
     }
 }
 
-// The message, of which two fields stand here only if they are needed.
+// The message, of which three fields stand here only if they are needed.
 fn message(
     alloc: Global,
     status: StatusCode,
     kind: &str,
     allow: &str,
+    challenge: &str,
     body: &str,
 ) -> Result<String, AllocError>
-    ensures { IfOk result (λ text. string_bytes text ≡ responses.message status kind.now allow.now body.now) }
+    ensures { IfOk result (λ text. string_bytes text ≡ responses.message status kind.now allow.now challenge.now body.now) }
 {
     let length = body.len();
     format!(in alloc;
-        "HTTP/1.1 {status}\r\n{kind}Content-Length: {length}\r\n{allow}Connection: close\r\n\r\n{body}"
+        "HTTP/1.1 {status}\r\n{kind}Content-Length: {length}\r\n{allow}{challenge}Connection: close\r\n\r\n{body}"
     )
 }
 
@@ -63,28 +67,37 @@ fn response_of(
     status: StatusCode,
     kind: Option<&str>,
     allow: Option<&str>,
+    challenge: Option<&str>,
     body: &str,
 ) -> Result<Response, AllocError>
-    ensures { IfOk result (λ response. IsResponse response (record { status = status; kind = now_of kind.entry; allow = now_of allow.entry; body = body.now })) }
+    ensures { IfOk result (λ response. IsResponse response (record { status = status; kind = now_of kind.entry; allow = now_of allow.entry; challenge = now_of challenge.entry; body = body.now })) }
 {
     let kind = field_if(alloc, "Content-Type", kind)?;
     let allow = field_if(alloc, "Allow", allow)?;
-    let text = message(alloc, status, kind.as_str(), allow.as_str(), body)?;
+    let challenge = field_if(alloc, "WWW-Authenticate", challenge)?;
+    let text = message(
+        alloc,
+        status,
+        kind.as_str(),
+        allow.as_str(),
+        challenge.as_str(),
+        body,
+    )?;
     Ok(Response { status, text })
 }
 
 /// The response whose body is a JSON text and a line feed, which the text here has already.
 pub fn json_response(alloc: Global, status: StatusCode, body: &str) -> Result<Response, AllocError>
-    ensures { IfOk result (λ response. IsResponse response (record { status = status; kind = Some responses.json; allow = None; body = body.now })) }
+    ensures { IfOk result (λ response. IsResponse response (record { status = status; kind = Some responses.json; allow = None; challenge = None; body = body.now })) }
 {
-    response_of(alloc, status, Some(JSON), None, body)
+    response_of(alloc, status, Some(JSON), None, None, body)
 }
 
 /// The response whose body is a report.
 pub fn report_response(alloc: Global, report: &str) -> Result<Response, AllocError>
     ensures { IfOk result (λ response. IsResponse response (responses.report_response report.now)) }
 {
-    response_of(alloc, StatusCode::OK, Some(PLAIN), None, report)
+    response_of(alloc, StatusCode::OK, Some(PLAIN), None, None, report)
 }
 
 /// The response to a request that is refused.
@@ -99,12 +112,13 @@ pub fn refusal_response(alloc: Global, refusal: Refusal) -> Result<Response, All
         }
         Refusal::MethodNotAllowed(target) => {
             let method = target.method();
-            response_of(alloc, status, None, Some(method.as_str()), "")
+            response_of(alloc, status, None, Some(method.as_str()), None, "")
         }
+        Refusal::Unauthorized => response_of(alloc, status, None, None, Some(BEARER), ""),
         Refusal::BadRequest
         | Refusal::NotFound
         | Refusal::NotImplemented
         | Refusal::LengthRequired
-        | Refusal::ContentTooLarge => response_of(alloc, status, None, None, ""),
+        | Refusal::ContentTooLarge => response_of(alloc, status, None, None, None, ""),
     }
 }

@@ -2,7 +2,8 @@ use crate::checks::{check_that, check_words};
 use crate::requests::{POST_ALONE, REQUEST, RESPONSE};
 use gate_hook::HookFault;
 use gate_jobs::{
-    Acceptor, Connections, Ending, Job, JobFault, WordsFault, complaint, read_words, serve, status,
+    Acceptor, Connections, Ending, Job, JobFault, Silence, WordsFault, complaint, read_words,
+    serve, status,
 };
 use gate_queue::{Fault, Gate};
 use gate_store::{Keeper, PlainBook};
@@ -22,13 +23,41 @@ fn job_words(rt: &impl Abort, alloc: Global, job: &Job) -> String {
             count,
             patience,
             db: None,
+            token: None,
+            log: false,
         } => format!(in alloc; "Serve {port} {count} {patience}"),
         Job::Serve {
             port,
             count,
             patience,
             db: Some(db),
+            token: None,
+            log: false,
         } => format!(in alloc; "Serve {port} {count} {patience} {db}"),
+        Job::Serve {
+            port,
+            token: None,
+            log: true,
+            ..
+        } => format!(in alloc; "Serve {port} log"),
+        Job::Serve {
+            port,
+            token: Some(token),
+            log: true,
+            ..
+        } => format!(in alloc; "Serve {port} token {token} log"),
+        Job::Serve {
+            port,
+            db: None,
+            token: Some(token),
+            ..
+        } => format!(in alloc; "Serve {port} token {token}"),
+        Job::Serve {
+            port,
+            db: Some(db),
+            token: Some(token),
+            ..
+        } => format!(in alloc; "Serve {port} {db} token {token}"),
         Job::Report { file } => format!(in alloc; "Report {file}"),
     }
     .expect(rt, "memory")
@@ -70,6 +99,17 @@ fn words_ask_for_jobs(rt: HostRuntime) {
         serve --db q.db --count 2 --port 8080 => Serve 8080 2 30 q.db
         serve --port 8080 --count 2 --patience 1 => Serve 8080 2 1
         serve --patience=3600 --port 8080 --count 2 --db q.db => Serve 8080 2 3600 q.db
+        serve --port 8080 --count 2 --token t => Serve 8080 token t
+        serve --token=t --port 8080 --count 2 --db q.db => Serve 8080 q.db token t
+        serve --port 8080 --count 2 --token => Usage
+        serve --port 8080 --count 2 --token t --token u => Usage
+        run --token t => Usage
+        serve --port 8080 --count 2 --log => Serve 8080 log
+        serve --log --port 8080 --count 2 --token t => Serve 8080 token t log
+        serve --port 8080 --count 2 --log --log => Usage
+        serve --port 8080 --count 2 --log yes => Usage
+        serve --port 8080 --count 2 --log=yes => Usage
+        run --log => Usage
         serve --port 8080 --count 2 --patience 0 => Usage
         serve --port 8080 --count 2 --patience 3601 => Usage
         serve --port 8080 --count 2 --patience => Usage
@@ -125,6 +165,7 @@ fn statuses_and_words(rt: HostRuntime) {
     check_fault(&rt, JobFault::Bind, "gate: Bind");
     check_fault(&rt, JobFault::Accept, "gate: Accept");
     check_fault(&rt, JobFault::File, "gate: File");
+    check_fault(&rt, JobFault::Token, "gate: Token");
 }
 
 const GET: &str = "GET /deliveries HTTP/1.1\r\nHost: here\r\n\r\n";
@@ -149,10 +190,10 @@ fn check_answer(rt: &impl Abort, alloc: Global, stream: TcpStream, due: &str) {
 }
 
 // Over a book without a database: what `serve` does is the same over any book.
-fn serve_two<R: Abort + Clock>(rt: &R, alloc: Global, listener: &TcpListener) {
+fn serve_two<'a, R: Abort + Clock>(rt: &'a R, alloc: Global, listener: &'a TcpListener) {
     let mut keeper = Keeper::new(PlainBook::new(alloc, Gate::new(alloc)));
-    let mut connections = Connections::new(alloc, rt, listener, 1).expect(rt, "memory");
-    let is_done = serve(alloc, &mut keeper, &mut connections, 2).is_ok();
+    let mut connections = Connections::new(alloc, rt, listener, None, 1).expect(rt, "memory");
+    let is_done = serve(alloc, &mut keeper, None, &mut Silence, &mut connections, 2).is_ok();
     connections.finish();
     drop(keeper);
     check_that(rt, "serve", is_done);
@@ -215,7 +256,7 @@ fn serves_any_connections(rt: HostRuntime) {
         alloc,
     };
     let mut keeper = Keeper::new(PlainBook::new(alloc, Gate::new(alloc)));
-    let served = serve(alloc, &mut keeper, &mut texts, 4);
+    let served = serve(alloc, &mut keeper, None, &mut Silence, &mut texts, 4);
     drop(keeper);
     check_that(
         &rt,

@@ -1,4 +1,5 @@
 mod Numbers
 mod Reports
 mod Turns
+mod Visible
 mod Wrong

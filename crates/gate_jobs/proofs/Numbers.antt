@@ -1,9 +1,9 @@
--- The number that an option has.
-use Rattle.std.proofs.Common.{◌≡◌, ℕ, ◌<◌, ◌^◌, List, Option, Some, None, Result, Ok, Err, refl, sym, ◌∙◌, subst, arith}
+-- The number that an option has, and whether one without a value is there.
+use Rattle.std.proofs.Common.{◌≡◌, ℕ, ◌<◌, ◌^◌, Bool, true, false, codes, ap, List, Option, Some, None, Result, Ok, Err, refl, sym, ◌∙◌, subst, arith}
 use Rattle.std.specs.Str.Parse.{ExplainsUnsignedError, HasUnsignedDigitsIfOk, ParsesUnsigned}
 use Rattle.clap.specs.Matches.{TriesOne}
 use Rattle.clap.specs.Words.{ReadsOne, Text}
-use Rattle.gate_jobs.specs.Words.{IsNumber, IsPatience, IsPatient}
+use Rattle.gate_jobs.specs.Words.{IsFlag, IsNumber, IsPatience, IsPatient}
 
 no_some : (n : ℕ) → Some n ≡ None → ⊥
 no_some n e = grind arith
@@ -68,3 +68,8 @@ pub patience_unread : {E : Type 0} (gives : List ℕ → Result ℕ E → Type 0
 patience_unread gives parses None read e is none value n patience limits = absurd (no_err e (sym (none refl) ∙ is))
 patience_unread gives parses (Some t) read e is none value n number limits =
     parses t (Err e) (subst (TriesOne gives t) is (value t refl)) (number.0, subst (λ (v : ℕ). v < 2 ^ 32) number.1 (omega (arith, limits.1)))
+
+pub flag_read : (text : Option Text) (flag : Bool) → (text ≡ None → flag ≡ false) → (text ≡ Some (codes "true") → flag ≡ true)
+    → (text ≡ Some (codes "false") → flag ≡ false) → IsFlag flag text
+flag_read None flag none value other = none refl
+flag_read (Some text) flag none value other = (λ is. value (ap (λ (t : Text). Some t) is), λ is. other (ap (λ (t : Text). Some t) is))

@@ -4,12 +4,12 @@ use Rattle.gate_store.specs.Run.{Records}
 use Rattle.gate_jobs.specs.Accepting.{AddsText, AreAcceptedInTurn, AreEndedInTurn, ComesFirst, Connection}
 use Rattle.gate_jobs.specs.Serving.{AreServedInTurn, IsServed}
 
-pub one_more_served : (connections : List Connection) (last : Connection) (old between new : Records)
-    → AreServedInTurn connections old between → IsServed last between new → AreServedInTurn (connections ++ last ∷ []) old new
-one_more_served [] last old between new turns served =
-    (new, subst (λ (records : Records). IsServed last records new) turns served, refl)
-one_more_served (first ∷ connections) last old between new turns served =
-    (turns.0, turns.1, one_more_served connections last turns.0 between new turns.2 served)
+pub one_more_served : (token : Option (List ℕ)) (connections : List Connection) (last : Connection) (old between new : Records)
+    → AreServedInTurn token connections old between → IsServed token last between new → AreServedInTurn token (connections ++ last ∷ []) old new
+one_more_served token [] last old between new turns served =
+    (new, subst (λ (records : Records). IsServed token last records new) turns served, refl)
+one_more_served token (first ∷ connections) last old between new turns served =
+    (turns.0, turns.1, one_more_served token connections last turns.0 between new turns.2 served)
 
 pub one_more_accepted : (connections : List Connection) (last : Connection) (old between new : Option (List (List ℕ)))
     → AreAcceptedInTurn connections old between → ComesFirst between new last.unread last.blank

@@ -1,7 +1,7 @@
 -- HOW THE PROGRAM ENDS: its exit status, and the line on standard error after a fault.
 use Rattle.std.specs.Prelude.{ℕ, List, ◌++◌, Result, Ok, Err, codes}
 use Rattle.gate_jobs.specs.declared.fault.JobFault.{JobFault}
-use Rattle.gate_jobs.specs.declared.fault.JobFault.TheVariants.{Hook, Bind, Accept, File}
+use Rattle.gate_jobs.specs.declared.fault.JobFault.TheVariants.{Hook, Bind, Accept, File, Token}
 use Rattle.gate_jobs.specs.declared.outcome.Ending.{Ending}
 use Rattle.gate_jobs.specs.declared.outcome.Ending.TheVariants as ending
 use Rattle.gate_hook.specs.declared.fault.HookFault.TheVariants.{Gate, Read, Write, TooMuch}
@@ -27,6 +27,7 @@ word_of (Hook TooMuch) = codes "TooMuch"
 word_of Bind = codes "Bind"
 word_of Accept = codes "Accept"
 word_of File = codes "File"
+word_of Token = codes "Token"
 
 abbrev pub complaint_of : JobFault → List ℕ
 complaint_of fault = codes "gate: " ++ word_of fault

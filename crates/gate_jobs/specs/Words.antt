@@ -1,9 +1,10 @@
 -- WHAT THE WORDS ASK FOR, in the terms of `clap`.
-use Rattle.std.specs.Prelude.{◌≡◌, ◌≢◌, ◌⊎◌, ◌≤◌, ℕ, pos, List, [], Option, Some, None, String, true, ⊤, codes}
+use Rattle.std.specs.Prelude.{◌≡◌, ◌≢◌, ◌⊎◌, ◌≤◌, ℕ, pos, List, [], Option, Some, None, String, Bool, true, false, ⊤, codes}
 use Rattle.std.specs.Option.{option_map}
 use Rattle.std.specs.String.{string_bytes}
 use Rattle.std.specs.Str.Parse.{IsNumeral, digits_value, without_leading_plus}
 use Rattle.clap.specs.Words.{App, Row, Rule, Text, fault_of, first_of, new_app, new_rule, one_of, subcommand_of, with_rule, with_subcommand, IsAmong}
+use Rattle.clap.specs.declared.builder.action.ArgAction.TheVariants.{SetTrue}
 use Rattle.clap.specs.declared.builder.value_parser.ValueParser.{ValueParser}
 use Rattle.clap.specs.declared.builder.value_parser.ValueParser.TheVariants.{Signed}
 use Rattle.clap.specs.declared.error.kind.ErrorKind.{ErrorKind}
@@ -24,11 +25,11 @@ IsPatient patience = (1 ≤ patience) × (patience ≤ 3600)
 
 abbrev pub IsWithinLimits : Job → Type 0
 IsWithinLimits (Run db) = ⊤
-IsWithinLimits (Serve port count patience db) = AreWithinLimits port count × IsPatient patience
+IsWithinLimits (Serve port count patience db token log) = AreWithinLimits port count × IsPatient patience
 IsWithinLimits (Report file) = ⊤
 
 -- THE COMMANDS: `run`, `serve --port N --count N` and `report FILE`, of which the first two may have `--db FILE`, and the second
--- `--patience SECONDS`. The program's name isn't among the words.
+-- `--patience SECONDS`, `--token FILE` and `--log`. The program's name isn't among the words.
 abbrev pub number_rule : Text → ValueParser → Rule
 number_rule name limits = record (new_rule name) { long = Some name; value_names = 1; required = true; parser = Some limits }
 
@@ -37,6 +38,12 @@ file_rule = record (new_rule (codes "FILE")) { required = true }
 
 abbrev pub db_rule : Rule
 db_rule = record (new_rule (codes "db")) { long = Some (codes "db"); value_names = 1 }
+
+abbrev pub token_rule : Rule
+token_rule = record (new_rule (codes "token")) { long = Some (codes "token"); value_names = 1 }
+
+abbrev pub log_rule : Rule
+log_rule = record (new_rule (codes "log")) { long = Some (codes "log"); action = Some SetTrue }
 
 abbrev pub run_words : App
 run_words = with_rule (new_app (codes "run")) db_rule
@@ -52,7 +59,7 @@ patience_rule =
     record (new_rule (codes "patience")) { long = Some (codes "patience"); value_names = 1; parser = Some (Signed (pos 1) (pos 3600)) }
 
 abbrev pub serve_words : App
-serve_words = with_rule (with_rule numbered_words patience_rule) db_rule
+serve_words = with_rule (with_rule (with_rule (with_rule numbered_words patience_rule) db_rule) token_rule) log_rule
 
 abbrev pub report_words : App
 report_words = with_rule (new_app (codes "report")) file_rule
@@ -79,31 +86,41 @@ IsPatience n (Some text) = IsNumber n (Some text)
 abbrev pub IsPatienceIn : ℕ → List Row → Type 0
 IsPatienceIn patience rows = IsPatience patience (one_of (codes "patience") rows)
 
--- the file that `--db` names, or none if it isn't there
-abbrev pub IsDbIn : {A : Type 0} → Option (String A) → List Row → Type 0
-IsDbIn {A} db rows = first_of (codes "db") rows ≡ option_map string_bytes db
+-- the file that an option names, or none if the option isn't there
+abbrev pub IsFileOf : {A : Type 0} → Text → Option (String A) → List Row → Type 0
+IsFileOf {A} option file rows = first_of option rows ≡ option_map string_bytes file
+
+-- whether `--log` is there; of an option that takes no value, `clap` tells `true` or `false`
+abbrev pub IsFlag : Bool → Option Text → Type 0
+IsFlag flag None = flag ≡ false
+IsFlag flag (Some text) = (text ≡ codes "true" → flag ≡ true) × (text ≡ codes "false" → flag ≡ false)
+
+abbrev pub IsFlagIn : Bool → List Row → Type 0
+IsFlagIn log rows = IsFlag log (one_of (codes "log") rows)
 
 abbrev pub IsRunIn : Job → List Row → Type 0
-IsRunIn (Run db) rows = IsDbIn db rows
-IsRunIn (Serve port count patience db) rows = ⊥
+IsRunIn (Run db) rows = IsFileOf (codes "db") db rows
+IsRunIn (Serve port count patience db token log) rows = ⊥
 IsRunIn (Report file) rows = ⊥
 
 abbrev pub IsServeIn : Job → List Row → Type 0
 IsServeIn (Run db) rows = ⊥
-IsServeIn (Serve port count patience db) rows = AreNumbersIn port count rows × IsPatienceIn patience rows × IsDbIn db rows
+IsServeIn (Serve port count patience db token log) rows =
+    AreNumbersIn port count rows × IsPatienceIn patience rows × IsFileOf (codes "db") db rows × IsFileOf (codes "token") token rows
+    × IsFlagIn log rows
 IsServeIn (Report file) rows = ⊥
 
 abbrev pub IsFileIn : Job → List Row → Type 0
 IsFileIn (Run db) rows = ⊥
-IsFileIn (Serve port count patience db) rows = ⊥
+IsFileIn (Serve port count patience db token log) rows = ⊥
 IsFileIn (Report file) rows = first_of (codes "FILE") rows ≡ Some (string_bytes file)
 
 -- no command is the command `run` without its option
 abbrev pub IsJobIn : Job → Option (Text × List Row) → Type 0
 IsJobIn (Run db) command =
     ((command ≡ None) × (db ≡ None)) ⊎ ((rows : List Row) × (command ≡ Some (codes "run", rows)) × IsRunIn (Run db) rows)
-IsJobIn (Serve port count patience db) command =
-    (rows : List Row) × (command ≡ Some (codes "serve", rows)) × IsServeIn (Serve port count patience db) rows
+IsJobIn (Serve port count patience db token log) command =
+    (rows : List Row) × (command ≡ Some (codes "serve", rows)) × IsServeIn (Serve port count patience db token log) rows
 IsJobIn (Report file) command = (rows : List Row) × (command ≡ Some (codes "report", rows)) × IsFileIn (Report file) rows
 
 -- If there is no job, none within the limits is asked for.

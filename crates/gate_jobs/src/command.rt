@@ -2,10 +2,10 @@ ghost use Rattle.std.specs.Prelude.{◌≡◌, false, pos, map, IfOk};
 ghost use Rattle.clap.specs.Words.{FailsBy, app_of, fault_of, new_app, rule_of, subcommand_of, subcommand_rows_of, with_rule, with_subcommand};
 ghost use Rattle.clap.specs.declared.builder.command.Command.TheViews.{out-Command as fields_of};
 ghost use Rattle.clap.specs.declared.builder.value_parser.ValueParser.TheVariants.{Signed};
-ghost use Rattle.gate_jobs.specs.Words.{bare_words, db_rule, file_rule, gate_words, number_rule, numbered_words, patience_rule, report_words, run_words, serve_words};
+ghost use Rattle.gate_jobs.specs.Words.{bare_words, db_rule, file_rule, gate_words, log_rule, number_rule, numbered_words, patience_rule, report_words, run_words, serve_words, token_rule};
 
 use clap::builder::ValueParser;
-use clap::{Arg, ArgMatches, Command, Error, value_parser};
+use clap::{Arg, ArgAction, ArgMatches, Command, Error, value_parser};
 use std::alloc::{AllocError, Global};
 
 /// The greatest count of connections.
@@ -25,7 +25,7 @@ It keeps its records in a database file, or in memory, and then they are gone wh
 
 const USAGE: &str = "\
 gate [run [--db <FILE>]]
-       gate serve --port <N> --count <N> [--patience <SECONDS>] [--db <FILE>]
+       gate serve --port <N> --count <N> [--patience <SECONDS>] [--db <FILE>] [--token <FILE>] [--log]
        gate report <FILE>";
 
 const MORE: &str = "\
@@ -56,6 +56,11 @@ const SECONDS: &str =
 
 const DB: &str = "The database file that keeps the records; it is made if it isn't there";
 
+const TOKEN: &str =
+    "A file with the token that each request has to bear; none is needed if left out";
+
+const LOG: &str = "Write a line about each request to standard error";
+
 const FILE: &str = "The file with the deliveries";
 
 // A command without options.
@@ -85,6 +90,28 @@ fn db<'a>(alloc: Global) -> Arg<'a>
     ensures local { result.global ≡ false }
 {
     Arg::new(alloc, "db").long("db").value_name("FILE").help(DB)
+}
+
+// The option that names a file with a token. It may be left out.
+fn token<'a>(alloc: Global) -> Arg<'a>
+    ensures rule { rule_of result ≡ token_rule }
+    ensures local { result.global ≡ false }
+{
+    Arg::new(alloc, "token")
+        .long("token")
+        .value_name("FILE")
+        .help(TOKEN)
+}
+
+// The option that asks for a log.
+fn log<'a>(alloc: Global) -> Arg<'a>
+    ensures rule { rule_of result ≡ log_rule }
+    ensures local { result.global ≡ false }
+{
+    Arg::new(alloc, "log")
+        .long("log")
+        .action(ArgAction::SetTrue)
+        .help(LOG)
 }
 
 // The option that says how long a client is waited for. It may be left out.
@@ -124,7 +151,8 @@ fn run_command<'a>(alloc: Global) -> Result<Command<'a>, AllocError>
     command(alloc, "run", "gate run [--db <FILE>]", RUN).arg(db(alloc))
 }
 
-const SERVE_USAGE: &str = "gate serve --port <N> --count <N> [--patience <SECONDS>] [--db <FILE>]";
+const SERVE_USAGE: &str =
+    "gate serve --port <N> --count <N> [--patience <SECONDS>] [--db <FILE>] [--token <FILE>] [--log]";
 
 // `serve` with its port and its count.
 fn numbered_command<'a>(alloc: Global) -> Result<Command<'a>, AllocError>
@@ -144,11 +172,27 @@ fn patient_command<'a>(alloc: Global) -> Result<Command<'a>, AllocError>
     numbered_command(alloc)?.arg(patience(alloc))
 }
 
+// With its database file besides.
+fn kept_command<'a>(alloc: Global) -> Result<Command<'a>, AllocError>
+    ensures words { IfOk result (λ made. app_of made ≡ with_rule (with_rule numbered_words patience_rule) db_rule) }
+    ensures local { IfOk result (λ made. (fields_of made).has_globals ≡ false) }
+{
+    patient_command(alloc)?.arg(db(alloc))
+}
+
+// With its token besides.
+fn guarded_command<'a>(alloc: Global) -> Result<Command<'a>, AllocError>
+    ensures words { IfOk result (λ made. app_of made ≡ with_rule (with_rule (with_rule numbered_words patience_rule) db_rule) token_rule) }
+    ensures local { IfOk result (λ made. (fields_of made).has_globals ≡ false) }
+{
+    kept_command(alloc)?.arg(token(alloc))
+}
+
 fn serve_command<'a>(alloc: Global) -> Result<Command<'a>, AllocError>
     ensures words { IfOk result (λ made. app_of made ≡ serve_words) }
     ensures local { IfOk result (λ made. (fields_of made).has_globals ≡ false) }
 {
-    patient_command(alloc)?.arg(db(alloc))
+    guarded_command(alloc)?.arg(log(alloc))
 }
 
 // The file that is to be read.

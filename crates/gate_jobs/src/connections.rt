@@ -1,6 +1,6 @@
 use crate::accepting::Acceptor;
 use crate::closing::drop_part;
-use gate_hook::is_enough;
+use gate_hook::{Token, is_enough};
 use std::alloc::{AllocError, Global};
 use std::io::{self, Error, ErrorKind, Read, Write};
 use std::net::{Shutdown, TcpListener, TcpStream};
@@ -126,13 +126,18 @@ impl Guest {
     }
 
     // Takes all that has come.
-    fn turn(&mut self, alloc: Global, clock: &impl Clock) -> io::Result<Turn> {
+    fn turn(
+        &mut self,
+        alloc: Global,
+        clock: &impl Clock,
+        token: Option<&Token>,
+    ) -> io::Result<Turn> {
         for _ in 0..u64::MAX {
             if !self.hear() {
                 break;
             }
             self.since = Instant::now(clock)?;
-            if is_enough(alloc, &self.bytes).unwrap_or(true) {
+            if is_enough(alloc, token, &self.bytes).unwrap_or(true) {
                 return Ok(Turn::Comes);
             }
         }
@@ -185,7 +190,7 @@ impl Leaver {
 /// The connections of a listener. Many are waited for at once, and the first whose request is whole is the next; so a client that is
 /// silent, or slow, holds up no other one. None is waited for longer than its patience: a connection on which nothing comes for so many
 /// seconds, or that is ten times as old, is the next as well, and its reads fail. A write fails after as long. A failed read or write
-/// changes nothing by itself; `serve_one` says what comes of it.
+/// changes nothing by itself; `serve_guarded` says what comes of it.
 ///
 /// To close a connection while bytes of its request are on their way would have the system reset it, and the client might lose the
 /// response. So when one is ended, nothing more is sent on it. Beside the others what still comes is dropped, until the client closes, is
@@ -195,24 +200,28 @@ pub struct Connections<'a, C: Clock> {
     listener: &'a TcpListener,
     clock: &'a C,
     alloc: Global,
+    token: Option<&'a Token>,
     patience: u32,
     guests: Vec<Guest>,
     leavers: Vec<Leaver>,
 }
 
 impl<'a, C: Clock> Connections<'a, C> {
-    /// Those of this listener, with a patience in seconds, from 1 on. `AllocError` if there is no memory for a list of them. Later
+    /// Those of this listener, with a patience in seconds, from 1 on. A request that doesn't bear the token, if there is one, is whole with
+    /// its head. `AllocError` if there is no memory for a list of them. Later
     /// none is needed to go on: a connection for whose bytes there is no memory is served at once.
     pub fn new(
         alloc: Global,
         clock: &'a C,
         listener: &'a TcpListener,
+        token: Option<&'a Token>,
         patience: u32,
     ) -> Result<Connections<'a, C>, AllocError> {
         Ok(Connections {
             listener,
             clock,
             alloc,
+            token,
             patience,
             guests: Vec::with_capacity(alloc, MOST_GUESTS)?,
             leavers: Vec::with_capacity(alloc, MOST_GUESTS)?,
@@ -266,7 +275,7 @@ impl<'a, C: Clock> Connections<'a, C> {
     // The first connection whose turn it is, and whether it is late.
     fn first(&mut self) -> io::Result<Option<(usize, bool)>> {
         for (place, guest) in self.guests.iter_mut().enumerate() {
-            match guest.turn(self.alloc, self.clock)? {
+            match guest.turn(self.alloc, self.clock, self.token)? {
                 Turn::Waits => {}
                 Turn::Comes => return Ok(Some((place, false))),
                 Turn::IsLate => return Ok(Some((place, true))),

@@ -12,6 +12,8 @@ pub enum JobFault {
     Accept,
     /// The file can't be opened.
     File,
+    /// The file with the token can't be opened or read, or holds no token.
+    Token,
 }
 
 impl From<HookFault> for JobFault {

@@ -52,5 +52,6 @@ pub fn complaint(fault: JobFault) -> &'static str
         JobFault::Bind => "gate: Bind",
         JobFault::Accept => "gate: Accept",
         JobFault::File => "gate: File",
+        JobFault::Token => "gate: Token",
     }
 }

@@ -1,16 +1,29 @@
-ghost use Rattle.std.specs.Prelude.{◌≡◌, ◌⊎◌, List, length, IfErr, IfOk, OnErr, OnOk};
+ghost use Rattle.std.specs.Prelude.{◌≡◌, ◌⊎◌, List, length, option_copied, IfErr, IfOk, OnErr, OnOk};
 ghost use Rattle.std.specs.Io.KnownBytes.{Appends};
 ghost use Rattle.gate_jobs.specs.Accepting.{AddsText, AreAcceptedInTurn, AreEndedInTurn, ComesFirst, Connection};
-ghost use Rattle.gate_jobs.specs.Serving.{AreAccepted, AreServedInTurn, IsServed, IsServedOnce, greeting};
+ghost use Rattle.gate_jobs.specs.Serving.{AreAccepted, AreServedInTurn, IsServed, IsServedOnce, IsTokenOf, greeting};
 ghost use Rattle.gate_hook.specs.Sending.{IsCutOff};
 
 use crate::accepting::Acceptor;
 use crate::fault::JobFault;
-use gate_hook::{HookFault, send, serve_one};
+use crate::logging::Log;
+use gate_hook::{HookFault, Served, Token, Transcript, read_token, send, serve_guarded};
 use gate_queue::Fault;
 use gate_store::{Book, Keeper};
 use std::alloc::Global;
 use std::io::{Read, Write};
+
+/// The token that a file holds. The fault is `Token` if it can't be read, or holds no token, and `Gate(Memory)` if there is no memory for
+/// it.
+pub fn token_of<R: Read>(alloc: Global, file: &mut R) -> Result<Token, JobFault>
+    ensures token { IsTokenOf result (R.remaining file.old) (R.remaining file.new) }
+{
+    match read_token(alloc, file) {
+        Ok(Some(token)) => Ok(token),
+        Err(HookFault::Gate(fault)) => Err(JobFault::from(fault)),
+        Ok(None) | Err(_) => Err(JobFault::Token),
+    }
+}
 
 /// Prints on which port the program listens. The fault is `Write`, after which a part of the line is printed, or `Gate(Memory)`, after
 /// which nothing is.
@@ -23,32 +36,37 @@ pub fn announce<W: Write>(alloc: Global, port: u16, writer: &mut W) -> Result<()
     send(writer, line.as_bytes())
 }
 
-/// Serves the request of one connection. If the connection fails, nobody is left to be told.
+/// Serves the request of one connection, which has to bear the token if there is one. What it answers, and the transcript, are for a log:
+/// if the connection fails, nobody else is left to be told.
 pub fn serve_request<B: Book, R: Read, W: Write>(
     alloc: Global,
     keeper: &mut Keeper<B>,
+    token: Option<&Token>,
+    transcript: &mut Transcript,
     reader: &mut R,
     writer: &mut W,
-)
-    ensures served { IsServedOnce (B.is_sound keeper.new) (B.is_sound keeper.old × B.is_honest keeper.new) (B.shows keeper.old) (B.shows keeper.new) (R.remaining reader.old) (R.remaining reader.new) (W.contents writer.old) (W.contents writer.new) }
+) -> Result<Served, HookFault>
+    ensures served { IsServedOnce result (B.is_sound keeper.new) (B.is_sound keeper.old × B.is_honest keeper.new) (option_copied token.entry) (B.shows keeper.old) (B.shows keeper.new) (R.remaining reader.old) (R.remaining reader.new) (W.contents writer.old) (W.contents writer.new) }
 
     // A book that is sound in the end was sound before, one that is honest was so, and one that was shielded still is.
     ensures was { B.is_sound keeper.new → B.is_sound keeper.old }
     ensures honest { B.is_honest keeper.new → B.is_honest keeper.old }
     ensures shield { B.is_shielded keeper.old → B.is_shielded keeper.new }
 {
-    let _ = serve_one(alloc, keeper, reader, writer);
+    serve_guarded(alloc, keeper, token, transcript, reader, writer)
 }
 
-// Accepts a connection, serves it and ends it.
-fn serve_next<B: Book, R: Read, W: Write, A: Acceptor<R, W>>(
+// Accepts a connection, serves it and ends it, and has it told.
+fn serve_next<B: Book, R: Read, W: Write, A: Acceptor<R, W>, L: Log>(
     alloc: Global,
     keeper: &mut Keeper<B>,
+    token: Option<&Token>,
+    log: &mut L,
     acceptor: &mut A,
 ) -> Result<(), JobFault>
     ensures served { IfOk result (λ _. (connection : Connection) × ComesFirst (A.waiting acceptor.old) (A.waiting acceptor.new) connection.unread connection.blank
         × AddsText (A.ended acceptor.old) (A.ended acceptor.new) connection.written
-        × (B.is_sound keeper.new → IsServed connection (B.shows keeper.old) (B.shows keeper.new))) }
+        × (B.is_sound keeper.new → IsServed (option_copied token.entry) connection (B.shows keeper.old) (B.shows keeper.new))) }
     ensures none { OnErr result ((keeper.new ≡ keeper.old) × (A.waiting acceptor.new ≡ A.waiting acceptor.old) × (A.ended acceptor.new ≡ A.ended acceptor.old)) }
     ensures cause { IfErr result (λ fault. fault ≡ JobFault.Accept) }
     ensures was { B.is_sound keeper.new → B.is_sound keeper.old }
@@ -57,28 +75,41 @@ fn serve_next<B: Book, R: Read, W: Write, A: Acceptor<R, W>>(
 {
     match acceptor.accept() {
         Ok((mut reader, mut writer)) => {
-            serve_request(alloc, keeper, &mut reader, &mut writer);
+            let mut transcript = Transcript::new(alloc);
+            let served = serve_request(
+                alloc,
+                keeper,
+                token,
+                &mut transcript,
+                &mut reader,
+                &mut writer,
+            );
             acceptor.end(reader, writer);
+            log.tell(&transcript, &served);
+            drop(transcript);
             Ok(())
         }
         Err(_) => Err(JobFault::Accept),
     }
 }
 
-/// Serves so many connections, one after the other, with one request each. The records are the keeper's, and go from one
-/// connection to the next. The fault is `Accept`, at the first connection that can't be accepted.
-pub fn serve<B: Book, R: Read, W: Write, A: Acceptor<R, W>>(
+/// Serves so many connections, one after the other, with one request each, which has to bear the token if there is one. The records
+/// are the keeper's, and go from one connection to the next. Of each request the log is told when its connection is ended. The fault is
+/// `Accept`, at the first connection that can't be accepted.
+pub fn serve<B: Book, R: Read, W: Write, A: Acceptor<R, W>, L: Log>(
     alloc: Global,
     keeper: &mut Keeper<B>,
+    token: Option<&Token>,
+    log: &mut L,
     acceptor: &mut A,
     count: u32,
 ) -> Result<(), JobFault>
     // `count` connections were accepted and ended, or fewer after `Accept`, in the order in which they came. What is left of the records
-    // is what their requests made of them, one after the other, and each was answered as `serve_one` says.
+    // is what their requests made of them, one after the other, and each was answered as `serve_guarded` says.
     ensures served { (connections : List Connection) × AreAccepted result (length connections) count
         × AreAcceptedInTurn connections (A.waiting acceptor.old) (A.waiting acceptor.new)
         × AreEndedInTurn connections (A.ended acceptor.old) (A.ended acceptor.new)
-        × (B.is_sound keeper.new → AreServedInTurn connections (B.shows keeper.old) (B.shows keeper.new)) }
+        × (B.is_sound keeper.new → AreServedInTurn (option_copied token.entry) connections (B.shows keeper.old) (B.shows keeper.new)) }
     ensures cause { IfErr result (λ fault. fault ≡ JobFault.Accept) }
 
     // A book that is sound in the end was sound before, one that is honest was so, and one that was shielded still is.
@@ -87,7 +118,7 @@ pub fn serve<B: Book, R: Read, W: Write, A: Acceptor<R, W>>(
     ensures shield { B.is_shielded keeper.old → B.is_shielded keeper.new }
 {
     for _ in 0..count {
-        match serve_next(alloc, keeper, acceptor) {
+        match serve_next(alloc, keeper, token, log, acceptor) {
             Ok(()) => {}
             Err(fault) => return Err(fault),
         }

@@ -1,7 +1,7 @@
 ghost use Rattle.std.specs.Prelude.{◌≡◌, map, IfOk, IfErr, IfSome};
 ghost use Rattle.std.specs.IoError.{error_kind};
 ghost use Rattle.clap.specs.Words.{found_of, kind_of, rows_of, subcommand_rows_of};
-ghost use Rattle.gate_jobs.specs.Words.{AreNumbersIn, AreWithinLimits, IsAskedFor, IsDbIn, IsFileIn, IsJobIn, IsPatienceIn, IsPatient, IsRefusedBy, IsRunIn, IsServeIn, IsToldAs, IsToldBy, IsWithinLimits, IsWithoutWords, LacksJob, LacksNumbers, LacksPatience};
+ghost use Rattle.gate_jobs.specs.Words.{AreNumbersIn, AreWithinLimits, IsAskedFor, IsFileIn, IsFileOf, IsFlagIn, IsJobIn, IsPatienceIn, IsPatient, IsRefusedBy, IsRunIn, IsServeIn, IsToldAs, IsToldBy, IsWithinLimits, IsWithoutWords, LacksJob, LacksNumbers, LacksPatience};
 
 use crate::command::{MAX_COUNT, MAX_PATIENCE, PATIENCE, matches_in};
 use clap::error::ErrorKind;
@@ -31,6 +31,10 @@ pub enum Job {
         patience: u32,
         /// The path of the database file. Without one the records are in memory.
         db: Option<String>,
+        /// The path of the file with the token that each request has to bear. Without one none is needed.
+        token: Option<String>,
+        /// Whether a log of the requests goes to standard error.
+        log: bool,
     },
     /// To report the queue after the lines of a file.
     Report {
@@ -61,11 +65,15 @@ impl From<AllocError> for WordsFault {
     }
 }
 
-// The file that `--db` names, if it is among the options.
-fn db_in(alloc: Global, options: &ArgMatches<'_>) -> Result<Option<String>, AllocError>
-    ensures { IfOk result (λ db. IsDbIn db (rows_of (found_of options.now))) }
+// The file that the option of this name gives, if it is among the options.
+fn file_of(
+    alloc: Global,
+    options: &ArgMatches<'_>,
+    name: &str,
+) -> Result<Option<String>, AllocError>
+    ensures { IfOk result (λ file. IsFileOf name.now file (rows_of (found_of options.now))) }
 {
-    match options.get_str("db") {
+    match options.get_str(name) {
         Some(file) => Ok(Some(String::from_str(alloc, file)?)),
         None => Ok(None),
     }
@@ -76,8 +84,15 @@ fn run_job(alloc: Global, options: &ArgMatches<'_>) -> Result<Job, AllocError>
     ensures job { IfOk result (λ job. IsRunIn job (rows_of (found_of options.now))) }
 {
     Ok(Job::Run {
-        db: db_in(alloc, options)?,
+        db: file_of(alloc, options, "db")?,
     })
+}
+
+// Whether `--log` is among the options.
+fn log_in(options: &ArgMatches<'_>) -> bool
+    ensures { IsFlagIn result (rows_of (found_of options.now)) }
+{
+    options.get_flag("log")
 }
 
 // The port and the count of `serve`. The limits are those of the command; they are looked at again, so that what is said of them
@@ -131,12 +146,16 @@ fn serve_job(alloc: Global, options: &ArgMatches<'_>) -> Result<Option<Job>, All
     let Some(patience) = patience_in(options) else {
         return Ok(None);
     };
-    let db = db_in(alloc, options)?;
+    let db = file_of(alloc, options, "db")?;
+    let token = file_of(alloc, options, "token")?;
+    let log = log_in(options);
     Ok(Some(Job::Serve {
         port,
         count,
         patience,
         db,
+        token,
+        log,
     }))
 }
 

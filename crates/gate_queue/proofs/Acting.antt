@@ -15,40 +15,19 @@ use Rattle.std.specs.Str.{bytes_eq}
 use Rattle.std.proofs.lemmas.Map.Text.{is_eq-slice_cmp}
 use Rattle.gate_text.specs.Finite.{get-mapped}
 use Rattle.gate_text.specs.Same.{same_settings-is}
-use Rattle.gate_text.specs.Settings.{SettingsView, settings_of, same_settings}
-use Rattle.gate_text.specs.declared.command.Command.TheVariants.{Ping, Approve, ApproveFor, Withdraw, Priority, Try, TryCancel, DelegateAuthor, DelegateTo, DelegateNone, Retry}
-use Rattle.gate_text.specs.declared.command.Spoken.TheVariants.{Known, Unknown}
-use Rattle.gate_text.specs.declared.settings.fault.SettingsFault.{SettingsFault}
-use Rattle.gate_rules.specs.Rules.{Look, Texts, first_failing, is_fit}
-use Rattle.gate_state.specs.declared.act.StatusState.{StatusState}
-use Rattle.gate_rules.specs.View.{DeskView, told_at, with_told, roles_with, with_role, with_settings, with_base, with_clock, without_approval, look}
-use Rattle.gate_rules.specs.declared.change.Change.{Change}
+use Rattle.gate_queue.specs.Vocabulary.{SettingsView, settings_of, same_settings, Ping, Approve, ApproveFor, Withdraw, Priority, Try, TryCancel, DelegateAuthor, DelegateTo, DelegateNone, Retry, Known, Unknown, SettingsFault, Look, Texts, first_failing, is_fit, StatusState, DeskView, with_told, with_role, with_settings, with_base, with_clock, without_approval, look, Change, RoleOf, Nobody, Rule, On, Other, Opened, Pushed, Closed, Labeled, Unlabeled, Review, Deed, Said, Happened, Fact, Role, Settings, Base, Status, Refused, Tick, Order, Stage, Land, Notice, Why, Batch, Branch, StageOf, State, Staging, Trying}
+use Rattle.gate_rules.specs.View.{told_at, roles_with}
 use Rattle.gate_rules.specs.declared.change.Repeat.TheVariants as repeat
-use Rattle.gate_rules.specs.declared.role.Role.{Role as RoleOf}
-use Rattle.gate_rules.specs.declared.role.Role.TheVariants.{Nobody, Member, Reviewer}
-use Rattle.gate_rules.specs.declared.rule.Rule.{Rule}
+use Rattle.gate_rules.specs.declared.role.Role.TheVariants.{Member, Reviewer}
 use Rattle.gate_rules.specs.declared.change.Phase.TheVariants as phase
 use Rattle.gate_state.specs.Counts.{uses}
 use Rattle.gate_state.specs.Acts.{on}
-use Rattle.gate_state.specs.declared.act.Act.TheVariants.{On, Other}
-use Rattle.gate_state.specs.declared.act.ChangeFact.TheVariants.{Opened, Pushed, Closed, Labeled, Unlabeled, Review}
-use Rattle.gate_state.specs.declared.act.Deed.{Deed}
-use Rattle.gate_state.specs.declared.act.Deed.TheVariants.{Said, Happened}
-use Rattle.gate_state.specs.declared.act.Fact.{Fact}
-use Rattle.gate_state.specs.declared.act.Fact.TheVariants.{Role, Settings, Base, Status, Refused, Tick}
-use Rattle.gate_state.specs.declared.reply.Order.{Order}
-use Rattle.gate_state.specs.declared.reply.Order.TheVariants.{Stage, Land, Notice}
-use Rattle.gate_state.specs.declared.reply.Why.{Why}
 use Rattle.gate_state.specs.declared.reply.Why.TheVariants as why
 use Rattle.gate_queue.specs.History.{ends_why, order_ends, tells_of_try, order_ends_try, tried_back, Event, did, gave, given, last_of, said_by, role_said, settings_back, labels_back, reviews_back, author_back, approvers_back, landing_back, landed_back, landings, change_of, change_back, look_back}
 use Rattle.gate_queue.specs.Machine.{broken, is_good, bad_settings, effect, notices, notice_if, settings_notices, are_present, losing_on, quiet, under, accepted, lone_altered, lone_notices, head_on, first_order, starting, with_landing, to_land, landed, released, released_at, released_on, all_altered, altered, approved_by, with_try, without_try, with_priority, with_delegates, with_author_as_delegate, without_delegates, opened, closed, pushed, labeled, without_label, reviewed, with_settled, settled, ending, spent, lone_on}
-use Rattle.gate_state.specs.declared.batch.Batch.{Batch}
-use Rattle.gate_state.specs.declared.batch.Branch.{Branch}
-use Rattle.gate_state.specs.declared.batch.Stage.{Stage as StageOf}
 use Rattle.gate_state.specs.declared.batch.Stage.TheVariants as stage
 use Rattle.gate_state.specs.Lanes.{is_landing}
 use Rattle.gate_state.specs.Queue.{lane_of}
-use Rattle.gate_state.specs.declared.state.State.{State}
 use Rattle.gate_queue.proofs.After.{rest_back, rest_after, change_after, change_of_after, altered_as, untouched, unaltered, unless_unfit, by_number, elsewhere, order_elsewhere, order_ended, order_ended_try, quiet_line, stays}
 use Rattle.gate_queue.proofs.Changes.{altered_look, all_look, opened_at}
 use Rattle.gate_queue.proofs.Facts.{closed_next, labeled_next, reviewed_next, unlabeled_next, pushed_next, opened_next, settled_next, status_next, unsettled_next, taken_settings}
@@ -58,7 +37,6 @@ use Rattle.gate_queue.proofs.Next.{priority_next, author_next, names_next, none_
 use Rattle.gate_queue.proofs.Premises.{fits, shut, fresh, still_here, tried_here}
 use Rattle.gate_queue.proofs.States.{released_twice}
 use Rattle.gate_queue.proofs.Unseen.{Unseen}
-use Rattle.gate_state.specs.declared.batch.Branch.TheVariants.{Staging, Trying}
 
 -- ONE DEED ON A CHANGE
 altered_next : (desk : DeskView) (events : List Event) (n : ℕ) (alter : Change → Change) (deed : Deed) → look desk ≡ look_back events

@@ -12,17 +12,10 @@ use Rattle.std.specs.FinMap.{get-empty, get-insert}
 use Rattle.std.specs.List.{All}
 use Rattle.std.specs.Ordering.{nat_cmp}
 use Rattle.std.specs.Str.{bytes_eq}
-use Rattle.gate_text.specs.Settings.{SettingsView}
+use Rattle.gate_queue.specs.Vocabulary.{SettingsView, is_required, Batch, Branch, Staging, Trying, Report, StageOf as Stage, Lane}
 use Rattle.gate_state.specs.Lanes.{placed, fresh, try_of, tried, retried, has_changes, back, only, left, with_change, with_joined, entered, joins, first_half, second_half, has_several, split_into, is_landing, loses, stops_running, enqueued, taken_out, running_taken, restarted, running_restarted, failed, running_failed, started, started_beside, staged, requeued, running_requeued, with_report, reported, to_landing, landing}
-use Rattle.gate_rules.specs.View.{is_required}
 use Rattle.gate_state.specs.State.{IsWaiting, IsUnderway, IsRunning}
-use Rattle.gate_state.specs.declared.batch.Batch.{Batch}
-use Rattle.gate_state.specs.declared.batch.Branch.{Branch}
-use Rattle.gate_state.specs.declared.batch.Branch.TheVariants.{Staging, Trying}
-use Rattle.gate_state.specs.declared.batch.Report.{Report}
-use Rattle.gate_state.specs.declared.batch.Stage.{Stage}
 use Rattle.gate_state.specs.declared.batch.Stage.TheVariants.{Waiting, Ordered, Staged, Landing}
-use Rattle.gate_state.specs.declared.lane.Lane.{Lane}
 
 -- A LANE, by the clock and the settings
 pub record IsLane (on : Branch) (now : ℕ) (settings : Option SettingsView) (lane : Lane) : Type 0 where

@@ -7,10 +7,7 @@ use Rattle.std.specs.FinMap.{FinMap, get-insert, nat_cmp-IsAntisymmetric, same_m
 use Rattle.std.specs.Ordering.{nat_cmp}
 use Rattle.std.specs.List.{list_any}
 use Rattle.std.specs.Option.{option_map, option_map_or}
-use Rattle.gate_text.specs.Settings.{SettingsView}
-use Rattle.gate_rules.specs.Rules.{Look}
-use Rattle.gate_rules.specs.View.{DeskView, with_change, without_approval, look}
-use Rattle.gate_rules.specs.declared.change.Change.{Change}
+use Rattle.gate_queue.specs.Vocabulary.{SettingsView, Look, DeskView, with_change, without_approval, look, Change}
 use Rattle.gate_queue.specs.Machine.{with_altered, altered, lone_altered, all_altered, opened, unless_against}
 
 pub same_number : (c number : ℕ) → eqb c number ≡ true → c ≡ number

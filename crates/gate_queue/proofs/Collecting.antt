@@ -15,13 +15,10 @@ use Rattle.gate_queue.proofs.Noting.{equal_is}
 use Rattle.gate_queue.specs.Machine.{all_but, loses_approval, settled, with_new_settings}
 use Rattle.gate_queue.specs.MayChange.{is_in_front, is_joined, is_numbered, one_numbered}
 use Rattle.gate_queue.specs.Touching.{front, fronts, joining, lists, losing, numbers_so, number_of, settling}
-use Rattle.gate_queue.specs.Vocabulary.{Change, DeskView, SettingsView, State, numbers_where, without_approval}
+use Rattle.gate_queue.specs.Vocabulary.{Change, DeskView, SettingsView, State, numbers_where, without_approval, Batch, Lane, Queue}
 use Rattle.gate_state.specs.Lanes.{batches_of, is_fresh_beside, is_fresh_of, last_so, loses}
 use Rattle.gate_state.specs.Queue as queues
 use Rattle.gate_state.specs.State.{approved_on}
-use Rattle.gate_state.specs.declared.batch.Batch.{Batch}
-use Rattle.gate_state.specs.declared.lane.Lane.{Lane}
-use Rattle.gate_state.specs.declared.queue.Queue.{Queue}
 use Rattle.gate_rules.specs.View.{numbers_in}
 
 module _ (test : Batch → Bool) where

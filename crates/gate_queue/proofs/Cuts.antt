@@ -7,19 +7,11 @@ use Rattle.std.specs.Bool.{then_some}
 use Rattle.std.specs.Cmp.{first_so, second_so}
 use Rattle.std.specs.Option.{option_map_or, option_or}
 use Rattle.std.specs.Str.{bytes_eq}
-use Rattle.gate_text.specs.Settings.{SettingsView, same_settings}
+use Rattle.gate_queue.specs.Vocabulary.{SettingsView, same_settings, On, Other, Base, Staged, Status, StatusState, Success, Failure, Error, Pending, Head, Stage, Land, Notice, Branch, Staging, Trying}
 use Rattle.gate_text.specs.Same.{same_settings-is}
-use Rattle.gate_state.specs.declared.act.Act.TheVariants.{On, Other}
-use Rattle.gate_state.specs.declared.act.Fact.TheVariants.{Base, Staged, Status}
-use Rattle.gate_state.specs.declared.act.StatusState.{StatusState}
-use Rattle.gate_state.specs.declared.act.StatusState.TheVariants.{Success, Failure, Error, Pending}
-use Rattle.gate_state.specs.declared.reply.Head.{Head}
-use Rattle.gate_state.specs.declared.reply.Order.TheVariants.{Stage, Land, Notice}
 use Rattle.gate_queue.specs.History.{Event, did, gave, said_by, settings_said, settings_back, is_order_on, keeps_order, is_staged_as, keeps_staged, state_said, is_bad, keeps_clean, is_clean, passes, keeps_passed, has_passed, IsTested}
 use Rattle.gate_queue.specs.Machine.{is_good}
 use Rattle.gate_queue.specs.Words.{AllKept, Lacks, Succeeded, WasTested, LawOfTests}
-use Rattle.gate_state.specs.declared.batch.Branch.{Branch}
-use Rattle.gate_state.specs.declared.batch.Branch.TheVariants.{Staging, Trying}
 use Rattle.gate_queue.proofs.Wording.{since_found}
 
 -- CUTS of one list. An event that a test doesn't keep isn't among those that it has kept.

@@ -6,21 +6,11 @@ use Rattle.std.specs.FinMap as finite
 use Rattle.std.specs.List.{list_all}
 use Rattle.std.specs.Option.{option_map, option_map_or}
 use Rattle.std.specs.Str.{bytes_eq}
-use Rattle.gate_text.specs.declared.command.Command.{Command}
-use Rattle.gate_text.specs.declared.command.Command.TheVariants.{Ping, Approve, ApproveFor, Withdraw, Priority, Try, TryCancel, DelegateAuthor, DelegateTo, DelegateNone, Retry}
-use Rattle.gate_text.specs.declared.command.Spoken.TheVariants.{Known}
-use Rattle.gate_rules.specs.Rules.{Look}
-use Rattle.gate_rules.specs.View.{DeskView, without_approval}
-use Rattle.gate_rules.specs.declared.change.Change.{Change}
+use Rattle.gate_queue.specs.Vocabulary.{Command, Ping, Approve, ApproveFor, Withdraw, Priority, Try, TryCancel, DelegateAuthor, DelegateTo, DelegateNone, Retry, Known, Look, DeskView, without_approval, Change, Opened, Said, Happened, Batch, StageOf as Stage, Lane}
 use Rattle.gate_rules.specs.declared.change.Repeat.TheVariants as repeat
 use Rattle.gate_state.specs.Lanes.{has_several}
 use Rattle.gate_state.specs.State.{approved_on, priority_on}
-use Rattle.gate_state.specs.declared.act.ChangeFact.TheVariants.{Opened}
-use Rattle.gate_state.specs.declared.act.Deed.TheVariants.{Said, Happened}
-use Rattle.gate_state.specs.declared.batch.Batch.{Batch}
-use Rattle.gate_state.specs.declared.batch.Stage.{Stage}
 use Rattle.gate_state.specs.declared.batch.Stage.TheVariants.{Waiting, Ordered, Staged, Landing}
-use Rattle.gate_state.specs.declared.lane.Lane.{Lane}
 use Rattle.gate_queue.specs.Machine.{all_but, with_altered, altered, all_altered, lone, lone_altered, released, released_at, released_on, command_effect, effect, approved_by, with_try, without_try, with_priority, with_delegates, with_author_as_delegate, without_delegates, opened, pushed, moved_to}
 use Rattle.gate_queue.specs.MayChange.{is_run, next_priority}
 use Rattle.gate_queue.proofs.Changes.{altered_look, altered_here, altered_elsewhere, opened_here, opened_elsewhere}

@@ -3,31 +3,13 @@ use Rattle.std.proofs.Common.{◌≡◌, ℕ, eqb, leb, Bool, true, false, ◌&&
 use Rattle.std.proofs.lemmas.Bool.{leb-true}
 use Rattle.std.proofs.lemmas.Bool.Decides.{Decides-eqb}
 use Rattle.std.specs.Option.{option_map_or}
-use Rattle.gate_text.specs.Settings.{SettingsView, settings_of}
-use Rattle.gate_text.specs.declared.settings.fault.SettingsFault.{SettingsFault}
-use Rattle.gate_rules.specs.Rules.{Look}
-use Rattle.gate_rules.specs.View.{DeskView, with_role, with_clock, look}
-use Rattle.gate_rules.specs.declared.rule.Rule.TheVariants.{ClockBack, NoSuchBatch}
+use Rattle.gate_queue.specs.Vocabulary.{SettingsView, settings_of, SettingsFault, Look, DeskView, with_role, with_clock, look, ClockBack, NoSuchBatch, Act, On, Other, Opened, Pushed, Closed, Labeled, Unlabeled, Review, Deed, Said, Happened, Fact, Role, Settings, Base, Staged, Conflict, Status, Refused, Tick, StatusState, Why, Batch, Staging, Trying, Lane, State}
 use Rattle.gate_state.specs.State.{IsMoment, approved_on}
-use Rattle.gate_state.specs.Acts.{on}
-use Rattle.gate_state.specs.declared.act.Act.{Act}
-use Rattle.gate_state.specs.declared.act.Act.TheVariants.{On, Other}
-use Rattle.gate_state.specs.declared.act.ChangeFact.TheVariants.{Opened, Pushed, Closed, Labeled, Unlabeled, Review}
-use Rattle.gate_state.specs.declared.act.Deed.{Deed}
-use Rattle.gate_state.specs.declared.act.Deed.TheVariants.{Said, Happened}
-use Rattle.gate_state.specs.declared.act.Fact.{Fact}
-use Rattle.gate_state.specs.declared.act.Fact.TheVariants.{Role, Settings, Base, Staged, Conflict, Status, Refused, Tick}
-use Rattle.gate_state.specs.declared.act.StatusState.{StatusState}
-use Rattle.gate_state.specs.declared.reply.Why.{Why}
 use Rattle.gate_state.specs.declared.reply.Why.TheVariants as why
 use Rattle.gate_queue.specs.History.{Event, did, given, change_back, look_back, landing_with}
 use Rattle.gate_state.specs.Lanes.{is_landing, requeued}
 use Rattle.gate_queue.specs.Machine.{broken, heads_told, missing, has_ordered, has_landing, effect, notices, notice_if, settings_notices, quiet, about, with_desk, are_present, losing_on, under, accepted, lands_with, sent_back, done, on_both, timed_out, starting, ordered_on}
 use Rattle.gate_state.specs.Queue as specs
-use Rattle.gate_state.specs.declared.batch.Batch.{Batch}
-use Rattle.gate_state.specs.declared.batch.Branch.TheVariants.{Staging, Trying}
-use Rattle.gate_state.specs.declared.lane.Lane.{Lane}
-use Rattle.gate_state.specs.declared.state.State.{State}
 use Rattle.gate_queue.proofs.Acting.{about_look, about_mild, status_look, role_next, settings_next, settings_mild, fact_next, tick_next, base_look, refusal_look, one_rule}
 use Rattle.gate_queue.proofs.After.{rest_back, rest_after}
 use Rattle.gate_queue.proofs.Fitness.{passed, unless_so}

@@ -8,16 +8,9 @@ use Rattle.std.specs.Ordering.{nat_cmp}
 use Rattle.std.specs.Option.{option_map, option_or}
 use Rattle.std.specs.Result.{result_ok}
 use Rattle.std.specs.Str.{bytes_eq}
-use Rattle.gate_text.specs.Settings.{SettingsView, settings_of}
-use Rattle.gate_rules.specs.Rules.{Texts, is_open_phase, is_fit}
+use Rattle.gate_queue.specs.Vocabulary.{SettingsView, settings_of, Texts, is_open_phase, is_fit, Other, Opened, Pushed, Closed, Labeled, Unlabeled, Review, Happened, Settings, Status, StatusState, Change}
 use Rattle.gate_rules.specs.declared.change.Phase.TheVariants as phase
-use Rattle.gate_state.specs.declared.act.Act.TheVariants.{Other}
-use Rattle.gate_state.specs.declared.act.ChangeFact.TheVariants.{Opened, Pushed, Closed, Labeled, Unlabeled, Review}
-use Rattle.gate_state.specs.declared.act.Deed.TheVariants.{Happened}
-use Rattle.gate_state.specs.declared.act.Fact.TheVariants.{Settings, Status}
-use Rattle.gate_state.specs.declared.act.StatusState.{StatusState}
 use Rattle.gate_rules.specs.View.{told_at, with_status}
-use Rattle.gate_rules.specs.declared.change.Change.{Change}
 use Rattle.gate_queue.specs.History.{Event, did, put, taken, marked, told_back, last_of, said_on, author_back, head_back, phase_by, phase_back, landed_back, settings_back, labels_back, reviews_back, approval_said, standing_back, tried_back, change_of, change_back}
 use Rattle.gate_queue.specs.Machine.{is_good, closed, pushed, moved_to, labeled, with_label, without_label, reviewed, with_review, opened, settled}
 use Rattle.gate_queue.proofs.After.{Rest, rest_back, rest_after, altered_as, untouched, change_after, change_of_after, altered_here, silent, ended, stays, standing_fit, unless_unfit, elsewhere}

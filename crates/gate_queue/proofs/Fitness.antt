@@ -7,12 +7,8 @@ use Rattle.std.specs.Cmp.{first_so, second_so}
 use Rattle.std.specs.List.{find}
 use Rattle.std.specs.Option.{option_map}
 use Rattle.std.specs.Ordering.{eq_by_cmp, nat_cmp}
-use Rattle.gate_text.specs.Settings.{SettingsView}
-use Rattle.gate_rules.specs.Rules.{Texts, asks, first_failing, of_both, blocked_rule, too_few_rule, is_open_phase, is_blocked, has_too_few_reviews, is_fit, blocking_label}
-use Rattle.gate_rules.specs.View.{without_approval}
-use Rattle.gate_rules.specs.declared.change.Change.{Change}
-use Rattle.gate_rules.specs.declared.change.Phase.{Phase}
-use Rattle.gate_rules.specs.declared.rule.Rule.{Rule}
+use Rattle.gate_queue.specs.Vocabulary.{SettingsView, Texts, asks, first_failing, is_open_phase, is_blocked, has_too_few_reviews, is_fit, without_approval, Change, Phase, Rule}
+use Rattle.gate_rules.specs.Rules.{of_both, blocked_rule, too_few_rule, blocking_label}
 use Rattle.gate_rules.specs.declared.rule.Rule.TheVariants.{Blocked}
 use Rattle.gate_queue.specs.Machine.{unless_against, settled}
 

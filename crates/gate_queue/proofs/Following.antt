@@ -10,31 +10,16 @@ use Rattle.std.specs.List.{All, filter, list_all}
 use Rattle.std.specs.Option.{option_map, option_map_or, option_and_then}
 use Rattle.std.specs.Ordering.{int_eq}
 use Rattle.std.specs.Str.{bytes_eq}
-use Rattle.gate_text.specs.Settings.{SettingsView}
-use Rattle.gate_text.specs.declared.command.Command.{Command}
-use Rattle.gate_text.specs.declared.command.Command.TheVariants.{Ping, Approve, ApproveFor, Withdraw, Priority, Try, TryCancel, DelegateAuthor, DelegateTo, DelegateNone}
-use Rattle.gate_text.specs.declared.command.Spoken.TheVariants.{Known}
-use Rattle.gate_rules.specs.Rules.{Look, first_failing, begins_with_rules, approval_rules, try_rules, is_known, is_open, is_landing as is_landing_on, is_trying, is_open_phase, is_approved, has_settings, has_base, permits, need}
-use Rattle.gate_rules.specs.View.{DeskView, without_approval, look}
-use Rattle.gate_rules.specs.declared.change.Change.{Change}
+use Rattle.gate_queue.specs.Vocabulary.{SettingsView, Command, Ping, Approve, ApproveFor, Withdraw, Priority, Try, TryCancel, DelegateAuthor, DelegateTo, DelegateNone, Known, Look, first_failing, is_known, is_open, is_open_phase, DeskView, without_approval, look, Change, UnknownChange, NotOpen, AlreadyOpen, Act, On, Opened, Pushed, Closed, Labeled, Unlabeled, Review, Said, Happened, Batch, Branch, Staging, Trying, Lane, Queue, State}
+use Rattle.gate_rules.specs.Rules.{begins_with_rules, approval_rules, try_rules, is_landing as is_landing_on, is_trying, is_approved, has_settings, has_base, permits, need}
 use Rattle.gate_rules.specs.declared.change.Repeat.TheVariants as repeat
-use Rattle.gate_rules.specs.declared.rule.Rule.TheVariants.{UnknownChange, NotPermitted, NotOpen, Landing, NoSettings, NoBase, AlreadyApproved, AlreadyTrying, AlreadyOpen}
+use Rattle.gate_rules.specs.declared.rule.Rule.TheVariants.{NotPermitted, Landing, NoSettings, NoBase, AlreadyApproved, AlreadyTrying}
 use Rattle.gate_state.specs.Counts.{occurs, inside, in_landing, held, held_by, of_any_priority}
-use Rattle.gate_state.specs.declared.act.Act.{Act}
-use Rattle.gate_state.specs.declared.act.Act.TheVariants.{On}
-use Rattle.gate_state.specs.declared.act.ChangeFact.TheVariants.{Opened, Pushed, Closed, Labeled, Unlabeled, Review}
-use Rattle.gate_state.specs.declared.act.Deed.TheVariants.{Said, Happened}
 use Rattle.gate_queue.specs.Following.{with, without, without_any, has_head, is_ended, Leaves, ActByAct, LawOfTheQueue}
 use Rattle.gate_state.specs.Lanes.{has_changes, is_landing, loses, back, back_uses, only, left, taken_out, taken_out_uses}
 use Rattle.gate_queue.specs.Machine.{broken, denial, meaning, done, unless_denied, missing, effect, altered, approved_by, with_try, without_try, with_priority, opened, pushed, moved_to, closed, unless_against, labeled, with_label, without_label, reviewed, with_review, size_on, all_but, followed, tried_by, approval_followed, followed_on, ends_approval, with_delegates, with_author_as_delegate, without_delegates}
 use Rattle.gate_state.specs.State.{approved_on, priority_on, trying_on, IsChange, IsWaiting, Marks, marks_on, IsBranch, IsState}
 use Rattle.gate_state.specs.Queue as specs
-use Rattle.gate_state.specs.declared.batch.Batch.{Batch}
-use Rattle.gate_state.specs.declared.batch.Branch.{Branch}
-use Rattle.gate_state.specs.declared.batch.Branch.TheVariants.{Staging, Trying}
-use Rattle.gate_state.specs.declared.lane.Lane.{Lane}
-use Rattle.gate_state.specs.declared.queue.Queue.{Queue}
-use Rattle.gate_state.specs.declared.state.State.{State}
 use Rattle.gate_queue.proofs.Changes.{altered_look, altered_here, opened_here, against_same}
 use Rattle.gate_queue.proofs.Fitness.{passed}
 use Rattle.gate_queue.proofs.Meaning.{retry_means}

@@ -1,34 +1,17 @@
 -- What an act does to the numbers of waiting batches: only new ones are used.
 use Rattle.std.proofs.Common.{◌≤◌, ◌+◌, ◌&&◌, ℕ, ℤ, leb, ltb, Bool, true, false, cond, if◌then◌else◌, List, Option, Some, None, Result, Ok, Err, is_some, arith}
 use Rattle.std.proofs.lemmas.Bool.Decides.{nat_tests}
-use Rattle.gate_text.specs.Settings.{SettingsView, settings_of}
-use Rattle.gate_text.specs.declared.settings.fault.SettingsFault.{SettingsFault}
-use Rattle.gate_rules.specs.View.{DeskView, with_clock, is_required}
+use Rattle.gate_queue.specs.Vocabulary.{SettingsView, settings_of, SettingsFault, DeskView, with_clock, is_required, Act, On, Other, Deed, Role, Settings, Base, Staged, Conflict, Status, Refused, Tick, StatusState, Success, Failure, Error, Pending, Batch, Branch, Staging, Trying, Report, Lane, Queue, Outcome, State, Why}
 use Rattle.gate_state.specs.Counts.{uses}
 use Rattle.gate_state.specs.Lanes.{joins, has_changes, has_several, back_uses, stops_running, running_back_uses, loses, only, taken_out_uses, restarted_uses, requeued_uses, failed_uses}
 use Rattle.gate_state.specs.State.{trying_on}
-use Rattle.gate_state.specs.declared.act.Act.{Act}
-use Rattle.gate_state.specs.declared.act.Act.TheVariants.{On, Other}
-use Rattle.gate_state.specs.declared.act.Deed.{Deed}
-use Rattle.gate_state.specs.declared.act.Fact.TheVariants.{Role, Settings, Base, Staged, Conflict, Status, Refused, Tick}
-use Rattle.gate_state.specs.declared.act.StatusState.{StatusState}
-use Rattle.gate_state.specs.declared.act.StatusState.TheVariants.{Success, Failure, Error, Pending}
 use Rattle.gate_state.specs.declared.reply.Why.TheVariants as why
 use Rattle.gate_queue.specs.Machine.{heads_told, followed, tried_by, all_but, quiet, then_next, with_desk, with_queue, about, under, accepted, are_present, failing, has_passed, has_staged, if_passed, goes_on, told_of, told, sent_back, tries_left, lands_with, has_overdue, timed_out, starting, ordered_on, done, ending, passing, on_both, told_on, told_as}
 use Rattle.gate_state.specs.Queue as specs
 use Rattle.gate_state.specs.Service.{OnlyNew}
-use Rattle.gate_state.specs.declared.batch.Batch.{Batch}
-use Rattle.gate_state.specs.declared.batch.Branch.{Branch}
-use Rattle.gate_state.specs.declared.batch.Branch.TheVariants.{Staging, Trying}
-use Rattle.gate_state.specs.declared.batch.Report.{Report}
 use Rattle.gate_state.specs.declared.batch.Report.TheVariants as report
-use Rattle.gate_state.specs.declared.lane.Lane.{Lane}
-use Rattle.gate_state.specs.declared.queue.Queue.{Queue}
-use Rattle.gate_queue.specs.declared.outcome.Outcome.{Outcome}
-use Rattle.gate_state.specs.declared.state.State.{State}
 use Rattle.gate_state.specs.Lemmas.Numbers.{numbers_law}
 use Rattle.gate_queue.proofs.Choosing.{either_way}
-use Rattle.gate_state.specs.declared.reply.Why.{Why}
 
 -- how many batches wait under a number
 abbrev pub waits : ℕ → Queue → ℕ

@@ -5,16 +5,10 @@ use Rattle.std.specs.FinMap as finite
 use Rattle.std.specs.Option.{option_map, option_map_or}
 use Rattle.std.specs.Ordering.{nat_cmp}
 use Rattle.gate_text.specs.Finite.{get-mapped}
-use Rattle.gate_rules.specs.Rules.{Texts}
-use Rattle.gate_rules.specs.View.{DeskView, is_open_at, with_status, told_at, look}
-use Rattle.gate_rules.specs.declared.change.Change.{Change}
+use Rattle.gate_queue.specs.Vocabulary.{Texts, DeskView, is_open_at, look, Change, StatusState, Branch, Staging, Trying, Lane, State}
+use Rattle.gate_rules.specs.View.{with_status, told_at}
 use Rattle.gate_state.specs.State.{IsDesk, Marks, IsBranch, IsQueue, marks_on}
-use Rattle.gate_state.specs.declared.act.StatusState.{StatusState}
 use Rattle.gate_queue.specs.Machine.{is_good, heads_told}
-use Rattle.gate_state.specs.declared.batch.Branch.{Branch}
-use Rattle.gate_state.specs.declared.batch.Branch.TheVariants.{Staging, Trying}
-use Rattle.gate_state.specs.declared.lane.Lane.{Lane}
-use Rattle.gate_state.specs.declared.state.State.{State}
 use Rattle.gate_queue.proofs.Keeping.{on_time}
 use Rattle.gate_queue.proofs.Limits.{told_keeps}
 

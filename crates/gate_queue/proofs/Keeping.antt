@@ -8,23 +8,14 @@ use Rattle.std.specs.FinMap as finite
 use Rattle.std.specs.List.{list_any}
 use Rattle.std.specs.Option.{option_map_or}
 use Rattle.std.specs.Ordering.{int_eq}
-use Rattle.gate_rules.specs.View.{DeskView, is_required}
-use Rattle.gate_rules.specs.declared.change.Change.{Change}
+use Rattle.gate_queue.specs.Vocabulary.{DeskView, is_required, Change, SettingsView, Batch, Branch, Staging, Trying, Report, StageOf as Stage, Lane, Queue}
 use Rattle.gate_state.specs.Counts.{occurs, held, held_by, in_running, in_landing, in_lone, of_any_priority}
 use Rattle.gate_state.specs.Lanes.{batches_of, has_several, is_landing, back, only, left, loses, stops_running, with_report, enqueued, tried, taken_out, restarted, requeued, failed, started, staged, reported, landing}
 use Rattle.gate_state.specs.State.{approved_on, landing_on, priority_on, trying_on, Marks, marks_on, IsRunning, IsBranch, IsQueue, is_not}
 use Rattle.gate_queue.specs.Machine.{size_on, all_but, lone, followed, tried_by, approval_followed, followed_on}
 use Rattle.gate_state.specs.Queue as specs
 use Rattle.gate_state.specs.Service.{QueueIsInOrder, AreAlone}
-use Rattle.gate_text.specs.Settings.{SettingsView}
-use Rattle.gate_state.specs.declared.batch.Batch.{Batch}
-use Rattle.gate_state.specs.declared.batch.Branch.{Branch}
-use Rattle.gate_state.specs.declared.batch.Branch.TheVariants.{Staging, Trying}
-use Rattle.gate_state.specs.declared.batch.Report.{Report}
-use Rattle.gate_state.specs.declared.batch.Stage.{Stage}
 use Rattle.gate_state.specs.declared.batch.Stage.TheVariants.{Waiting, Ordered, Staged, Landing}
-use Rattle.gate_state.specs.declared.lane.Lane.{Lane}
-use Rattle.gate_state.specs.declared.queue.Queue.{Queue}
 use Rattle.gate_state.specs.Lemmas.Alone.{singles_law}
 use Rattle.gate_state.specs.Lemmas.Apart.{queue_law}
 use Rattle.gate_queue.proofs.Batches.{IsLane, enqueued_lane, tried_lane, taken_out_lane, restarted_lane, requeued_lane, failed_lane, started_lane, later_lane, staged_lane, reported_lane, landing_lane}

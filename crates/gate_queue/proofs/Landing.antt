@@ -7,19 +7,10 @@ use Rattle.std.specs.FinMap as finite
 use Rattle.std.specs.List.{cons_option, count_by, filter_map, list_any}
 use Rattle.std.specs.Option.{option_flatten, option_map, option_or}
 use Rattle.std.specs.Str.{bytes_eq}
-use Rattle.gate_rules.specs.View.{DeskView}
-use Rattle.gate_rules.specs.declared.change.Change.{Change}
-use Rattle.gate_state.specs.declared.act.Act.TheVariants.{On, Other}
-use Rattle.gate_state.specs.declared.act.Fact.TheVariants.{Base, Refused}
-use Rattle.gate_state.specs.declared.reply.Head.{Head}
-use Rattle.gate_state.specs.declared.reply.Order.{Order}
-use Rattle.gate_state.specs.declared.reply.Order.TheVariants.{Stage, Land, Notice}
+use Rattle.gate_queue.specs.Vocabulary.{DeskView, Change, On, Other, Base, Refused, Head, Order, Stage, Land, Notice, Batch, Branch, StageOf}
 use Rattle.gate_queue.specs.History.{Event, did, gave, last_of, base_said, names_change, batches_back, ends_landing, landing_said, landing_with, are_same, has_landed, landing_back, landed_back, is_order, is_stage_of, is_land_of, stages, landings}
 use Rattle.gate_state.specs.Lanes.{is_landing}
 use Rattle.gate_queue.specs.Machine.{head_on}
-use Rattle.gate_state.specs.declared.batch.Batch.{Batch}
-use Rattle.gate_state.specs.declared.batch.Branch.{Branch}
-use Rattle.gate_state.specs.declared.batch.Stage.{Stage as StageOf}
 use Rattle.gate_state.specs.declared.batch.Stage.TheVariants as stage
 use Rattle.gate_queue.proofs.After.{rest_back, rest_after}
 use Rattle.gate_queue.proofs.Keeping.{lands}

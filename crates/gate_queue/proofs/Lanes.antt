@@ -12,9 +12,7 @@ use Rattle.gate_text.specs.LastWhere.{last_where}
 use Rattle.gate_state.specs.Lanes.{back, batches_of, dropped, enqueued, entered, failed, first_half, fresh, goes_before, has_changes, has_room, has_several, if_room, is_fresh_of, is_landing, last_so, left, loses, only, placed, requeued, restarted, retried, running_taken, second_half, split_into, started, stops_running, taken_out, tried, try_of, with_change}
 use Rattle.gate_state.specs.Lemmas.Counts.{all_stay}
 use Rattle.gate_state.specs.State.{IsWaiting}
-use Rattle.gate_state.specs.declared.batch.Batch.{Batch}
-use Rattle.gate_state.specs.declared.batch.Branch.{Branch}
-use Rattle.gate_state.specs.declared.lane.Lane.{Lane}
+use Rattle.gate_queue.specs.Vocabulary.{Batch, Branch, Lane}
 use Rattle.gate_queue.specs.Machine.{all_but}
 use Rattle.gate_queue.specs.MayChange.{is_numbered, one_numbered, is_in_front, is_run}
 

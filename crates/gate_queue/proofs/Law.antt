@@ -14,28 +14,10 @@ use Rattle.std.specs.Option.{option_and_then, option_map, option_map_or, option_
 use Rattle.std.specs.Ordering.{nat_cmp, int_eq}
 use Rattle.std.specs.Result.{result_ok}
 use Rattle.gate_text.specs.Same.{same_settings-is}
-use Rattle.gate_text.specs.Settings.{SettingsView, settings_of, same_settings}
-use Rattle.gate_text.specs.declared.settings.fault.SettingsFault.{SettingsFault}
-use Rattle.gate_rules.specs.Rules.{Look, is_open_phase}
-use Rattle.gate_rules.specs.View.{DeskView, empty_desk, with_clock, look, is_required}
-use Rattle.gate_rules.specs.declared.change.Change.{Change}
-use Rattle.gate_rules.specs.declared.role.Role.TheVariants.{Nobody}
-use Rattle.gate_rules.specs.declared.rule.Rule.{Rule}
-use Rattle.gate_rules.specs.declared.rule.Rule.TheVariants.{ClockBack, NoSuchBatch}
+use Rattle.gate_queue.specs.Vocabulary.{SettingsView, settings_of, same_settings, SettingsFault, Look, is_open_phase, DeskView, empty_desk, with_clock, look, is_required, Change, Nobody, Rule, ClockBack, NoSuchBatch, Act, On, Other, Deed, Role, Settings, Base, Staged, Conflict, Status, Refused, Tick, StatusState, Success, Failure, Error, Pending, Order, Stage, Land, Notice, Reply, Denied, Why, Batch, Branch, Staging, Trying, Report, StageOf, Lane, Outcome, State}
 use Rattle.gate_state.specs.State.{IsMoment, approved_on, landing_on, trying_on, priority_on, IsState}
 use Rattle.gate_state.specs.Counts.{occurs, in_landing, held, held_by, of_any_priority, uses}
 use Rattle.gate_state.specs.Acts.{ActKeepsLimits}
-use Rattle.gate_state.specs.declared.act.Act.{Act}
-use Rattle.gate_state.specs.declared.act.Act.TheVariants.{On, Other}
-use Rattle.gate_state.specs.declared.act.Deed.{Deed}
-use Rattle.gate_state.specs.declared.act.Fact.TheVariants.{Role, Settings, Base, Staged, Conflict, Status, Refused, Tick}
-use Rattle.gate_state.specs.declared.act.StatusState.{StatusState}
-use Rattle.gate_state.specs.declared.act.StatusState.TheVariants.{Success, Failure, Error, Pending}
-use Rattle.gate_state.specs.declared.reply.Order.{Order}
-use Rattle.gate_state.specs.declared.reply.Order.TheVariants.{Stage, Land, Notice}
-use Rattle.gate_state.specs.declared.reply.Reply.{Reply}
-use Rattle.gate_state.specs.declared.reply.Reply.TheVariants.{Denied}
-use Rattle.gate_state.specs.declared.reply.Why.{Why}
 use Rattle.gate_state.specs.declared.reply.Why.TheVariants as why
 use Rattle.gate_queue.specs.History.{Entry, Event, did, gave, given, ends_why, happened, events_of, last_of, said_on, author_back, head_back, settings_back, phase_back, labels_back, reviews_back, approval_said, standing_back, approvers_back, landing_back, trying_back, approvers_on, change_of, change_back, look_back, stages, keeps_order, keeps_staged, state_said, base_back, IsStandingAt, IsTriedAt, AreRightHeads, IsRightOrder, Legal, StateTells, EntryTells, entry_of, orders_in, denied_by, said_by}
 use Rattle.gate_state.specs.Lanes as lanes
@@ -44,16 +26,8 @@ use Rattle.gate_queue.specs.Machine.{broken, heads_told, denial, meaning, acted,
 use Rattle.gate_state.specs.Queue as specs
 use Rattle.gate_state.specs.Queue.{lane_of}
 use Rattle.gate_state.specs.Service.{IsAlone}
-use Rattle.gate_state.specs.declared.batch.Batch.{Batch}
-use Rattle.gate_state.specs.declared.batch.Branch.{Branch}
-use Rattle.gate_state.specs.declared.batch.Branch.TheVariants.{Staging, Trying}
-use Rattle.gate_state.specs.declared.batch.Report.{Report}
 use Rattle.gate_state.specs.declared.batch.Report.TheVariants as report
-use Rattle.gate_state.specs.declared.batch.Stage.{Stage as StageOf}
 use Rattle.gate_state.specs.declared.batch.Stage.TheVariants as stage
-use Rattle.gate_state.specs.declared.lane.Lane.{Lane}
-use Rattle.gate_queue.specs.declared.outcome.Outcome.{Outcome}
-use Rattle.gate_state.specs.declared.state.State.{State}
 use Rattle.gate_queue.proofs.Choosing.{either_way}
 use Rattle.gate_queue.proofs.After.{standing_fit}
 use Rattle.gate_queue.proofs.Doing.{about_are, accepted_are, status_kept, clock_kept, done_kept}

@@ -8,22 +8,13 @@ use Rattle.std.specs.Option.{option_map, option_map_or}
 use Rattle.std.specs.Ordering.{nat_cmp}
 use Rattle.std.specs.Str.{bytes_eq}
 use Rattle.gate_text.specs.Finite.{get-mapped}
-use Rattle.gate_text.specs.Settings.{SettingsView}
-use Rattle.gate_text.specs.declared.command.Command.{Command}
-use Rattle.gate_text.specs.declared.command.Command.TheVariants.{Ping, Approve, ApproveFor, Withdraw, Priority, Try, TryCancel, DelegateAuthor, DelegateTo, DelegateNone, Retry}
-use Rattle.gate_text.specs.declared.command.Spoken.TheVariants.{Known, Unknown}
-use Rattle.gate_rules.specs.Rules.{Look, first_failing, begins_with_rules, approval_rules, Texts, is_known, is_open, is_landing, is_open_phase, is_blocked, has_too_few_reviews, has_settings, has_base, permits, need}
-use Rattle.gate_rules.specs.View.{DeskView, is_open_at, with_status, told_at, with_told, empty_desk, with_role, with_base, with_clock, without_approval, look}
-use Rattle.gate_rules.specs.declared.change.Change.{Change}
+use Rattle.gate_queue.specs.Vocabulary.{SettingsView, Command, Ping, Approve, ApproveFor, Withdraw, Priority, Try, TryCancel, DelegateAuthor, DelegateTo, DelegateNone, Retry, Known, Unknown, Look, first_failing, Texts, is_known, is_open, is_open_phase, is_blocked, has_too_few_reviews, DeskView, is_open_at, with_told, empty_desk, with_role, with_base, with_clock, without_approval, look, Change, UnknownChange, NotOpen, RoleOf, On, Opened, Pushed, Closed, Labeled, Unlabeled, Review, Deed, Said, Happened}
+use Rattle.gate_rules.specs.Rules.{begins_with_rules, approval_rules, is_landing, has_settings, has_base, permits, need}
+use Rattle.gate_rules.specs.View.{with_status, told_at}
 use Rattle.gate_rules.specs.declared.change.Repeat.TheVariants as repeat
-use Rattle.gate_rules.specs.declared.rule.Rule.TheVariants.{UnknownChange, NotPermitted, NotOpen, Landing, NoSettings, NoBase}
-use Rattle.gate_rules.specs.declared.role.Role.{Role as RoleOf}
+use Rattle.gate_rules.specs.declared.rule.Rule.TheVariants.{NotPermitted, Landing, NoSettings, NoBase}
 use Rattle.gate_state.specs.State.{IsMoment, IsChange, IsDesk}
 use Rattle.gate_state.specs.Acts.{DeedKeepsLimits}
-use Rattle.gate_state.specs.declared.act.Act.TheVariants.{On}
-use Rattle.gate_state.specs.declared.act.ChangeFact.TheVariants.{Opened, Pushed, Closed, Labeled, Unlabeled, Review}
-use Rattle.gate_state.specs.declared.act.Deed.{Deed}
-use Rattle.gate_state.specs.declared.act.Deed.TheVariants.{Said, Happened}
 use Rattle.gate_queue.specs.Machine.{broken, effect, altered, lone_altered, all_altered, with_landing, released, landed, with_new_settings, unless_against, approved_by, with_try, without_try, with_priority, with_delegates, with_author_as_delegate, without_delegates, opened, pushed, moved_to, closed, labeled, with_label, without_label, reviewed, with_review, settled, loses_approval}
 use Rattle.gate_queue.proofs.Changes.{same_number, altered_look, opened_at}
 use Rattle.gate_queue.proofs.Fitness.{passed}

@@ -3,26 +3,14 @@ use Rattle.std.proofs.Common.{◌≡◌, ℕ, List, ◌∷◌, Option, Some, Non
 use Rattle.std.specs.FinMap as finite
 use Rattle.std.specs.List.{All}
 use Rattle.std.specs.Option.{option_and_then, option_or}
-use Rattle.gate_text.specs.declared.command.Command.{Command}
-use Rattle.gate_text.specs.declared.command.Command.TheVariants.{Ping, Approve, ApproveFor, Withdraw, Priority, Try, TryCancel, DelegateAuthor, DelegateTo, DelegateNone, Retry}
-use Rattle.gate_text.specs.declared.command.Spoken.TheVariants.{Known, Unknown}
-use Rattle.gate_rules.specs.Rules.{Look, first_failing, asks, admits, need_of_retry, is_delegate, is_known, is_open, repeated_rules, last_command}
-use Rattle.gate_rules.specs.View.{look}
-use Rattle.gate_rules.specs.declared.change.Change.{Change}
-use Rattle.gate_rules.specs.declared.change.Repeat.{Repeat}
+use Rattle.gate_queue.specs.Vocabulary.{Command, Ping, Approve, ApproveFor, Withdraw, Priority, Try, TryCancel, DelegateAuthor, DelegateTo, DelegateNone, Retry, Known, Unknown, Look, first_failing, asks, is_known, is_open, last_command, look, Change, Repeat, Rule, UnknownChange, NotOpen, Act, On, Other, Said, Happened, Order, Stage, Land, Notice, State}
+use Rattle.gate_rules.specs.Rules.{admits, need_of_retry, is_delegate, repeated_rules}
 use Rattle.gate_rules.specs.declared.change.Repeat.TheVariants as repeat
-use Rattle.gate_rules.specs.declared.rule.Rule.{Rule}
-use Rattle.gate_rules.specs.declared.rule.Rule.TheVariants.{UnknownChange, NotPermitted, NotOpen}
+use Rattle.gate_rules.specs.declared.rule.Rule.TheVariants.{NotPermitted}
 use Rattle.gate_state.specs.Acts.{ActKeepsLimits}
-use Rattle.gate_state.specs.declared.act.Act.{Act}
-use Rattle.gate_state.specs.declared.act.Act.TheVariants.{On, Other}
-use Rattle.gate_state.specs.declared.act.Deed.TheVariants.{Said, Happened}
-use Rattle.gate_state.specs.declared.reply.Order.{Order}
-use Rattle.gate_state.specs.declared.reply.Order.TheVariants.{Stage, Land, Notice}
 use Rattle.gate_queue.specs.History.{Event, IsRightOrder}
 use Rattle.gate_queue.specs.Machine.{broken, missing, denial, repeated, meaning, done, unless_denied, after}
 use Rattle.gate_state.specs.State.{IsChange, RepeatKeepsLimits, IsState}
-use Rattle.gate_state.specs.declared.state.State.{State}
 use Rattle.gate_queue.proofs.Wording.{none_both}
 
 -- An act means itself, but for a `retry`.

@@ -1,28 +1,15 @@
 -- News of a batch and a tick leave all batches but those in front, and all changes but those that run.
-use Rattle.std.proofs.Common.{◌≡◌, ◌<◌, ◌≤◌, ℕ, Bool, true, false, ◌||◌, if◌then◌else◌, List, slice_get, Option, Some, None, refl, sym, ◌∙◌, ap, arith}
+use Rattle.std.proofs.Common.{◌≡◌, ◌<◌, ◌≤◌, ℕ, true, false, ◌||◌, List, slice_get, Option, Some, None, refl, sym, ◌∙◌, ap, arith}
 use Rattle.std.proofs.lemmas.Bool.{or_parts}
 use Rattle.std.specs.FinMap as finite
 use Rattle.std.specs.Option.{option_map, option_or}
-use Rattle.gate_rules.specs.View.{DeskView, without_approval, is_required, with_clock}
+use Rattle.gate_queue.specs.Vocabulary.{DeskView, without_approval, is_required, with_clock, Other, Tick, StatusState, Success, Failure, Error, Pending, Batch, Branch, Staging, Trying, Report, Lane, Queue, Why, State, Outcome}
 use Rattle.gate_state.specs.Lanes as lanes
 use Rattle.gate_state.specs.Lanes.{staged_at, reported_on, to_land as landing_from}
 use Rattle.gate_state.specs.Queue.{batch_numbered, lane_of, with_lane, staged, reported}
 use Rattle.gate_state.specs.State.{approved_on}
-use Rattle.gate_state.specs.declared.act.Act.TheVariants.{Other}
-use Rattle.gate_state.specs.declared.act.Fact.TheVariants.{Tick}
-use Rattle.gate_state.specs.declared.act.StatusState.{StatusState}
-use Rattle.gate_state.specs.declared.act.StatusState.TheVariants.{Success, Failure, Error, Pending}
-use Rattle.gate_state.specs.declared.batch.Batch.{Batch}
-use Rattle.gate_state.specs.declared.batch.Branch.{Branch}
-use Rattle.gate_state.specs.declared.batch.Branch.TheVariants.{Staging, Trying}
-use Rattle.gate_state.specs.declared.batch.Report.{Report}
 use Rattle.gate_state.specs.declared.batch.Report.TheVariants as report
-use Rattle.gate_state.specs.declared.lane.Lane.{Lane}
-use Rattle.gate_state.specs.declared.queue.Queue.{Queue}
-use Rattle.gate_state.specs.declared.reply.Why.{Why}
 use Rattle.gate_state.specs.declared.reply.Why.TheVariants as why
-use Rattle.gate_state.specs.declared.state.State.{State}
-use Rattle.gate_queue.specs.declared.outcome.Outcome.{Outcome}
 use Rattle.gate_queue.specs.Machine.{quiet, with_queue, with_desk, failing, with_landing, to_land, if_passed, goes_on, told_of, told, has_staged, has_passed, released_on, sent_back, has_overdue, timed_out, without_try, done, ending, passing, on_both, told_on, starting, told_as}
 use Rattle.gate_queue.specs.MayChange.{Parts, Untouched, in_front, is_run, is_in_front}
 use Rattle.gate_queue.proofs.Choosing.{either_way}

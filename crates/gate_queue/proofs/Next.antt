@@ -1,11 +1,8 @@
 -- What the history says of a change after one more command on it: the change as it was said before, altered.
 use Rattle.std.proofs.Common.{◌≡◌, ℕ, ℤ, true, false, not, List, [], ◌∷◌, Some, refl, sym}
 use Rattle.std.specs.Option.{option_map}
-use Rattle.gate_text.specs.declared.command.Command.TheVariants.{Approve, ApproveFor, Withdraw, Priority, Try, TryCancel, DelegateAuthor, DelegateTo, DelegateNone}
-use Rattle.gate_text.specs.declared.command.Spoken.TheVariants.{Known}
-use Rattle.gate_rules.specs.View.{without_approval}
+use Rattle.gate_queue.specs.Vocabulary.{Approve, ApproveFor, Withdraw, Priority, Try, TryCancel, DelegateAuthor, DelegateTo, DelegateNone, Known, without_approval, Said}
 use Rattle.gate_rules.specs.declared.change.Repeat.TheVariants as repeat
-use Rattle.gate_state.specs.declared.act.Deed.TheVariants.{Said}
 use Rattle.gate_queue.specs.History.{Event, landed_back, with_author, delegates_back, fit_back, change_of, change_back}
 use Rattle.gate_queue.specs.Machine.{approved_by, with_try, without_try, with_priority, with_delegates, with_author_as_delegate, without_delegates}
 use Rattle.gate_queue.proofs.After.{rest_back, change_after, altered_here, ended, stays}

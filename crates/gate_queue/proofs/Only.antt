@@ -4,20 +4,10 @@ use Rattle.std.proofs.lemmas.Bool.{not-true}
 use Rattle.std.specs.FinMap as finite
 use Rattle.std.specs.Option.{option_map, option_map_or}
 use Rattle.std.specs.Str.{bytes_eq}
-use Rattle.gate_text.specs.Settings.{SettingsView}
-use Rattle.gate_text.specs.declared.command.Command.{Command}
-use Rattle.gate_text.specs.declared.command.Command.TheVariants.{Ping, Approve, ApproveFor, Withdraw, Priority, Try, TryCancel, DelegateAuthor, DelegateTo, DelegateNone, Retry}
-use Rattle.gate_text.specs.declared.command.Spoken.{Spoken as SpokenOf}
-use Rattle.gate_text.specs.declared.command.Spoken.TheVariants.{Known, Unknown}
-use Rattle.gate_rules.specs.Rules.{Look, first_failing, unless_landing, is_known, is_open, is_landing as is_landing_on, permits, need}
-use Rattle.gate_rules.specs.View.{DeskView, without_approval, look}
-use Rattle.gate_rules.specs.declared.change.Change.{Change}
+use Rattle.gate_queue.specs.Vocabulary.{SettingsView, Command, Ping, Approve, ApproveFor, Withdraw, Priority, Try, TryCancel, DelegateAuthor, DelegateTo, DelegateNone, Retry, SpokenOf, Known, Unknown, Look, first_failing, is_known, is_open, DeskView, without_approval, look, Change, Rule, UnknownChange, NotOpen, On, Opened, Said, Happened}
+use Rattle.gate_rules.specs.Rules.{unless_landing, is_landing as is_landing_on, permits, need}
 use Rattle.gate_rules.specs.declared.change.Repeat.TheVariants as repeat
-use Rattle.gate_rules.specs.declared.rule.Rule.{Rule}
-use Rattle.gate_rules.specs.declared.rule.Rule.TheVariants.{UnknownChange, NotPermitted, NotOpen, Landing as IsLandingRule}
-use Rattle.gate_state.specs.declared.act.Act.TheVariants.{On}
-use Rattle.gate_state.specs.declared.act.ChangeFact.TheVariants.{Opened}
-use Rattle.gate_state.specs.declared.act.Deed.TheVariants.{Said, Happened}
+use Rattle.gate_rules.specs.declared.rule.Rule.TheVariants.{NotPermitted, Landing as IsLandingRule}
 use Rattle.gate_queue.specs.Machine.{broken, effect, altered, approved_by, with_try, without_try, with_priority, with_delegates, with_author_as_delegate, without_delegates, opened, pushed, moved_to, unless_against}
 use Rattle.gate_state.specs.State.{approved_on, priority_on}
 use Rattle.gate_queue.proofs.Changes.{altered_look, altered_here, altered_elsewhere, opened_here, opened_elsewhere}

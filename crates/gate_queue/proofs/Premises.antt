@@ -2,14 +2,9 @@
 use Rattle.std.proofs.Common.{◌≡◌, ℕ, Bool, true, false, not, List, [], Option, Some, None, eqb, refl, sym, ◌∙◌, ap, subst}
 use Rattle.std.proofs.lemmas.Bool.{not-true}
 use Rattle.std.specs.Option.{option_map, option_map_or}
-use Rattle.gate_text.specs.declared.command.Command.{Command}
-use Rattle.gate_rules.specs.Rules.{first_failing, begins_with_rules, approval_rules, try_rules, is_known, is_open, is_landing, is_landed, is_approved, is_open_phase, is_landed_phase, has_settings, has_base, permits, need, of_both, blocked_rule, head_status_rule, too_few_rule}
-use Rattle.gate_rules.specs.declared.change.Change.{Change}
-use Rattle.gate_rules.specs.declared.change.Phase.{Phase}
-use Rattle.gate_rules.specs.declared.rule.Rule.TheVariants.{UnknownChange, NotPermitted, NotOpen, Landing, NoSettings, NoBase, AlreadyApproved, AlreadyOpen, ChangeLanded}
-use Rattle.gate_state.specs.declared.act.Act.TheVariants.{On}
-use Rattle.gate_state.specs.declared.act.ChangeFact.TheVariants.{Opened}
-use Rattle.gate_state.specs.declared.act.Deed.TheVariants.{Happened}
+use Rattle.gate_queue.specs.Vocabulary.{Command, first_failing, is_known, is_open, is_landed, is_open_phase, Change, Phase, UnknownChange, NotOpen, AlreadyOpen, ChangeLanded, On, Opened, Happened}
+use Rattle.gate_rules.specs.Rules.{begins_with_rules, approval_rules, try_rules, is_landing, is_approved, is_landed_phase, has_settings, has_base, permits, need, of_both, blocked_rule, head_status_rule, too_few_rule}
+use Rattle.gate_rules.specs.declared.rule.Rule.TheVariants.{NotPermitted, Landing, NoSettings, NoBase, AlreadyApproved}
 use Rattle.gate_queue.specs.History.{Event, last_of, said_on, author_back, landed_back, phase_said, phase_by, phase_back, settings_back, fit_back, change_of, change_back, look_back}
 use Rattle.gate_queue.specs.Machine.{broken, of_open_change}
 use Rattle.gate_queue.proofs.Changes.{same_number}

@@ -7,7 +7,7 @@ use Rattle.std.specs.List.{fold, list_any}
 use Rattle.std.specs.Option.{unwrap_or, option_or, option_and_then, option_map_or}
 use Rattle.std.specs.Ordering.{nat_cmp}
 use Rattle.std.specs.Str.{bytes_eq}
-use Rattle.gate_rules.specs.Rules.{Texts, is_open_phase}
+use Rattle.gate_queue.specs.Vocabulary.{Texts, is_open_phase}
 use Rattle.gate_text.specs.Finite.{contains-each, known_by_order}
 use Rattle.gate_queue.specs.History.{Event, Mark, put, taken, marked, Delegation, to_author, to_people, to_nobody, with_author, delegated, last_of, since, said_by, said_on, author_back, head_back, phase_back, moves, status_said, told_back, passed_back, label_said, labels_back, review_said, reviews_back, delegation_said, delegates_back}
 use Rattle.gate_queue.specs.Words.{mark_of, marks, is_labeled, has_reviewed, head_marks, has_succeeded_there, names_person, takes_back, is_delegated}

@@ -12,41 +12,18 @@ use Rattle.std.specs.Option.{option_map, option_map_or}
 use Rattle.std.specs.Ordering.{nat_cmp}
 use Rattle.std.specs.Str.{bytes_eq}
 use Rattle.gate_text.specs.Finite.{get-mapped}
-use Rattle.gate_text.specs.Settings.{SettingsView, settings_of}
-use Rattle.gate_text.specs.declared.settings.fault.SettingsFault.{SettingsFault}
-use Rattle.gate_rules.specs.Rules.{Look, is_blocked, has_too_few_reviews}
-use Rattle.gate_rules.specs.View.{DeskView, with_base, with_clock, without_approval, look, is_required}
-use Rattle.gate_rules.specs.declared.change.Change.{Change}
-use Rattle.gate_rules.specs.declared.rule.Rule.{Rule}
-use Rattle.gate_rules.specs.declared.rule.Rule.TheVariants.{ClockBack}
+use Rattle.gate_queue.specs.Vocabulary.{SettingsView, settings_of, SettingsFault, Look, is_blocked, has_too_few_reviews, DeskView, with_base, with_clock, without_approval, look, is_required, Change, Rule, ClockBack, Act, On, Other, Opened, Pushed, Closed, Labeled, Unlabeled, Review, Deed, Said, Happened, Role, Settings, Base, Staged as StagedFact, Conflict, Status, Refused, Tick, StatusState, Success, Failure, Error, Pending, Why, Batch, Branch, Staging, Trying, Report, StageOf as Stage, Lane, Queue, State, Outcome}
 use Rattle.gate_state.specs.State.{IsMoment, approved_on, landing_on, priority_on, trying_on, IsChange, IsDesk, Marks, IsRunning, IsBranch, IsQueue, IsState, marks_on}
 use Rattle.gate_state.specs.Counts.{occurs, held, held_by, in_landing, of_any_priority}
 use Rattle.gate_state.specs.Lanes as lanes
 use Rattle.gate_state.specs.Lanes.{empty_lane, is_landing}
 use Rattle.gate_state.specs.Acts.{ActKeepsLimits, DeedKeepsLimits}
-use Rattle.gate_state.specs.declared.act.Act.{Act}
-use Rattle.gate_state.specs.declared.act.Act.TheVariants.{On, Other}
-use Rattle.gate_state.specs.declared.act.ChangeFact.TheVariants.{Opened, Pushed, Closed, Labeled, Unlabeled, Review}
-use Rattle.gate_state.specs.declared.act.Deed.{Deed}
-use Rattle.gate_state.specs.declared.act.Deed.TheVariants.{Said, Happened}
-use Rattle.gate_state.specs.declared.act.Fact.TheVariants.{Role, Settings, Base, Staged as StagedFact, Conflict, Status, Refused, Tick}
-use Rattle.gate_state.specs.declared.act.StatusState.{StatusState}
-use Rattle.gate_state.specs.declared.act.StatusState.TheVariants.{Success, Failure, Error, Pending}
-use Rattle.gate_state.specs.declared.reply.Why.{Why}
 use Rattle.gate_state.specs.declared.reply.Why.TheVariants as why
 use Rattle.gate_queue.specs.Machine.{empty_state, heads_told, broken, denial, meaning, missing, has_ordered, is_ordered, has_staged, is_staged_with, effect, all_altered, without_try, closed, with_label, without_label, with_review, quiet, with_desk, with_queue, about, with_settled, settled, loses_approval, are_present, with_new_settings, under, accepted, lone, lone_altered, failing, has_passed, with_landing, to_land, if_passed, goes_on, told_of, told, landed, released, released_at, released_on, sent_back, is_landing_with, lands_with, tries_left, rebased, is_overdue, has_overdue, timed_out, starting, done, unless_denied, after, ending, passing, on_both, told_on, told_as, spent, lone_on, ordered_on}
 use Rattle.gate_state.specs.Queue as specs
 use Rattle.gate_state.specs.Service.{IsInOrder, QueueIsInOrder, IsAlone, AreAlone}
-use Rattle.gate_state.specs.declared.batch.Batch.{Batch}
-use Rattle.gate_state.specs.declared.batch.Branch.{Branch}
-use Rattle.gate_state.specs.declared.batch.Branch.TheVariants.{Staging, Trying}
-use Rattle.gate_state.specs.declared.batch.Report.{Report}
 use Rattle.gate_state.specs.declared.batch.Report.TheVariants as report
-use Rattle.gate_state.specs.declared.batch.Stage.{Stage}
 use Rattle.gate_state.specs.declared.batch.Stage.TheVariants.{Waiting, Ordered, Staged, Landing}
-use Rattle.gate_state.specs.declared.lane.Lane.{Lane}
-use Rattle.gate_state.specs.declared.queue.Queue.{Queue}
-use Rattle.gate_state.specs.declared.state.State.{State}
 use Rattle.gate_queue.proofs.Choosing.{either_way}
 use Rattle.gate_queue.proofs.Changes.{all_look, lone_rest, lone_same, lone_ends}
 use Rattle.gate_queue.proofs.Fitness.{passed}
@@ -61,7 +38,6 @@ use Rattle.gate_queue.proofs.Wording.{none_both}
 use Rattle.gate_queue.proofs.Held.{Holds, still_branch, heads_told_holds}
 use Rattle.gate_state.specs.Room.{HasRoom}
 use Rattle.gate_state.specs.Queue.{lane_of}
-use Rattle.gate_queue.specs.declared.outcome.Outcome.{Outcome}
 
 -- A DEED ON A CHANGE
 only_at : (desk : DeskView) (n : ℕ) (deed : Deed) → broken (look desk) (On n deed) ≡ None → OnlyAt n desk (effect desk n deed)

@@ -7,19 +7,8 @@ use Rattle.std.specs.Bool.{⊤, then_some}
 use Rattle.std.specs.FinMap as finite
 use Rattle.std.specs.List.{All, count_by, filter_map, list_any}
 use Rattle.std.specs.Option.{option_flatten, option_map, option_map_or, option_or}
-use Rattle.gate_text.specs.Settings.{SettingsView}
-use Rattle.gate_text.specs.declared.settings.fault.SettingsFault.{SettingsFault}
-use Rattle.gate_rules.specs.Rules.{Look}
-use Rattle.gate_rules.specs.View.{DeskView, look, is_required}
-use Rattle.gate_rules.specs.declared.change.Change.{Change}
+use Rattle.gate_queue.specs.Vocabulary.{SettingsView, SettingsFault, Look, DeskView, look, is_required, Change, Act, StatusState, Success, Failure, Error, Pending, Head, Order, Stage, Land, Notice, Why, Batch, Branch, Staging, Trying, Report, StageOf, Lane, Queue, Outcome, State}
 use Rattle.gate_state.specs.Counts.{held, held_by, of_any_priority, uses}
-use Rattle.gate_state.specs.declared.act.Act.{Act}
-use Rattle.gate_state.specs.declared.act.StatusState.{StatusState}
-use Rattle.gate_state.specs.declared.act.StatusState.TheVariants.{Success, Failure, Error, Pending}
-use Rattle.gate_state.specs.declared.reply.Head.{Head}
-use Rattle.gate_state.specs.declared.reply.Order.{Order}
-use Rattle.gate_state.specs.declared.reply.Order.TheVariants.{Stage, Land, Notice}
-use Rattle.gate_state.specs.declared.reply.Why.{Why}
 use Rattle.gate_state.specs.declared.reply.Why.TheVariants as why
 use Rattle.gate_queue.specs.History.{Event, did, gave, given, last_of, landing_said, author_back, change_of, names_change, batches_back, landing_with, is_order, is_stage_of, is_land_of, stages, landings, ends_why, look_back}
 use Rattle.gate_state.specs.Lanes as lanes
@@ -28,17 +17,8 @@ use Rattle.gate_queue.specs.Machine.{broken, size_on, all_but, followed, approva
 use Rattle.gate_state.specs.State.{approved_on, trying_on, priority_on, IsWaiting}
 use Rattle.gate_state.specs.Queue as specs
 use Rattle.gate_state.specs.Queue.{lane_of}
-use Rattle.gate_state.specs.declared.batch.Batch.{Batch}
-use Rattle.gate_state.specs.declared.batch.Branch.{Branch}
-use Rattle.gate_state.specs.declared.batch.Branch.TheVariants.{Staging, Trying}
-use Rattle.gate_state.specs.declared.batch.Report.{Report}
 use Rattle.gate_state.specs.declared.batch.Report.TheVariants as report
-use Rattle.gate_state.specs.declared.batch.Stage.{Stage as StageOf}
 use Rattle.gate_state.specs.declared.batch.Stage.TheVariants as stage
-use Rattle.gate_state.specs.declared.lane.Lane.{Lane}
-use Rattle.gate_state.specs.declared.queue.Queue.{Queue}
-use Rattle.gate_queue.specs.declared.outcome.Outcome.{Outcome}
-use Rattle.gate_state.specs.declared.state.State.{State}
 use Rattle.gate_queue.proofs.Choosing.{either_way}
 use Rattle.gate_queue.proofs.Acting.{AreMild, starting_look, land_look, ending_look, ends_on}
 use Rattle.gate_queue.proofs.After.{order_elsewhere}

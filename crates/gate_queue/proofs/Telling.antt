@@ -10,9 +10,8 @@ use Rattle.std.specs.List.{list_any}
 use Rattle.std.specs.Option.{option_map, option_map_or}
 use Rattle.std.specs.Ordering.{eq_by_cmp, nat_cmp}
 use Rattle.gate_text.specs.Finite.{get-mapped}
-use Rattle.gate_rules.specs.Rules.{Look, Texts}
-use Rattle.gate_rules.specs.View.{DeskView, AreOpenAt, is_open_at, is_open_head, with_status, told_at, with_told}
-use Rattle.gate_rules.specs.declared.change.Change.{Change}
+use Rattle.gate_queue.specs.Vocabulary.{Look, Texts, DeskView, is_open_at, is_open_head, with_told, Change}
+use Rattle.gate_rules.specs.View.{AreOpenAt, with_status, told_at}
 use Rattle.gate_queue.specs.Machine.{altered, with_altered, all_altered}
 use Rattle.gate_queue.proofs.Changes.{all_look}
 

@@ -13,30 +13,12 @@ use Rattle.std.specs.List.{All, list_all, list_any}
 use Rattle.std.specs.Option.{option_and_then, option_map_or, option_or, unwrap_or}
 use Rattle.std.specs.Ordering.{nat_cmp}
 use Rattle.std.specs.Str.{bytes_eq}
-use Rattle.gate_text.specs.Settings.{SettingsView}
+use Rattle.gate_queue.specs.Vocabulary.{SettingsView, Act, Other, Opened, Pushed, Closed, Labeled, Unlabeled, Review, Deed, Said, Happened, Staged, Status, StatusState, Success, Head, Order, Stage, Land, Notice, Why, is_required, Batch, Branch, Staging, Report, StageOf}
 use Rattle.gate_state.specs.Acts.{on}
-use Rattle.gate_state.specs.declared.act.Act.{Act}
-use Rattle.gate_state.specs.declared.act.Act.TheVariants.{Other}
-use Rattle.gate_state.specs.declared.act.ChangeFact.TheVariants.{Opened, Pushed, Closed, Labeled, Unlabeled, Review}
-use Rattle.gate_state.specs.declared.act.Deed.{Deed}
-use Rattle.gate_state.specs.declared.act.Deed.TheVariants.{Said, Happened}
-use Rattle.gate_state.specs.declared.act.Fact.TheVariants.{Staged, Status}
-use Rattle.gate_state.specs.declared.act.StatusState.{StatusState}
-use Rattle.gate_state.specs.declared.act.StatusState.TheVariants.{Success}
-use Rattle.gate_state.specs.declared.reply.Head.{Head}
-use Rattle.gate_state.specs.declared.reply.Order.{Order}
-use Rattle.gate_state.specs.declared.reply.Order.TheVariants.{Stage, Land, Notice}
-use Rattle.gate_state.specs.declared.reply.Why.{Why}
 use Rattle.gate_queue.specs.History.{Event, did, gave, last_of, since, said_by, said_on, settings_back, base_back, head_said, head_back, moves_head, fit_back, approval_said, ends_it, standing_back, heads_said, heads_back, is_order_on, keeps_order, is_ordered_on, keeps_staged, is_staged_as, is_staged_back, state_said, is_bad, keeps_clean, is_clean, passes, keeps_passed, has_passed, is_order_at, keeps_head, is_unmoved, given, ends_why, IsTested, IsReadyToLand, IsRightLanding}
-use Rattle.gate_rules.specs.View.{is_required}
 use Rattle.gate_state.specs.Lanes.{is_success, has_succeeded}
 use Rattle.gate_queue.specs.Machine.{is_good, is_staged_with}
-use Rattle.gate_state.specs.declared.batch.Batch.{Batch}
-use Rattle.gate_state.specs.declared.batch.Branch.{Branch}
-use Rattle.gate_state.specs.declared.batch.Branch.TheVariants.{Staging}
-use Rattle.gate_state.specs.declared.batch.Report.{Report}
 use Rattle.gate_state.specs.declared.batch.Report.TheVariants as report
-use Rattle.gate_state.specs.declared.batch.Stage.{Stage as StageOf}
 use Rattle.gate_state.specs.declared.batch.Stage.TheVariants as stage
 use Rattle.gate_queue.proofs.After.{standing_fit}
 

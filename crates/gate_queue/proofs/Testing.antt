@@ -11,32 +11,16 @@ use Rattle.std.specs.Ordering.{nat_cmp}
 use Rattle.std.specs.List.{All, list_all, list_any}
 use Rattle.std.specs.Option.{option_map, option_map_or, option_or}
 use Rattle.std.specs.Str.{bytes_eq}
-use Rattle.gate_text.specs.Settings.{SettingsView}
-use Rattle.gate_rules.specs.Rules.{Look, is_approved}
-use Rattle.gate_rules.specs.View.{DeskView, look, is_required}
-use Rattle.gate_rules.specs.declared.change.Change.{Change}
+use Rattle.gate_queue.specs.Vocabulary.{SettingsView, Look, DeskView, look, is_required, Change, Act, Other, Status, StatusState, Success, Pending, Order, Stage, Land, Notice, Batch, Staging, Report, StageOf, Lane, Queue, State}
+use Rattle.gate_rules.specs.Rules.{is_approved}
 use Rattle.gate_state.specs.Counts.{of_any_priority}
-use Rattle.gate_state.specs.declared.act.Act.{Act}
-use Rattle.gate_state.specs.declared.act.Act.TheVariants.{Other}
-use Rattle.gate_state.specs.declared.act.Fact.TheVariants.{Status}
-use Rattle.gate_state.specs.declared.act.StatusState.{StatusState}
-use Rattle.gate_state.specs.declared.act.StatusState.TheVariants.{Success, Pending}
-use Rattle.gate_state.specs.declared.reply.Order.{Order}
-use Rattle.gate_state.specs.declared.reply.Order.TheVariants.{Stage, Land, Notice}
 use Rattle.gate_queue.specs.History.{Event, did, gave, given, last_of, said_on, is_bad, author_back, settings_back, base_back, fit_back, approval_said, ends, standing_back, approvers_back, change_of, look_back, IsRightOrder, IsRightLanding}
 use Rattle.gate_state.specs.Lanes.{is_landing, back, loses, only, left, stops_running, with_report, reported_on, to_landing, to_land as lanes_to_land, taken_out, restarted, requeued, failed, is_success, has_succeeded}
 use Rattle.gate_state.specs.State.{approved_on, landing_on, trying_on, priority_on}
 use Rattle.gate_queue.specs.Machine.{size_on, all_but, followed, approval_followed, followed_on, quiet, with_queue, accepted, has_passed, land_order, to_land, if_passed, goes_on, passing}
 use Rattle.gate_state.specs.Queue as specs
-use Rattle.gate_state.specs.declared.batch.Batch.{Batch}
-use Rattle.gate_state.specs.declared.batch.Branch.TheVariants.{Staging}
-use Rattle.gate_state.specs.declared.batch.Report.{Report}
 use Rattle.gate_state.specs.declared.batch.Report.TheVariants as report
-use Rattle.gate_state.specs.declared.batch.Stage.{Stage as StageOf}
 use Rattle.gate_state.specs.declared.batch.Stage.TheVariants as stage
-use Rattle.gate_state.specs.declared.lane.Lane.{Lane}
-use Rattle.gate_state.specs.declared.queue.Queue.{Queue}
-use Rattle.gate_state.specs.declared.state.State.{State}
 use Rattle.gate_queue.proofs.Keeping.{lands, none_landing, tried_by_staging}
 use Rattle.gate_queue.proofs.Held.{Holds}
 use Rattle.gate_queue.proofs.States.{queued_there}

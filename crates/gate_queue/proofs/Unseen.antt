@@ -4,20 +4,9 @@ use Rattle.std.proofs.lemmas.Bool.{and_right}
 use Rattle.std.specs.FinSet as set
 use Rattle.std.specs.List.{cons_option, list_any}
 use Rattle.std.specs.Option.{option_map, option_map_or, option_and_then, option_or}
-use Rattle.gate_text.specs.declared.command.Command.{Command}
-use Rattle.gate_text.specs.declared.command.Command.TheVariants.{Ping, Approve, ApproveFor, Withdraw, Priority, Try, TryCancel, DelegateAuthor, DelegateTo, DelegateNone, Retry}
-use Rattle.gate_text.specs.declared.command.Spoken.TheVariants.{Known, Unknown}
-use Rattle.gate_rules.specs.Rules.{Look, is_known}
-use Rattle.gate_rules.specs.declared.change.Change.{Change}
+use Rattle.gate_queue.specs.Vocabulary.{Command, Ping, Approve, ApproveFor, Withdraw, Priority, Try, TryCancel, DelegateAuthor, DelegateTo, DelegateNone, Retry, Known, Unknown, Look, is_known, Change, UnknownChange, Act, On, Other, Opened, Pushed, Closed, Labeled, Unlabeled, Review, Deed, Said, Happened, Order}
 use Rattle.gate_rules.specs.declared.change.Phase.TheVariants as phase
-use Rattle.gate_rules.specs.declared.rule.Rule.TheVariants.{UnknownChange}
 use Rattle.gate_state.specs.Acts.{on}
-use Rattle.gate_state.specs.declared.act.Act.{Act}
-use Rattle.gate_state.specs.declared.act.Act.TheVariants.{On, Other}
-use Rattle.gate_state.specs.declared.act.ChangeFact.TheVariants.{Opened, Pushed, Closed, Labeled, Unlabeled, Review}
-use Rattle.gate_state.specs.declared.act.Deed.{Deed}
-use Rattle.gate_state.specs.declared.act.Deed.TheVariants.{Said, Happened}
-use Rattle.gate_state.specs.declared.reply.Order.{Order}
 use Rattle.gate_queue.specs.History.{Event, did, gave, last_of, said_on, done_to, author_said, author_back, stage_naming, batches_back, landing_with, landing_back, has_landed, landed_back, phase_said, phase_by, phase_back, priority_back, labels_back, delegates_back, repeat_back, try_said, try_ends, tried_back, trying_back, change_of, look_back}
 use Rattle.gate_queue.specs.Machine.{broken}
 use Rattle.gate_queue.proofs.After.{rest_back, author_after, priority_after, labels_after, delegates_after, repeat_after}

@@ -11,34 +11,14 @@ use Rattle.std.specs.Option.{option_map, option_map_or}
 use Rattle.std.specs.Ordering.{int_eq, nat_cmp}
 use Rattle.std.specs.Str.{bytes_eq}
 use Rattle.gate_text.specs.Finite.{get-mapped}
-use Rattle.gate_text.specs.Settings.{SettingsView, settings_of}
-use Rattle.gate_text.specs.declared.command.Command.TheVariants.{Approve, ApproveFor, Try, Retry}
-use Rattle.gate_text.specs.declared.command.Spoken.TheVariants.{Known, Unknown}
-use Rattle.gate_text.specs.declared.settings.fault.SettingsFault.{SettingsFault}
-use Rattle.gate_rules.specs.Rules.{is_member, last_command}
-use Rattle.gate_rules.specs.View.{DeskView, is_open_at, is_required, with_status, told_at, with_role, without_approval, look}
-use Rattle.gate_rules.specs.declared.change.Change.{Change}
-use Rattle.gate_rules.specs.declared.change.Repeat.{Repeat}
+use Rattle.gate_queue.specs.Vocabulary.{SettingsView, settings_of, Approve, ApproveFor, Try, Retry, Known, Unknown, SettingsFault, is_member, last_command, DeskView, is_open_at, is_required, with_role, without_approval, look, Change, Repeat, RoleOf, Rule, Act, On, Other, Opened, Pushed, Closed, Labeled, Unlabeled, Review, Deed, Said, Happened, Role, Settings, Base, Staged, Conflict, Status, Refused, Tick, StatusState, Batch, Staging, Trying, Queue, State, Outcome, Branch}
+use Rattle.gate_rules.specs.View.{with_status, told_at}
 use Rattle.gate_rules.specs.declared.change.Repeat.TheVariants as repeat
-use Rattle.gate_rules.specs.declared.role.Role.{Role as RoleOf}
-use Rattle.gate_rules.specs.declared.rule.Rule.{Rule}
 use Rattle.gate_state.specs.Lanes as lanes
 use Rattle.gate_state.specs.Lanes.{is_fresh_beside, is_fresh_of, last_so, loses}
 use Rattle.gate_state.specs.Queue.{batches_of, taken_out, restarted, lane_of}
 use Rattle.gate_state.specs.State.{approved_on, priority_on, trying_on, IsState}
-use Rattle.gate_state.specs.declared.act.Act.{Act}
-use Rattle.gate_state.specs.declared.act.Act.TheVariants.{On, Other}
-use Rattle.gate_state.specs.declared.act.ChangeFact.TheVariants.{Opened, Pushed, Closed, Labeled, Unlabeled, Review}
-use Rattle.gate_state.specs.declared.act.Deed.{Deed}
-use Rattle.gate_state.specs.declared.act.Deed.TheVariants.{Said, Happened}
-use Rattle.gate_state.specs.declared.act.Fact.TheVariants.{Role, Settings, Base, Staged, Conflict, Status, Refused, Tick}
-use Rattle.gate_state.specs.declared.act.StatusState.{StatusState}
-use Rattle.gate_state.specs.declared.batch.Batch.{Batch}
-use Rattle.gate_state.specs.declared.batch.Branch.TheVariants.{Staging, Trying}
-use Rattle.gate_state.specs.declared.queue.Queue.{Queue}
-use Rattle.gate_state.specs.declared.state.State.{State}
 use Rattle.gate_queue.specs.Machine.{denial, repeated, done, acted, effect, about, all_but, followed, tried_by, approval_followed, size_on, pushed, closed, labeled, with_label, without_label, reviewed, with_review, loses_approval, settled, with_new_settings, resettled, under, accepted, are_present, quiet, then_next, on_either, has_staged, is_good, heads_told, told_of, told, ordered_on, sent_back, rebased, tries_left, lands_with, with_desk, on_both, told_on, unless_denied as denied, told_as}
-use Rattle.gate_queue.specs.declared.outcome.Outcome.{Outcome}
 use Rattle.gate_queue.specs.MayChange.{Parts, no_parts, with_heads, of_status, Untouched, LawOfUntouched, unless_denied, may_do, is_numbered, one_numbered, is_joined, of_change, in_front, of_base, stays_tried, of_settings, of_text, of_person, is_run, is_in_front, next_priority}
 use Rattle.gate_state.specs.declared.reply.Why.TheVariants as why
 use Rattle.gate_queue.proofs.Changes.{against_same}
@@ -46,7 +26,6 @@ use Rattle.gate_queue.proofs.Desks.{released_desk, Effect, same_effect, kept_eff
 use Rattle.gate_queue.proofs.Lanes.{joined_later, Same, enqueued_same, tried_same, taken_out_same, none_loses, taken_running, restarted_same}
 use Rattle.gate_queue.proofs.Meaning.{means}
 use Rattle.gate_queue.proofs.News.{same_found, untouched_by, IsNewsOf, news_untouched, ending_news, staged_news, told_news, back_news, tick_untouched}
-use Rattle.gate_state.specs.declared.batch.Branch.{Branch}
 
 -- NUMBERS that are given aren't given again.
 followed_rises : (was now moved : Bool) (size : Option ℕ) (priority : ℤ) (change : ℕ) (queue : Queue) → queue.next ≤ (followed was now moved size priority change queue).next

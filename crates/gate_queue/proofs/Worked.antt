@@ -1,29 +1,19 @@
 -- Worked acts: what the definitions come to on a short history. Each is computed.
 use Rattle.std.proofs.Common.{◌≡◌, ℕ, pos, true, false, List, [], ◌∷◌, Some, None, Ok, refl}
 use Rattle.std.specs.FinSet as set
-use Rattle.gate_text.specs.Settings.{SettingsView, settings_of}
-use Rattle.gate_text.specs.declared.command.Command.TheVariants.{Approve, Withdraw, Priority, Retry}
-use Rattle.gate_text.specs.declared.command.Spoken.TheVariants.{Known, Unknown}
-use Rattle.gate_rules.specs.Rules.{Texts, has_too_few_reviews, need, permits}
+use Rattle.gate_queue.specs.Vocabulary.{SettingsView, settings_of, Approve, Withdraw, Priority, Retry, Known, Unknown, Texts, has_too_few_reviews, Nobody, UnknownChange, NotOpen, AlreadyOpen, ClockBack, NoSuchBatch, SameAsBase, On, Other, Opened, Pushed, Closed, Said, Happened, Role, Settings, Base, Staged, Conflict, Status, Refused, Tick, Success, Failure, Pending, Stage, Land, Notice, Done, Staging}
+use Rattle.gate_rules.specs.Rules.{need, permits}
 use Rattle.gate_rules.specs.declared.change.Phase.TheVariants as phase
 use Rattle.gate_rules.specs.declared.change.Repeat.TheVariants as repeat
 use Rattle.gate_rules.specs.declared.role.Level.TheVariants as level
-use Rattle.gate_rules.specs.declared.role.Role.TheVariants.{Nobody, Reviewer}
-use Rattle.gate_rules.specs.declared.rule.Rule.TheVariants.{UnknownChange, NotACommand, NotOpen, NoSettings, NotApproved, AlreadyOpen, ClockBack, NoSuchBatch, SameAsBase}
+use Rattle.gate_rules.specs.declared.role.Role.TheVariants.{Reviewer}
+use Rattle.gate_rules.specs.declared.rule.Rule.TheVariants.{NotACommand, NoSettings, NotApproved}
 use Rattle.gate_state.specs.Acts.{on}
-use Rattle.gate_state.specs.declared.act.Act.TheVariants.{On, Other}
-use Rattle.gate_state.specs.declared.act.ChangeFact.TheVariants.{Opened, Pushed, Closed}
-use Rattle.gate_state.specs.declared.act.Deed.TheVariants.{Said, Happened}
-use Rattle.gate_state.specs.declared.act.Fact.TheVariants.{Role, Settings, Base, Staged, Conflict, Status, Refused, Tick}
-use Rattle.gate_state.specs.declared.act.StatusState.TheVariants.{Success, Failure, Pending}
-use Rattle.gate_state.specs.declared.reply.Order.TheVariants.{Stage, Land, Notice}
 use Rattle.gate_state.specs.declared.reply.Why.TheVariants as why
-use Rattle.gate_state.specs.declared.reply.Reply.TheVariants.{Done}
 use Rattle.gate_queue.specs.History.{Event, did, gave, role_back, author_back, head_back, moves, landing_back, landed_back, passed_back, phase_back, priority_back, standing_back, is_ordered_on, has_passed, is_unmoved, look_back}
 use Rattle.gate_state.specs.Lanes.{fresh}
 use Rattle.gate_queue.specs.Machine.{empty_state, broken, denial, followed, reply_to, pushed, ends_approval, just_opened, approved_by}
 use Rattle.gate_state.specs.Queue.{empty_queue}
-use Rattle.gate_state.specs.declared.batch.Branch.TheVariants.{Staging}
 use Rattle.gate_queue.proofs.Sets.{passed_law}
 
 abbrev alice : List ℕ

@@ -9,7 +9,7 @@ use Rattle.std.specs.Ordering.{int_eq}
 use Rattle.std.specs.Str.{bytes_eq}
 use Rattle.gate_state.specs.declared.reply.Head.{Head}
 use Rattle.gate_state.specs.declared.reply.Why.TheVariants as why
-use Rattle.gate_queue.specs.Vocabulary.{SettingsView, settings_of, fault_number, same_settings, Command, Ping, Approve, ApproveFor, Withdraw, Priority, Try, TryCancel, DelegateAuthor, DelegateTo, DelegateNone, Retry, Known, Unknown, SettingsFault, Look, asks, last_command, is_known, is_open, is_landed, is_member, is_blocked, has_too_few_reviews, first_failing, DeskView, empty_desk, with_role, with_change, with_settings, with_base, with_clock, with_ended, numbers_where, ended_if, without_approval, is_required, is_open_head, with_told, look, Change, Repeat, Nobody, Rule, UnknownChange, NotOpen, AlreadyOpen, ChangeLanded, StaleHead, NotMember, OwnChange, BadSettings, ClockBack, NoSuchBatch, SameAsBase, Act, On, Other, Deed, Said, Happened, ChangeFact, Opened, Pushed, Closed, Labeled, Unlabeled, Review, Fact, Role, Settings, Base, Staged, Conflict, Status, Refused, Tick, StatusState, Success, Failure, Error, Pending, Order, Stage, Land, Notice, Reply, Done, Denied, Why, State, Outcome}
+use Rattle.gate_queue.specs.Vocabulary.{SettingsView, settings_of, fault_number, same_settings, Command, Ping, Approve, ApproveFor, Withdraw, Priority, Try, TryCancel, DelegateAuthor, DelegateTo, DelegateNone, Retry, Known, Unknown, SettingsFault, Look, asks, last_command, is_known, is_open, is_landed, is_member, is_blocked, has_too_few_reviews, first_failing, DeskView, empty_desk, with_role, with_change, with_settings, with_base, with_clock, with_ended, numbers_where, ended_if, without_approval, is_required, is_open_head, with_told, look, Change, Repeat, Nobody, Rule, UnknownChange, NotOpen, AlreadyOpen, ChangeLanded, StaleHead, NotMember, OwnChange, BadSettings, ClockBack, NoSuchBatch, SameAsBase, Act, On, Other, Deed, Said, Happened, Opened, Pushed, Closed, Labeled, Unlabeled, Review, Fact, Role, Settings, Base, Staged, Conflict, Status, Refused, Tick, StatusState, Success, Failure, Error, Pending, Order, Stage, Land, Notice, Reply, Done, Denied, Why, State, Outcome}
 use Rattle.gate_rules.specs.Rules as rules
 use Rattle.gate_rules.specs.declared.change.Phase.TheVariants as phase
 use Rattle.gate_rules.specs.declared.change.Repeat.TheVariants as repeat

@@ -1,5 +1,4 @@
 -- EVERY STATE LEADS TO STATES: if the next number leaves room, an act that keeps its limits leaves a state.
-use Rattle.std.specs.Prelude.{◌≤◌}
 use Rattle.gate_state.specs.State.{IsState}
 use Rattle.gate_state.specs.declared.state.State.{State}
 use Rattle.gate_state.specs.Acts.{ActKeepsLimits}

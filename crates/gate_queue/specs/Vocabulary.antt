@@ -32,6 +32,15 @@ pub use Rattle.gate_state.specs.declared.reply.Order.TheVariants.{Stage, Land, N
 pub use Rattle.gate_state.specs.declared.reply.Reply.{Reply}
 pub use Rattle.gate_state.specs.declared.reply.Reply.TheVariants.{Done, Denied}
 pub use Rattle.gate_state.specs.declared.reply.Why.{Why}
+-- batches
+pub use Rattle.gate_state.specs.declared.batch.Batch.{Batch}
+pub use Rattle.gate_state.specs.declared.batch.Branch.{Branch}
+pub use Rattle.gate_state.specs.declared.batch.Branch.TheVariants.{Staging, Trying}
+pub use Rattle.gate_state.specs.declared.batch.Report.{Report}
+pub use Rattle.gate_state.specs.declared.batch.Stage.{Stage as StageOf}
+pub use Rattle.gate_state.specs.declared.lane.Lane.{Lane}
+pub use Rattle.gate_state.specs.declared.queue.Queue.{Queue}
+pub use Rattle.gate_state.specs.declared.reply.Head.{Head}
 -- states
 pub use Rattle.gate_state.specs.declared.state.State.{State}
 pub use Rattle.gate_queue.specs.declared.outcome.Outcome.{Outcome}

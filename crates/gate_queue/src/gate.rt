@@ -93,7 +93,7 @@ impl Gate {
 
     /// Whether the next number is above 8,999,999,999,999,996, so that no act steps.
     pub fn is_full(&self) -> bool
-        ensures value { (result ≡ true) ↔ (IsFull self.now.queue) }
+        ensures value { (result ≡ true) ↔ IsFull self.now.queue }
     {
         LAST_NEXT < self.state.queue.next
     }
@@ -113,7 +113,7 @@ impl Gate {
         ensures denied { IfOk result (λ done. (rule : Rule) → done.1 ≡ Denied rule → done.0 ≡ self) }
 
         // The faults. An act that a rule denies meets `Memory` only if the rule itself may want memory.
-        ensures full { (result ≡ Err Fault.Full) ↔ (IsFull self.queue) }
+        ensures full { (result ≡ Err Fault.Full) ↔ IsFull self.queue }
         ensures cause { IfErr result (λ fault. (fault ≡ Fault.Memory) ⊎ (fault ≡ Fault.Full)) }
         ensures refused { IfErr result (λ fault. fault ≡ Fault.Memory → (rule : Rule) → denial self act.now ≡ Some rule → RefusalMayWantMemory act.now (Some rule)) }
 

@@ -1,4 +1,4 @@
-ghost use Rattle.std.specs.Prelude.{◌≡◌, Some, OnOk, IfOk, IsNone, IsOk};
+ghost use Rattle.std.specs.Prelude.{◌≡◌, OnOk, IfOk, IsNone, IsOk};
 ghost use Rattle.gate_rules.specs.View.{look};
 ghost use Rattle.gate_state.specs.declared.act.Act.TheVariants.{On};
 ghost use Rattle.gate_state.specs.declared.act.Deed.TheVariants.{Happened};

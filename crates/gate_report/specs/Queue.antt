@@ -4,9 +4,8 @@ use Rattle.std.specs.Fmt.{signed_decimal}
 use Rattle.std.specs.List.{flat_map, join_by}
 use Rattle.gate_rules.specs.View.{DeskView}
 use Rattle.gate_state.specs.Queue.{batches_of}
+use Rattle.gate_state.specs.Words.{branch_word_of}
 use Rattle.gate_state.specs.declared.batch.Batch.{Batch}
-use Rattle.gate_state.specs.declared.batch.Branch.{Branch}
-use Rattle.gate_state.specs.declared.batch.Branch.TheVariants.{Staging, Trying}
 use Rattle.gate_state.specs.declared.batch.Stage.{Stage}
 use Rattle.gate_state.specs.declared.batch.Stage.TheVariants.{Waiting, Ordered, Staged, Landing}
 use Rattle.gate_state.specs.declared.state.State.{State}
@@ -19,10 +18,6 @@ row batch branch state priority changes =
 
 abbrev pub heading : List ℕ
 heading = row (right 16 (codes "batch")) (left 7 (codes "branch")) (left 8 (codes "state")) (right 5 (codes "prio")) (codes "changes")
-
-abbrev pub branch_word : Branch → List ℕ
-branch_word Staging = codes "staging"
-branch_word Trying = codes "trying"
 
 abbrev pub stage_word : Stage → List ℕ
 stage_word Waiting = codes "waiting"
@@ -38,7 +33,7 @@ unfoldable pub batch_row : Batch → List ℕ
 batch_row batch =
     row
     (right 16 (decimal batch.number))
-    (left 7 (branch_word batch.branch))
+    (left 7 (branch_word_of batch.branch))
     (left 8 (stage_word batch.stage))
     (right 5 (signed_decimal batch.priority))
     (change_numbers batch.changes)

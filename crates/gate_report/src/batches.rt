@@ -5,7 +5,7 @@ ghost use Rattle.gate_report.specs.Columns as columns;
 ghost use Rattle.gate_report.specs.Queue as queue;
 
 use crate::columns::{left, right};
-use gate_state::{Batch, Branch, Stage};
+use gate_state::{Batch, Stage};
 use gate_text::ChangeNo;
 use std::alloc::{AllocError, Global};
 
@@ -17,15 +17,6 @@ const BRANCH: usize = 7;
 const STATE: usize = 8;
 
 const PRIORITY: usize = 5;
-
-fn branch_word(branch: Branch) -> &'static str
-    ensures { result.now ≡ queue.branch_word branch }
-{
-    match branch {
-        Branch::Staging => "staging",
-        Branch::Trying => "trying",
-    }
-}
 
 fn stage_word(stage: &Stage) -> &'static str
     ensures { result.now ≡ queue.stage_word stage.now }
@@ -86,7 +77,7 @@ fn batch_row(alloc: Global, batch: &Batch) -> Result<String, AllocError>
     ensures { IfOk result (λ text. string_bytes text ≡ queue.batch_row batch.now) }
 {
     let number = number_column(alloc, batch.number)?;
-    let branch = left(alloc, BRANCH, branch_word(batch.branch))?;
+    let branch = left(alloc, BRANCH, batch.branch.word())?;
     let state = left(alloc, STATE, stage_word(&batch.stage))?;
     let priority = priority_column(alloc, batch.priority)?;
     let changes = change_numbers(alloc, batch.changes.as_slice())?;

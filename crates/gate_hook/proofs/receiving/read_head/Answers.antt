@@ -39,5 +39,5 @@ returns-in-Err g c = (inr refl, (_, c.loop-head.invariant.0, takes-new _ c.loop-
 
 pub returns-in-Ok-Whole : goal.returns-in-Ok-Whole
 returns-in-Ok-Whole g c =
-    let is = subst (IsHeadOf c.in-Ok-Whole.head) c.deref.ensures.value (rw c.in-Ok-Whole.field-0-is at c.in-Ok-Whole.ensures) in
+    let is = subst (IsHeadOf _ c.in-Ok-Whole.head) c.deref.ensures.value (rw c.in-Ok-Whole.field-0-is at c.in-Ok-Whole.ensures) in
     (c.loop-head.invariant.0, is, omega (arith, len-within _ _ is, c.loop-head.invariant.1), few-left _ _ is c.loop-head.invariant.2)

@@ -18,6 +18,6 @@ loop-preserved g c =
         omega (arith, length-append connections (last ∷ []), before.served.1),
         one_more_accepted connections last _ _ _ before.served.2 next.served.1,
         one_more_ended connections last _ _ _ before.served.3 next.served.2,
-        λ sound. one_more_served connections last _ _ _ (before.served.4 (next.was sound)) (next.served.3 sound),
+        λ sound. one_more_served _ connections last _ _ _ (before.served.4 (next.was sound)) (next.served.3 sound),
       );
     }

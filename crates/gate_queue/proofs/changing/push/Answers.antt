@@ -2,7 +2,7 @@ use Rattle.std.proofs.Common.{◌≡◌, Bool, true, cond, Option, Some, sym, �
 use Rattle.std.specs.FinMap as finite
 use Rattle.std.specs.Option.{option_copied, option_map}
 use Rattle.std.specs.Str.{bytes_eq}
-use Rattle.gate_rules.specs.declared.change.Change.{Change}
+use Rattle.gate_queue.specs.Vocabulary.{Change}
 use Rattle.gate_queue.specs.Machine.{pushed, moved_to, with_altered}
 use Rattle.gate_queue.proofs.Changes.{same_change}
 use Rattle.gate_queue.proofs.changing.push.Goals as goal

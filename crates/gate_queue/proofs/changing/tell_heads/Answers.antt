@@ -1,5 +1,6 @@
 use Rattle.std.proofs.Common.{◌≡◌, OnOk, sym, ◌∙◌, ap, subst}
-use Rattle.gate_rules.specs.View.{DeskView, with_status}
+use Rattle.gate_rules.specs.View.{with_status}
+use Rattle.gate_queue.specs.Vocabulary.{DeskView}
 use Rattle.gate_queue.specs.Machine.{all_altered}
 use Rattle.gate_queue.proofs.Telling.{told_all, told_none}
 use Rattle.gate_queue.proofs.changing.tell_heads.Goals as goal

@@ -1,7 +1,6 @@
 use Rattle.std.proofs.Common.{◌≡◌, Bool, true, if◌then◌else◌, IfOk, sym, ◌∙◌, ap, subst}
-use Rattle.gate_rules.specs.View.{is_required}
+use Rattle.gate_queue.specs.Vocabulary.{is_required, Outcome}
 use Rattle.gate_queue.specs.Machine.{on_both, told_on, told, quiet}
-use Rattle.gate_queue.specs.declared.outcome.Outcome.{Outcome}
 use Rattle.gate_queue.proofs.running.tell_batches.Goals as goal
 
 pub returns-then-is_required-clause-value : goal.returns-then-is_required-clause-value

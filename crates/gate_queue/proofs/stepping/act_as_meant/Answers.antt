@@ -1,7 +1,6 @@
 use Rattle.std.proofs.Common.{◌≡◌, Option, Some, None, IfOk, refl, sym, ◌∙◌, ap, subst, rules}
 use Rattle.std.specs.Option.{unwrap_or}
-use Rattle.gate_rules.specs.View.{look}
-use Rattle.gate_state.specs.declared.act.Act.{Act}
+use Rattle.gate_queue.specs.Vocabulary.{look, Act}
 use Rattle.gate_queue.specs.Machine.{denial, meaning, done}
 use Rattle.gate_queue.proofs.Meaning.{meaning_allowed}
 use Rattle.gate_queue.proofs.stepping.act_as_meant.Goals as goal

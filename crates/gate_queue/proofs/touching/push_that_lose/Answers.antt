@@ -4,7 +4,7 @@ use Rattle.gate_queue.proofs.Collecting.{numbers_so-more}
 use Rattle.gate_queue.proofs.touching.push_that_lose.Goals as goal
 use Rattle.gate_queue.specs.Touching.{numbers_so}
 use Rattle.gate_state.specs.Lanes.{loses}
-use Rattle.gate_state.specs.declared.batch.Batch.{Batch}
+use Rattle.gate_queue.specs.Vocabulary.{Batch}
 
 pub loop-batch-preserved : goal.loop-batch-preserved
 loop-batch-preserved g c =

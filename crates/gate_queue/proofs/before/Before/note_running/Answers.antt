@@ -5,7 +5,7 @@ use Rattle.gate_queue.proofs.before.Before.note_running.Goals as goal
 use Rattle.gate_queue.specs.Machine.{all_but}
 use Rattle.gate_queue.specs.Touching.{lists}
 use Rattle.gate_state.specs.Lanes.{loses}
-use Rattle.gate_state.specs.declared.batch.Batch.{Batch}
+use Rattle.gate_queue.specs.Vocabulary.{Batch}
 use Rattle.std.specs.declared.option.Option.{Option}
 
 pub returns-in_ok-note_changes-clause-has : goal.returns-in_ok-note_changes-clause-has

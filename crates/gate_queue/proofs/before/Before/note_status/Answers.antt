@@ -1,7 +1,7 @@
 use Rattle.std.proofs.Common.{◌≡◌, ◌||◌, Bool, true, false, if◌then◌else◌, inl, inr, sym, subst, ap, ◌∙◌}
 use Rattle.std.specs.FinMap as finite
 use Rattle.std.specs.Option.{option_map_or}
-use Rattle.gate_rules.specs.View.{is_open_at}
+use Rattle.gate_queue.specs.Vocabulary.{is_open_at}
 use Rattle.gate_queue.proofs.Collecting.{either, listed-other}
 use Rattle.gate_queue.proofs.Noting.{still_noted}
 use Rattle.gate_queue.proofs.before.Before.note_status.Goals as goal

@@ -1,8 +1,8 @@
-use Rattle.std.proofs.Common.{◌≡◌, ◌≤◌, sym, subst, rules}
+use Rattle.std.proofs.Common.{◌≡◌, sym, subst, rules}
 use Rattle.gate_queue.specs.Machine.{Step, after}
 use Rattle.gate_state.specs.Room.{HasRoom}
 use Rattle.gate_state.specs.State.{IsState}
-use Rattle.gate_state.specs.declared.state.State.{State}
+use Rattle.gate_queue.specs.Vocabulary.{State}
 use Rattle.gate_queue.proofs.Law.{tells}
 use Rattle.gate_queue.proofs.States.{still_state}
 use Rattle.gate_queue.proofs.gate.Gate.act.Goals as goal

@@ -1,7 +1,7 @@
 use Rattle.std.proofs.Common.{◌≡◌, sym, subst, rules}
 use Rattle.gate_queue.specs.Machine.{empty_state}
 use Rattle.gate_state.specs.State.{IsState}
-use Rattle.gate_state.specs.declared.state.State.{State}
+use Rattle.gate_queue.specs.Vocabulary.{State}
 use Rattle.gate_queue.proofs.States.{empty_is_state}
 use Rattle.gate_queue.proofs.gate.Gate.starting_at.Goals as goal
 

@@ -4,7 +4,7 @@ use Rattle.std.specs.Option.{option_map_or}
 use Rattle.gate_queue.proofs.Collecting.{stays_approved}
 use Rattle.gate_queue.proofs.touching.StaysApprovedChoice.has.Goals as goal
 use Rattle.gate_queue.specs.Machine.{loses_approval}
-use Rattle.gate_rules.specs.declared.change.Change.{Change}
+use Rattle.gate_queue.specs.Vocabulary.{Change}
 
 pub returns-then-is_some : goal.returns-then-is_some
 returns-then-is_some c =

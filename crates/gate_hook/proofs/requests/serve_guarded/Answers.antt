@@ -1,13 +1,13 @@
 use Rattle.std.proofs.Common.{Err, Ok, codes, refl, sym}
 use Rattle.std.specs.Fmt.{digits}
 use Rattle.gate_hook.specs.Responses.{response_text}
-use Rattle.gate_hook.proofs.Responding.{exact-one, sends-fault, sends-response, stays-fault, stays-response, unchanged}
-use Rattle.gate_hook.proofs.requests.serve_one.Goals as goal
+use Rattle.gate_hook.proofs.Responding.{exact-one, not-written-down, sends-fault, sends-response, stays-fault, stays-response, unchanged, written-down}
+use Rattle.gate_hook.proofs.requests.serve_guarded.Goals as goal
 
 pub returns-in-Ok-clause-served : goal.returns-in-Ok-clause-served
 returns-in-Ok-clause-served g c =
     let answered = c.in-Ok.ensures.answered in
-    (answered.0, answered.1, λ sound. sends-response _ c.in-Ok.response _ _ _ _ _ (answered.2 sound) (rw (sym c.as_str.ensures.value) c.send_as.ensures))
+    (answered.0, answered.1, λ sound. sends-response _ _ c.in-Ok.response _ _ _ _ _ (answered.2 sound) (rw (sym c.as_str.ensures.value) c.send_as.ensures))
 
 pub returns-in-Ok-clause-stays : goal.returns-in-Ok-clause-stays
 returns-in-Ok-clause-stays g c begun honest =
@@ -16,7 +16,7 @@ returns-in-Ok-clause-stays g c begun honest =
 pub returns-in-Ok-clause-same : goal.returns-in-Ok-clause-same
 returns-in-Ok-clause-same g c sound input known none =
     let answered = c.in-Ok.ensures.answered in
-    unchanged (Ok c.in-Ok.response) _ _ input answered.0 _ _ known answered.1 (answered.2 sound) none
+    unchanged _ (Ok c.in-Ok.response) _ _ input answered.0 _ _ known answered.1 (answered.2 sound) none
 
 pub returns-in-Err-Gate-clause-served : goal.returns-in-Err-Gate-clause-served
 unfolding response_text digits
@@ -24,7 +24,7 @@ returns-in-Err-Gate-clause-served g c =
     let answered = c.in-Err-Gate.ensures.answered in (
       answered.0,
       answered.1,
-      λ sound. sends-fault _ c.in-Err-Gate.fault _ _ _ _ _ (codes "HTTP/1.1 503 Service Unavailable\r\nContent-Length: 0\r\nConnection: close\r\n\r\n") refl
+      λ sound. sends-fault _ _ c.in-Err-Gate.fault _ _ _ _ _ (codes "HTTP/1.1 503 Service Unavailable\r\nContent-Length: 0\r\nConnection: close\r\n\r\n") refl
           (rw c.in-Err-Gate.field-0-is at answered.2 sound) c.send_as-in-Err-Gate.ensures,
     )
 
@@ -37,10 +37,17 @@ returns-in-Err-Gate-clause-stays g c begun honest =
 pub returns-in-Err-Gate-clause-same : goal.returns-in-Err-Gate-clause-same
 returns-in-Err-Gate-clause-same g c sound input known none =
     let answered = c.in-Err-Gate.ensures.answered in
-    unchanged (Err c.in-Err-Gate.field-0) _ _ input answered.0 _ _ known answered.1 (answered.2 sound) none
+    unchanged _ (Err c.in-Err-Gate.field-0) _ _ input answered.0 _ _ known answered.1 (answered.2 sound) none
 
 pub returns-in-Ok-clause-exact : goal.returns-in-Ok-clause-exact
-returns-in-Ok-clause-exact g c sound = exact-one _ _ _ _ _ _ ((returns-in-Ok-clause-served g c).2 sound)
+returns-in-Ok-clause-exact g c sound = exact-one _ _ _ _ _ _ _ ((returns-in-Ok-clause-served g c).2 sound)
 
 pub returns-in-Err-Gate-clause-exact : goal.returns-in-Err-Gate-clause-exact
-returns-in-Err-Gate-clause-exact g c sound = exact-one _ _ _ _ _ _ ((returns-in-Err-Gate-clause-served g c).2 sound)
+returns-in-Err-Gate-clause-exact g c sound = exact-one _ _ _ _ _ _ _ ((returns-in-Err-Gate-clause-served g c).2 sound)
+
+pub returns-in-Ok-clause-transcript : goal.returns-in-Ok-clause-transcript
+returns-in-Ok-clause-transcript g c =
+    written-down _ _ _ _ _ _ _ _ _ c.as_str.ensures.value c.in-Ok.ensures.consumed c.send_as.ensures
+
+pub returns-in-Err-Gate-clause-transcript : goal.returns-in-Err-Gate-clause-transcript
+returns-in-Err-Gate-clause-transcript g c = not-written-down _ _ _ _ _ _ _ _ _ _ c.send_as-in-Err-Gate.ensures

@@ -1,0 +1,57 @@
+-- THE LOG: a line for each request that was served.
+use Rattle.std.specs.Prelude.{◌≡◌, ℕ, ◌/◌, ◌%◌, List, ◌++◌, take, Option, Some, None, Result, Ok, Err, codes, decimal, if◌then◌else◌}
+use Rattle.std.specs.Char.{is_ascii_graphic}
+use Rattle.std.specs.List.{list_all}
+use Rattle.std.specs.String.{string_bytes}
+use Rattle.gate_jobs.specs.Outcome.{word_of}
+use Rattle.gate_jobs.specs.declared.fault.JobFault.TheVariants.{Hook}
+use Rattle.gate_hook.specs.Denials.{IsDenialIn}
+use Rattle.gate_hook.specs.Receiving.{IsLineOf}
+use Rattle.gate_hook.specs.declared.fault.HookFault.{HookFault}
+use Rattle.gate_hook.specs.declared.fault.HookFault.TheVariants.{Gate}
+use Rattle.gate_hook.specs.declared.head.RequestLine.{RequestLine}
+use Rattle.gate_hook.specs.declared.requests.Served.{Served}
+use Rattle.gate_hook.specs.declared.requests.Transcript.{Transcript}
+use Rattle.gate_queue.specs.declared.fault.Fault.{Fault}
+
+-- THE TIME OF DAY in UTC, by the seconds since 1970: a number below 100 in two digits, and then what follows
+abbrev pub two_digits : ℕ → List ℕ → List ℕ
+two_digits number rest = decimal (number / 10) ++ (decimal (number % 10) ++ rest)
+
+abbrev pub time_of : ℕ → List ℕ
+time_of seconds =
+    two_digits (seconds / 3600 % 24) (codes ":" ++ two_digits (seconds / 60 % 60) (codes ":" ++ two_digits (seconds % 60) (codes "Z")))
+
+-- THE REQUEST: a method or a target is shown by its first bytes if these are visible ASCII, and else by a question mark
+abbrev pub front_of : List ℕ → List ℕ
+front_of text = take 200 text
+
+abbrev pub shown : List ℕ → List ℕ
+shown text = if list_all is_ascii_graphic (front_of text) then front_of text else codes "?"
+
+-- the method and the target of the first line, or two dashes if there is none
+abbrev pub AreShown : Option RequestLine → List ℕ → List ℕ → Type 0
+AreShown (Some line) method target = (method ≡ shown line.method.now) × (target ≡ shown line.target.now)
+AreShown None method target = (method ≡ codes "-") × (target ≡ codes "-")
+
+abbrev pub IsShownOf : List ℕ → List ℕ → List ℕ → Type 0
+IsShownOf request method target = (line : Option RequestLine) × IsLineOf line request × AreShown line method target
+
+-- HOW IT ENDED: the status, and the fault or the rule of a denial; or a dash and the fault, if no response was written whole
+abbrev pub with_remark : List ℕ → Option Fault → Option (List ℕ) → List ℕ
+with_remark status (Some fault) denial = status ++ (codes " " ++ word_of (Hook (Gate fault)))
+with_remark status None (Some rule) = status ++ (codes " denied " ++ rule)
+with_remark status None None = status
+
+abbrev pub ending_of : Result Served HookFault → Option (List ℕ) → List ℕ
+ending_of (Ok served) denial = with_remark (decimal served.status) served.fault denial
+ending_of (Err fault) denial = codes "- " ++ word_of (Hook fault)
+
+-- THE LINE, of what came in and went out, and of how serving it ended. It has no more of them than this.
+abbrev pub line_text : List ℕ → List ℕ → List ℕ → List ℕ → List ℕ
+line_text time method target ending = time ++ (codes " " ++ (method ++ (codes " " ++ (target ++ (codes " " ++ (ending ++ codes "\n"))))))
+
+abbrev pub IsLogLine : ℕ → Transcript → Result Served HookFault → List ℕ → Type 0
+IsLogLine seconds transcript served line =
+    (method : List ℕ) × (target : List ℕ) × (denial : Option (List ℕ)) × IsShownOf transcript.request.items method target
+    × IsDenialIn (string_bytes transcript.response) denial × (line ≡ line_text (time_of seconds) method target (ending_of served denial))
