@@ -1,0 +1,27 @@
+# By what a program is known to be built from the sources as they are: a mark beside it, of three lines. `gate` and `.ci/run` source this.
+
+# What `rt version` prints, or nothing without `rt`. The command takes a third of a second to print the file KIT-ID.
+toolchain() {
+    local rt line
+    rt=$(type -P rt) && rt=$(readlink -f -- "$rt") || return 0
+    if [[ -r ${rt%/*}/../KIT-ID ]]; then
+        read -r line <"${rt%/*}/../KIT-ID" || true
+    else
+        read -r line < <(rt version 2>/dev/null </dev/null) || true
+    fi
+    echo "$line"
+}
+
+# A checksum of the sources of the tree $1. Contents tell more than times: a file can be removed, or an older one can come back. This
+# takes about 15 ms.
+sources() (
+    shopt -s nullglob
+    cd "$1"
+    find crates.txt crates/*/{src,specs,proofs} -type f -print0 | LC_ALL=C sort -z | xargs -0r sha1sum | sha1sum
+)
+
+# Marks the program $1 in the file $2: by the toolchain $3 and the sources $4 that gave it, and by a checksum of its own.
+mark() {
+    printf '%s\n' "$3" "$4" "$(sha1sum <"$1")" >"$2.next"
+    mv "$2.next" "$2"
+}
