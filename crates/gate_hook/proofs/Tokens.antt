@@ -52,13 +52,6 @@ tells-all text other place difference sizes all so_far = one_answer (difference 
 )
     (bytes_eq-Decides text other)
 
-pub other-size : (text other : List ℕ) → ¬ (length text ≡ length other) → false ≡ bytes_eq text other
-other-size text other sizes = by (bytes_eq text other) refl
-  where
-    by : (same : Bool) → bytes_eq text other ≡ same → false ≡ same
-    by true is = absurd (sizes (ap length ((bytes_eq-Decides text other).0 is)))
-    by false is = refl
-
 -- PLACES: what stands from the first byte on that passes
 pub from-found : (passes : ℕ → Bool) (text : List ℕ) (place : ℕ) → position passes text ≡ Some place
     → take (length text - place) (drop place text) ≡ drop (position_or_len passes text) text

@@ -13,7 +13,7 @@ use Rattle.serde_json.specs.View.{view}
 use Rattle.serde_json.specs.declared.value.Value.{Value}
 use Rattle.std.specs.Borrow.{Bor}
 use Rattle.gate_rules.specs.declared.role.Role.{Role as RoleOf}
-use Rattle.gate_rules.specs.declared.role.Role.TheVariants.{Nobody, Member, Reviewer}
+use Rattle.gate_rules.specs.Words.{role_called}
 use Rattle.gate_state.specs.Words.{state_called}
 use Rattle.gate_state.specs.declared.act.ChangeFact.TheVariants.{Opened, Pushed, Closed, Labeled, Unlabeled, Review}
 use Rattle.gate_state.specs.declared.act.Fact.TheVariants.{Role, Settings, Base, Staged, Conflict, Status, Refused, Tick}
@@ -103,13 +103,6 @@ context_at d = do
 
 abbrev pub approves_at : Data → Result Bool DeliveryFault
 approves_at d = required field.Approves (option_and_then as_bool (get (field_name field.Approves) d))
-
-abbrev pub role_called : List ℕ → Option RoleOf
-role_called text =
-    if bytes_eq text (codes "nobody") then Some Nobody
-    else (if bytes_eq text (codes "member") then Some Member
-    else (if bytes_eq text (codes "reviewer") then Some Reviewer
-    else None))
 
 abbrev pub role_at : Data → Result RoleOf DeliveryFault
 role_at d = do

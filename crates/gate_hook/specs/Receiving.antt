@@ -6,7 +6,7 @@ use Rattle.httparse.specs.Spans.{RequestOverflows}
 use Rattle.gate_queue.specs.declared.fault.Fault.TheVariants.{Memory}
 use Rattle.gate_hook.specs.Requests.{Asks, TakesAsNeeded, needed_by, piece}
 use Rattle.gate_hook.specs.declared.refusal.Refusal.{Refusal}
-use Rattle.gate_hook.specs.Heads.{max_fields, max_head, ask_in, HasNoHead}
+use Rattle.gate_hook.specs.Heads.{max_fields, max_head, ask_in, path_of, HasNoHead}
 use Rattle.gate_hook.specs.declared.fault.HookFault.{HookFault}
 use Rattle.gate_hook.specs.declared.fault.HookFault.TheVariants.{Gate, Read, Write, TooMuch}
 use Rattle.gate_hook.specs.declared.head.Found.{Found}
@@ -34,11 +34,11 @@ IsFound token (Whole told) bytes = IsHeadOf token told bytes
 IsFound token Unfinished bytes = HasNoRequest bytes
 IsFound token Never bytes = RequestOverflows max_fields bytes
 
--- the first line of the head with which these bytes begin, if they have one
+-- the method and the path of the head with which these bytes begin, if they have one
 abbrev pub IsLineOf : Option RequestLine → List ℕ → Type 0
 IsLineOf None bytes = HasNoRequest bytes ⊎ RequestOverflows max_fields bytes
 IsLineOf (Some line) bytes =
-    (head : RequestHead) × (rest : List ℕ) × ReadsRequest bytes head rest × (line.method.now ≡ head.method) × (line.target.now ≡ head.target)
+    (head : RequestHead) × (rest : List ℕ) × ReadsRequest bytes head rest × (line.method.now ≡ head.method) × (line.path.now ≡ path_of head.target)
 
 -- these bytes are what a reader has left, if that is known
 abbrev pub IsLeft : Option (List ℕ) → List ℕ → Type 0

@@ -6,7 +6,7 @@ use Rattle.gate_queue.specs.declared.fault.Fault.TheVariants.{Memory, Store, Ful
 use Rattle.gate_store.specs.Run.{Records, IsOfKeepers}
 use Rattle.gate_hook.specs.Requests.{Asks}
 use Rattle.gate_hook.specs.Responses.{IsResponse}
-use Rattle.gate_hook.specs.Served.{Breaks, HasRoom, IsTaken, MeetsFull, after_wish, response_to}
+use Rattle.gate_hook.specs.Served.{Breaks, MeetsNoFull, IsTaken, MeetsFull, after_wish, response_to}
 use Rattle.gate_hook.specs.declared.fault.HookFault.{HookFault}
 use Rattle.gate_hook.specs.declared.fault.HookFault.TheVariants.{Gate, Read, Write, TooMuch}
 use Rattle.gate_hook.specs.declared.refusal.Refusal.{Refusal}
@@ -16,8 +16,8 @@ use Rattle.gate_hook.specs.declared.response.Response.{Response}
 
 -- what making the response to this wish leaves
 abbrev pub Responds : Result Response HookFault → Records → Result Request Refusal → Records → Type 0
-Responds (Ok made) old wish new = IsResponse made (response_to old wish) × (new ≡ after_wish old wish) × HasRoom old wish
-Responds (Err (Gate Memory)) old wish new = (new ≡ old) ⊎ ((new ≡ after_wish old wish) × HasRoom old wish)
+Responds (Ok made) old wish new = IsResponse made (response_to old wish) × (new ≡ after_wish old wish) × MeetsNoFull old wish
+Responds (Err (Gate Memory)) old wish new = (new ≡ old) ⊎ ((new ≡ after_wish old wish) × MeetsNoFull old wish)
 Responds (Err (Gate Store)) old wish new = (new ≡ old) × IsTaken wish
 Responds (Err (Gate Full)) old wish new = (new ≡ old) × MeetsFull old wish
 Responds (Err (Gate Foreign)) old wish new = ⊥
@@ -35,7 +35,7 @@ MayFail may_answer TooMuch = ⊥
 -- what reading a request and making its response leave
 abbrev pub Answers : Option (List ℕ) → Result Response HookFault → List ℕ → Records → Records → Type 0
 Answers token (Ok made) input old new =
-    (wish : Result Request Refusal) × Asks token input wish × IsResponse made (response_to old wish) × (new ≡ after_wish old wish) × HasRoom old wish
+    (wish : Result Request Refusal) × Asks token input wish × IsResponse made (response_to old wish) × (new ≡ after_wish old wish) × MeetsNoFull old wish
 Answers token (Err (Gate fault)) input old new = Breaks token input fault old new
 Answers token (Err Read) input old new = new ≡ old
 Answers token (Err Write) input old new = ⊥

@@ -43,10 +43,10 @@ after_wish records (Ok (ReportOf report)) = records
 after_wish records (Err refusal) = records
 
 -- no act of a delivery that was let act met a full gate
-abbrev pub HasRoom : Records → Result Request Refusal → Type 0
-HasRoom records (Ok (DeliveryOf delivery)) = meets_full records delivery ≡ false
-HasRoom records (Ok (ReportOf report)) = ⊤
-HasRoom records (Err refusal) = ⊤
+abbrev pub MeetsNoFull : Records → Result Request Refusal → Type 0
+MeetsNoFull records (Ok (DeliveryOf delivery)) = meets_full records delivery ≡ false
+MeetsNoFull records (Ok (ReportOf report)) = ⊤
+MeetsNoFull records (Err refusal) = ⊤
 
 -- one of whose acts did
 abbrev pub MeetsFull : Records → Result Request Refusal → Type 0
@@ -64,7 +64,7 @@ IsTaken (Err refusal) = ⊥
 -- of which an act meets a full gate. `Foreign` never comes here.
 abbrev pub Breaks : Option (List ℕ) → List ℕ → Fault → Records → Records → Type 0
 Breaks token input Memory old new =
-    (new ≡ old) ⊎ ((wish : Result Request Refusal) × Asks token input wish × (new ≡ after_wish old wish) × HasRoom old wish)
+    (new ≡ old) ⊎ ((wish : Result Request Refusal) × Asks token input wish × (new ≡ after_wish old wish) × MeetsNoFull old wish)
 Breaks token input Store old new = (new ≡ old) × ((wish : Result Request Refusal) × Asks token input wish × IsTaken wish)
 Breaks token input Full old new = (new ≡ old) × ((wish : Result Request Refusal) × Asks token input wish × MeetsFull old wish)
 Breaks token input Foreign old new = ⊥
@@ -72,7 +72,7 @@ Breaks token input Foreign old new = ⊥
 -- this response is due, with this fault if there was one, and leaves these records
 abbrev pub IsDue : Option (List ℕ) → List ℕ → Records → Response → Option Fault → Records → Type 0
 IsDue token input old response None new =
-    (wish : Result Request Refusal) × Asks token input wish × (response ≡ response_to old wish) × (new ≡ after_wish old wish) × HasRoom old wish
+    (wish : Result Request Refusal) × Asks token input wish × (response ≡ response_to old wish) × (new ≡ after_wish old wish) × MeetsNoFull old wish
 IsDue token input old response (Some fault) new = (response ≡ fault_response) × Breaks token input fault old new
 
 -- What serving one request leaves, of the input that there is: the response that is due is written, or a part from its front if the

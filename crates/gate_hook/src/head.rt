@@ -1,5 +1,5 @@
 ghost use Rattle.std.specs.Prelude.{◌≡◌, All, length, map, codes, IfOk, IsTrue, option_copied, ◌==◌};
-ghost use Rattle.std.specs.List.{list_all, position};
+ghost use Rattle.std.specs.List.{list_all};
 ghost use Rattle.std.specs.Char.{is_ascii_digit};
 ghost use Rattle.httparse.specs.Grammar.{RequestHead};
 ghost use Rattle.httparse.specs.Spans.{IsHeaderWithin, IsRequestAt, IsRequestWithin, header_bytes, name_and_value};
@@ -8,6 +8,7 @@ ghost use Rattle.gate_hook.specs.Receiving.{IsFound, IsLineOf, first_value};
 ghost use Rattle.gate_hook.specs.Requests.{needed_by};
 ghost use Rattle.gate_hook.specs.Tokens as tokens;
 
+use crate::front::front_before;
 use crate::refusal::Refusal;
 use crate::target::{Report, Target, target_of};
 use crate::token::Token;
@@ -101,21 +102,11 @@ fn first_of<'a>(bytes: &'a [u8], fields: &[HeaderSpan], name: &str) -> Option<&'
     None
 }
 
-// The place of the first question mark, if there is one.
-fn question_mark(target: &[u8]) -> Option<usize>
-    ensures { result ≡ position (λ byte. byte == 63) target.now }
-{
-    target.iter().position(|byte| *byte == b'?')
-}
-
-// The bytes of a target up to its first question mark.
+// The path of a target.
 fn path_of(target: &[u8]) -> &[u8]
     ensures { result.now ≡ heads.path_of target.now }
 {
-    match question_mark(target) {
-        Some(end) => &target[..end],
-        None => target,
-    }
+    front_before(target, b'?')
 }
 
 // Goes on if a test passes, and else refuses.
@@ -259,16 +250,16 @@ fn ask_in(
     ask_let_in(alloc, bytes, fields, request)
 }
 
-/// The first line of a request, as its head has it.
+/// The method of a request and its path, which is its target up to the first question mark.
 #[derive(Clone, Copy)]
 pub struct RequestLine<'a> {
     /// The method.
     pub method: &'a [u8],
-    /// The target.
-    pub target: &'a [u8],
+    /// The path.
+    pub path: &'a [u8],
 }
 
-/// The first line of the request that these bytes begin with, if they have a head of at most 64 fields.
+/// The method and the path of the request that these bytes begin with, if they have a head of at most 64 fields.
 pub fn request_line(bytes: &[u8]) -> Option<RequestLine<'_>>
     ensures line { IsLineOf result bytes.now }
 {
@@ -276,7 +267,7 @@ pub fn request_line(bytes: &[u8]) -> Option<RequestLine<'_>>
     match parse_request(bytes, &mut fields) {
         Ok(Status::Complete(request)) => Some(RequestLine {
             method: request.method.of(bytes),
-            target: request.path.of(bytes),
+            path: path_of(request.path.of(bytes)),
         }),
         Ok(Status::Partial) | Err(_) => None,
     }

@@ -6,6 +6,7 @@ mod denials;
 mod errors;
 mod fault;
 mod field;
+mod front;
 mod head;
 mod laws;
 mod line;

@@ -137,12 +137,8 @@ fn now_at(value: &Value) -> Result<Moment, DeliveryFault>
 fn role_at(value: &Value) -> Result<Role, DeliveryFault>
     ensures { Reads result (deliveries.role_at (view value.now)) }
 {
-    match text_at(Field::Role, value)? {
-        "nobody" => Ok(Role::Nobody),
-        "member" => Ok(Role::Member),
-        "reviewer" => Ok(Role::Reviewer),
-        _ => Err(DeliveryFault::BadField(Field::Role)),
-    }
+    let word = text_at(Field::Role, value)?;
+    Role::called(word).ok_or(DeliveryFault::BadField(Field::Role))
 }
 
 fn state_at(value: &Value) -> Result<StatusState, DeliveryFault>

@@ -3,13 +3,13 @@ ghost use Rattle.gate_hook.specs.Receiving.{IsEnough, IsRead, IsMore, HasReadHea
 
 use crate::fault::HookFault;
 use crate::head::{Found, Head, MAX_HEAD, head_in};
-use crate::token::Token;
+use crate::token::{MAX_TOKEN, Token};
 use gate_queue::Fault;
 use std::alloc::{AllocError, Global};
 use std::io::Read;
 
 // So many bytes are no token, whatever comes behind them: those of the longest, and of the end of a line, and one more.
-const NO_TOKEN: usize = 1_027;
+const NO_TOKEN: usize = MAX_TOKEN + 3;
 
 // How many bytes are read at once: the `piece` of the definitions.
 const PIECE: usize = 1_024;

@@ -3,11 +3,12 @@ ghost use Rattle.std.specs.List.{list_all, position};
 ghost use Rattle.std.specs.Str.{bytes_eq};
 ghost use Rattle.gate_hook.specs.Tokens as tokens;
 
+use crate::front::front_before;
 use std::alloc::{AllocError, Global};
 use std::marker::Model;
 
-// The most bytes that a token may have.
-const MAX_TOKEN: usize = 1_024;
+/// The most bytes that a token may have.
+pub const MAX_TOKEN: usize = 1_024;
 
 /// A token, which requests may have to bear: a `b64token` of RFC 6750, of at most 1,024 bytes. It is never printed. A contract sees its
 /// bytes.
@@ -22,23 +23,6 @@ impl Model for Token {
     ghost Value = { List ℕ };
 
     ghost view = { λ token. token.bytes.items };
-}
-
-// The place of the first equals sign, if there is one.
-fn equals_sign(text: &[u8]) -> Option<usize>
-    ensures { result ≡ position tokens.is_equals_sign text.now }
-{
-    text.iter().position(|byte| *byte == b'=')
-}
-
-// The bytes before it.
-fn before_equals_sign(text: &[u8]) -> &[u8]
-    ensures { result.now ≡ tokens.before_equals_sign text.now }
-{
-    match equals_sign(text) {
-        Some(end) => &text[..end],
-        None => text,
-    }
 }
 
 // Whether a byte may stand before the equals signs.
@@ -66,7 +50,7 @@ fn are_equals_signs(text: &[u8]) -> bool
 fn is_token(text: &[u8]) -> bool
     ensures { result ≡ tokens.is_token text.now }
 {
-    let front = before_equals_sign(text);
+    let front = front_before(text, b'=');
     !front.is_empty()
         && are_token_bytes(front)
         && are_equals_signs(&text[front.len()..])
@@ -83,23 +67,6 @@ fn without_line_end(text: &[u8]) -> &[u8]
         &text[..text.len() - 1]
     } else {
         text
-    }
-}
-
-// The place of the first space, if there is one.
-fn space(value: &[u8]) -> Option<usize>
-    ensures { result ≡ position tokens.is_space value.now }
-{
-    value.iter().position(|byte| *byte == b' ')
-}
-
-// The bytes before it.
-fn scheme_of(value: &[u8]) -> &[u8]
-    ensures { result.now ≡ tokens.scheme_of value.now }
-{
-    match space(value) {
-        Some(end) => &value[..end],
-        None => value,
     }
 }
 
@@ -167,7 +134,7 @@ impl Token {
     pub fn is_borne_by(&self, value: &[u8]) -> bool
         ensures bears { result ≡ tokens.bears self.now value.now }
     {
-        let scheme = scheme_of(value);
+        let scheme = front_before(value, b' ');
         is_bearer(scheme) && self.is(without_spaces(&value[scheme.len()..]))
     }
 }

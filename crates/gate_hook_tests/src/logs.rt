@@ -61,14 +61,14 @@ fn lines_of_a_log(rt: HostRuntime) {
         alloc,
         86_399,
         "GET /queue?x HTTP/1.0\r\n\r\n",
-        "23:59:59Z GET /queue?x 200\n",
+        "23:59:59Z GET /queue 200\n",
     );
     check_line(
         &rt,
         alloc,
         1_764_290_096,
         COMMENT,
-        "00:34:56Z POST /deliveries?a=b 200 denied UnknownChange\n",
+        "00:34:56Z POST /deliveries 200 denied UnknownChange\n",
     );
     check_line(&rt, alloc, 3_661, "hello\r\n\r\n", "01:01:01Z - - 400\n");
     check_line(&rt, alloc, 3_599, "", "00:59:59Z - - 400\n");
@@ -81,7 +81,7 @@ fn lines_of_a_log(rt: HostRuntime) {
     );
 }
 
-// A token stands in no line, whether it is the right one or not.
+// A token stands in no line, be it the right one or not, in a field or in a query.
 #[test]
 fn a_log_with_a_token(rt: HostRuntime) {
     let alloc = rt.alloc();
@@ -90,7 +90,7 @@ fn a_log_with_a_token(rt: HostRuntime) {
         .expect(&rt, "a token");
     for (sent, status) in [("s3cret", "200"), ("other", "401")] {
         let request = format!(in alloc;
-            "GET /queue HTTP/1.1\r\nHost: here\r\nAuthorization: Bearer {sent}\r\n\r\n"
+            "GET /queue?access_token={sent} HTTP/1.1\r\nHost: here\r\nAuthorization: Bearer {sent}\r\n\r\n"
         ).expect(&rt, "memory");
         let due = format!(in alloc; "00:00:00Z GET /queue {status}\n").expect(&rt, "memory");
         let found = line_of(&rt, alloc, Some(&token), 0, request.as_str());
@@ -99,12 +99,12 @@ fn a_log_with_a_token(rt: HostRuntime) {
     drop(token);
 }
 
-// A target is cut, and what couldn't be served shows the fault.
+// A path is cut, and what couldn't be served shows the fault.
 #[test]
 fn lines_of_what_went_wrong(rt: HostRuntime) {
     let alloc = rt.alloc();
-    let target = "/a".repeat(alloc, 300).expect(&rt, "memory");
-    let request = format!(in alloc; "GET {target} HTTP/1.0\r\n\r\n").expect(&rt, "memory");
+    let path = "/a".repeat(alloc, 300).expect(&rt, "memory");
+    let request = format!(in alloc; "GET {path} HTTP/1.0\r\n\r\n").expect(&rt, "memory");
     let shown = "/a".repeat(alloc, 100).expect(&rt, "memory");
     let due = format!(in alloc; "00:00:00Z GET {shown} 404\n").expect(&rt, "memory");
     check_line(&rt, alloc, 0, request.as_str(), due.as_str());

@@ -22,20 +22,24 @@ abbrev pub time_of : ℕ → List ℕ
 time_of seconds =
     two_digits (seconds / 3600 % 24) (codes ":" ++ two_digits (seconds / 60 % 60) (codes ":" ++ two_digits (seconds % 60) (codes "Z")))
 
--- THE REQUEST: a method or a target is shown by its first bytes if these are visible ASCII, and else by a question mark
+-- THE REQUEST: a method or a path is shown by its first bytes if these are visible ASCII, and else by a question mark. Of
+-- the target the line has the path alone, since a query may hold what nobody shall read.
+abbrev pub max_shown : ℕ
+max_shown = 200
+
 abbrev pub front_of : List ℕ → List ℕ
-front_of text = take 200 text
+front_of text = take max_shown text
 
 abbrev pub shown : List ℕ → List ℕ
 shown text = if list_all is_ascii_graphic (front_of text) then front_of text else codes "?"
 
--- the method and the target of the first line, or two dashes if there is none
+-- the method and the path of the head, or two dashes if there is none
 abbrev pub AreShown : Option RequestLine → List ℕ → List ℕ → Type 0
-AreShown (Some line) method target = (method ≡ shown line.method.now) × (target ≡ shown line.target.now)
-AreShown None method target = (method ≡ codes "-") × (target ≡ codes "-")
+AreShown (Some line) method path = (method ≡ shown line.method.now) × (path ≡ shown line.path.now)
+AreShown None method path = (method ≡ codes "-") × (path ≡ codes "-")
 
 abbrev pub IsShownOf : List ℕ → List ℕ → List ℕ → Type 0
-IsShownOf request method target = (line : Option RequestLine) × IsLineOf line request × AreShown line method target
+IsShownOf request method path = (line : Option RequestLine) × IsLineOf line request × AreShown line method path
 
 -- HOW IT ENDED: the status, and the fault or the rule of a denial; or a dash and the fault, if no response was written whole
 abbrev pub with_remark : List ℕ → Option Fault → Option (List ℕ) → List ℕ
@@ -49,9 +53,9 @@ ending_of (Err fault) denial = codes "- " ++ word_of (Hook fault)
 
 -- THE LINE, of what came in and went out, and of how serving it ended. It has no more of them than this.
 abbrev pub line_text : List ℕ → List ℕ → List ℕ → List ℕ → List ℕ
-line_text time method target ending = time ++ (codes " " ++ (method ++ (codes " " ++ (target ++ (codes " " ++ (ending ++ codes "\n"))))))
+line_text time method path ending = time ++ (codes " " ++ (method ++ (codes " " ++ (path ++ (codes " " ++ (ending ++ codes "\n"))))))
 
 abbrev pub IsLogLine : ℕ → Transcript → Result Served HookFault → List ℕ → Type 0
 IsLogLine seconds transcript served line =
-    (method : List ℕ) × (target : List ℕ) × (denial : Option (List ℕ)) × IsShownOf transcript.request.items method target
-    × IsDenialIn (string_bytes transcript.response) denial × (line ≡ line_text (time_of seconds) method target (ending_of served denial))
+    (method : List ℕ) × (path : List ℕ) × (denial : Option (List ℕ)) × IsShownOf transcript.request.items method path
+    × IsDenialIn (string_bytes transcript.response) denial × (line ≡ line_text (time_of seconds) method path (ending_of served denial))

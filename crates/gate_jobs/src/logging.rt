@@ -7,14 +7,15 @@ ghost use Rattle.gate_jobs.specs.Log.{IsLogLine, IsShownOf, ending_of, shown, ti
 ghost use Rattle.gate_jobs.specs.Outcome.{word_of};
 ghost use Rattle.gate_jobs.specs.declared.fault.JobFault.TheVariants.{Hook};
 
+use crate::fault::JobFault;
+use crate::outcome::{COMPLAINT, complaint};
 use gate_hook::{HookFault, Served, Transcript, denial_in, request_line, send};
-use gate_queue::Fault;
 use std::alloc::{AllocError, Global};
 use std::io::Write;
 use std::str;
 use std::time::{Clock, SystemTime, UNIX_EPOCH};
 
-// The most bytes that are shown of a method, and of a target.
+// The most bytes that are shown of a method, and of a path.
 const MAX_SHOWN: usize = 200;
 
 // What stands for what isn't there, and for what can't be shown.
@@ -112,7 +113,7 @@ fn front_of(text: &[u8]) -> &[u8]
     }
 }
 
-// A method or a target, as it is shown.
+// A method or a path, as it is shown.
 fn shown_text(text: &[u8]) -> &str
     ensures { result.now ≡ shown text.now }
 {
@@ -126,12 +127,12 @@ fn shown_text(text: &[u8]) -> &str
     }
 }
 
-// The method and the target of a request, as they are shown.
+// The method and the path of a request, as they are shown.
 fn first_words(request: &[u8]) -> (&str, &str)
     ensures { IsShownOf request.now result.0.now result.1.now }
 {
     match request_line(request) {
-        Some(line) => (shown_text(line.method), shown_text(line.target)),
+        Some(line) => (shown_text(line.method), shown_text(line.path)),
         None => (NOTHING, NOTHING),
     }
 }
@@ -140,15 +141,7 @@ fn first_words(request: &[u8]) -> (&str, &str)
 fn fault_word(fault: HookFault) -> &'static str
     ensures { result.now ≡ word_of (Hook fault) }
 {
-    match fault {
-        HookFault::Gate(Fault::Memory) => "Memory",
-        HookFault::Gate(Fault::Store) => "Store",
-        HookFault::Gate(Fault::Full) => "Full",
-        HookFault::Gate(Fault::Foreign) => "Foreign",
-        HookFault::Read => "Read",
-        HookFault::Write => "Write",
-        HookFault::TooMuch => "TooMuch",
-    }
+    &complaint(JobFault::Hook(fault))[COMPLAINT.len()..]
 }
 
 // How serving a request ended: its status, and the fault or the rule of a denial.
@@ -179,7 +172,7 @@ fn ending_text(
 }
 
 /// The line that a log has for a request, with its line feed: the time of day in UTC by the seconds since 1970, the method and the
-/// target, the status, and the fault or the rule of the first denial. Method and target are `-` if there is no head; of each the first
+/// path, the status, and the fault or the rule of the first denial. Method and path are `-` if there is no head; of each the first
 /// 200 bytes are shown, or `?` if one of these isn't visible ASCII. The status is `-` if no response was written. `AllocError` if there
 /// is no memory for the line.
 pub fn log_line(
@@ -191,8 +184,8 @@ pub fn log_line(
     ensures line { IfOk result (λ line. IsLogLine seconds transcript.now served.now (string_bytes line)) }
 {
     let time = time_text(alloc, seconds)?;
-    let (method, target) = first_words(&transcript.request);
+    let (method, path) = first_words(&transcript.request);
     let denial = denial_in(alloc, transcript.response.as_str())?;
     let ending = ending_text(alloc, served, denial)?;
-    format!(in alloc; "{time} {method} {target} {ending}\n")
+    format!(in alloc; "{time} {method} {path} {ending}\n")
 }

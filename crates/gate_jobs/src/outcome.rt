@@ -37,6 +37,9 @@ pub fn status(ending: Ending) -> u8
     }
 }
 
+/// What the line of a fault begins with, before the fault's word.
+pub const COMPLAINT: &str = "gate: ";
+
 /// The line that a fault prints on standard error, without its line feed.
 pub fn complaint(fault: JobFault) -> &'static str
     ensures value { result.now ≡ complaint_of fault }

@@ -1,7 +1,7 @@
 -- What the rules read after an act that no rule denies: on the desk, and on the history with the act and its orders.
 use Rattle.std.proofs.Common.{◌≡◌, ◌≤◌, ◌&&◌, ◌||◌, ℕ, Bool, true, false, cond, if◌then◌else◌, List, [], ◌∷◌, Option, Some, None, Result, Ok, Err, eqb, refl, sym, ◌∙◌, ap, arith}
 use Rattle.std.proofs.lemmas.Bool.{and_right}
-use Rattle.std.proofs.lemmas.Bool.Decides.{Decides-eqb}
+use Rattle.std.proofs.lemmas.Bool.Decides.{Decides-eqb, nat_tests}
 use Rattle.std.proofs.lemmas.List.Sums.{sum_by-cons}
 use Rattle.std.specs.Bool.{⊤}
 use Rattle.std.specs.Cmp.{nat_cmp_total}
@@ -15,23 +15,22 @@ use Rattle.std.specs.Str.{bytes_eq}
 use Rattle.std.proofs.lemmas.Map.Text.{is_eq-slice_cmp}
 use Rattle.gate_text.specs.Finite.{get-mapped}
 use Rattle.gate_text.specs.Same.{same_settings-is}
-use Rattle.gate_queue.specs.Vocabulary.{SettingsView, settings_of, same_settings, Ping, Approve, ApproveFor, Withdraw, Priority, Try, TryCancel, DelegateAuthor, DelegateTo, DelegateNone, Retry, Known, Unknown, SettingsFault, Look, Texts, first_failing, is_fit, StatusState, DeskView, with_told, with_role, with_settings, with_base, with_clock, without_approval, look, Change, RoleOf, Nobody, Rule, On, Other, Opened, Pushed, Closed, Labeled, Unlabeled, Review, Deed, Said, Happened, Fact, Role, Settings, Base, Status, Refused, Tick, Order, Stage, Land, Notice, Why, Batch, Branch, StageOf, State, Staging, Trying}
+use Rattle.gate_queue.specs.Vocabulary.{SettingsView, settings_of, same_settings, Approve, ApproveFor, Withdraw, Priority, Try, TryCancel, DelegateAuthor, DelegateTo, DelegateNone, Known, SettingsFault, Look, Texts, first_failing, is_fit, StatusState, DeskView, with_told, with_role, with_settings, with_base, with_clock, without_approval, look, Change, RoleOf, Nobody, Rule, On, Other, Opened, Pushed, Closed, Labeled, Unlabeled, Review, Deed, Said, Happened, Fact, Role, Settings, Base, Status, Refused, Tick, Order, Stage, Land, Notice, Why, Batch, Branch, StageOf, Outcome, State, Staging, Trying}
 use Rattle.gate_rules.specs.View.{told_at, roles_with}
 use Rattle.gate_rules.specs.declared.change.Repeat.TheVariants as repeat
-use Rattle.gate_rules.specs.declared.role.Role.TheVariants.{Member, Reviewer}
 use Rattle.gate_rules.specs.declared.change.Phase.TheVariants as phase
 use Rattle.gate_state.specs.Counts.{uses}
 use Rattle.gate_state.specs.Acts.{on}
 use Rattle.gate_state.specs.declared.reply.Why.TheVariants as why
 use Rattle.gate_queue.specs.History.{ends_why, order_ends, tells_of_try, order_ends_try, tried_back, Event, did, gave, given, last_of, said_by, role_said, settings_back, labels_back, reviews_back, author_back, approvers_back, landing_back, landed_back, landings, change_of, change_back, look_back}
-use Rattle.gate_queue.specs.Machine.{broken, is_good, bad_settings, effect, notices, notice_if, settings_notices, are_present, losing_on, quiet, under, accepted, lone_altered, lone_notices, head_on, first_order, starting, with_landing, to_land, landed, released, released_at, released_on, all_altered, altered, approved_by, with_try, without_try, with_priority, with_delegates, with_author_as_delegate, without_delegates, opened, closed, pushed, labeled, without_label, reviewed, with_settled, settled, ending, spent, lone_on}
+use Rattle.gate_queue.specs.Machine.{broken, is_good, bad_settings, effect, notices, notice_if, settings_notices, are_present, losing_on, quiet, under, accepted, lone_altered, lone_notices, head_on, first_order, starting, with_landing, to_land, landed, released, released_at, released_on, all_altered, altered, approved_by, with_try, without_try, with_priority, with_delegates, with_author_as_delegate, without_delegates, opened, closed, pushed, labeled, without_label, reviewed, with_settled, settled, ending, given_up, lone_on}
 use Rattle.gate_state.specs.declared.batch.Stage.TheVariants as stage
 use Rattle.gate_state.specs.Lanes.{is_landing}
 use Rattle.gate_state.specs.Queue.{lane_of}
 use Rattle.gate_queue.proofs.After.{rest_back, rest_after, change_after, change_of_after, altered_as, untouched, unaltered, unless_unfit, by_number, elsewhere, order_elsewhere, order_ended, order_ended_try, quiet_line, stays}
 use Rattle.gate_queue.proofs.Changes.{altered_look, all_look, opened_at}
+use Rattle.gate_queue.proofs.Choosing.{by_option, either_way}
 use Rattle.gate_queue.proofs.Facts.{closed_next, labeled_next, reviewed_next, unlabeled_next, pushed_next, opened_next, settled_next, status_next, unsettled_next, taken_settings}
-use Rattle.gate_queue.proofs.Keeping.{lands}
 use Rattle.gate_queue.proofs.Landing.{Lands, Members, none_lands, stage_rest, land_rest, not_landing_back, landing_members, base_ends, base_rest, base_landed, refused_ends}
 use Rattle.gate_queue.proofs.Next.{priority_next, author_next, names_next, none_next, withdraw_next, try_next, try_cancel_next, approve_next, approve_for_next}
 use Rattle.gate_queue.proofs.Premises.{fits, shut, fresh, still_here, tried_here}
@@ -48,23 +47,12 @@ altered_next desk events n alter deed same next =
     ∙ (λ i. record (look_back events) { change = λ c. by_number events c n deed (option_map alter) (next c) (eqb c n) refl i })
 
 -- ROLES
-role_chosen : (b : Bool) (role : RoleOf) (had : Option RoleOf) → unwrap_or (cond b (Some role) had) Nobody ≡ cond b role (unwrap_or had Nobody)
-role_chosen true role had = refl
-role_chosen false role had = refl
-
-role_dropped : (b : Bool) (had : Option RoleOf) → unwrap_or (cond b None had) Nobody ≡ cond b Nobody (unwrap_or had Nobody)
-role_dropped true had = refl
-role_dropped false had = refl
-
-role_told : (b : Bool) (role : RoleOf) (had : Option RoleOf) → unwrap_or (option_or (cond b (Some role) None) had) Nobody ≡ cond b role (unwrap_or had Nobody)
-role_told true role had = refl
-role_told false role had = refl
-
 roles_next : (roles : FinMap (slice_cmp nat_cmp) RoleOf) (person : List ℕ) (role : RoleOf) (p : List ℕ)
     → unwrap_or (finite.get (roles_with roles person role) p) Nobody ≡ cond (bytes_eq p person) role (unwrap_or (finite.get roles p) Nobody)
-roles_next roles person Nobody p = rw (get-remove nat_list_cmp_total roles person p, is_eq-slice_cmp p person) (role_dropped (bytes_eq p person) _)
-roles_next roles person Member p = rw (get-insert nat_list_cmp_total roles person Member p, is_eq-slice_cmp p person) (role_chosen (bytes_eq p person) Member _)
-roles_next roles person Reviewer p = rw (get-insert nat_list_cmp_total roles person Reviewer p, is_eq-slice_cmp p person) (role_chosen (bytes_eq p person) Reviewer _)
+roles_next roles person role p = grind (arith, get-remove nat_list_cmp_total roles person p, get-insert nat_list_cmp_total roles person role p, is_eq-slice_cmp p person)
+
+role_told : (b : Bool) (role : RoleOf) (had : Option RoleOf) → unwrap_or (option_or (cond b (Some role) None) had) Nobody ≡ cond b role (unwrap_or had Nobody)
+role_told b role had = grind arith
 
 pub role_next : (desk : DeskView) (events : List Event) (person : List ℕ) (role : RoleOf) → look desk ≡ look_back events → look (with_role desk person role) ≡ look_back (did (Other (Role person role)) ∷ events)
 role_next desk events person role same =
@@ -92,22 +80,20 @@ old_settings_next desk events text settings read same present =
     same
     ∙ (λ i. record (look_back events) { change = λ c. unsettled_next events c text settings read present i; settings = (present ∙ sym (taken_settings events 0 text settings read)) i })
 
-settings_by : (s : State) (events : List Event) (text : List ℕ) (settings : SettingsView) → settings_of text ≡ Ok settings → look s.desk ≡ look_back events
-    → (present : Option SettingsView) → s.desk.settings ≡ present → (b : Bool) → option_map_or (λ p. same_settings p settings) present false ≡ b
-    → look (if b then quiet s else under settings s).state.desk ≡ look_back (did (Other (Settings text)) ∷ events)
-settings_by s events text settings read same present is false other = new_settings_next s.desk events text settings read same
-settings_by s events text settings read same None is true equal = cc equal
-settings_by s events text settings read same (Some present) is true equal =
-    old_settings_next s.desk events text settings read same (sym (ap (λ (l : Look). l.settings) same) ∙ is ∙ ap Some (same_settings-is present settings equal))
+present_is : (present : Option SettingsView) (settings : SettingsView) → option_map_or (λ p. same_settings p settings) present false ≡ true → present ≡ Some settings
+present_is None settings equal = cc equal
+present_is (Some present) settings equal = ap Some (same_settings-is present settings equal)
 
 pub settings_next : (s : State) (events : List Event) (text : List ℕ) (read : Result SettingsView SettingsFault) → settings_of text ≡ read → bad_settings read ≡ None
     → look s.desk ≡ look_back events → look (accepted s read).state.desk ≡ look_back (did (Other (Settings text)) ∷ events)
-settings_next s events text (Ok settings) read good same = settings_by s events text settings read same s.desk.settings refl _ refl
+settings_next s events text (Ok settings) read good same =
+    either_way (λ (o : Outcome). look o.state.desk ≡ look_back (did (Other (Settings text)) ∷ events)) (are_present s.desk settings) (quiet s) (under settings s)
+    (λ equal. old_settings_next s.desk events text settings read same (sym (ap (λ (l : Look). l.settings) same) ∙ present_is s.desk.settings settings equal))
+    (λ other. new_settings_next s.desk events text settings read same)
 settings_next s events text (Err fault) read good same = cc good
 
 pub one_rule : (rule : Option Rule) → first_failing (rule ∷ []) ≡ None → rule ≡ None
-one_rule None holds = refl
-one_rule (Some rule) holds = cc holds
+one_rule rule holds = grind arith
 
 -- OPENING
 opening_next : (desk : DeskView) (events : List Event) (n : ℕ) (author head : List ℕ) → look desk ≡ look_back events
@@ -129,9 +115,7 @@ quiet_next desk events n deed same next =
     same
     ∙ (λ i. record (look_back events) { change = λ c. (kept_by (eqb c n) (change_back events c) ∙ by_number events c n deed (option_map (λ change. change)) (next c) (eqb c n) refl) i }) where
       kept_by : (b : Bool) (change : Option Change) → change ≡ cond b (option_map (λ c. c) change) change
-      kept_by true None = refl
-      kept_by true (Some change) = refl
-      kept_by false change = refl
+      kept_by b change = grind arith
 
 -- a status, of which the open changes are told whose head its commit is
 pub status_look : (desk : DeskView) (events : List Event) (commit name : List ℕ) (state : StatusState) → look desk ≡ look_back events
@@ -174,23 +158,19 @@ numbers_mild events (number ∷ numbers) = ((λ c. (refl, refl, refl)), numbers_
 
 pub settings_mild : (events : List Event) (s : State) (read : Result SettingsView SettingsFault) → AreMild events (accepted s read).orders
 settings_mild events s (Err fault) = tt
-settings_mild events s (Ok settings) = by (are_present s.desk settings) where
-  by : (b : Bool) → AreMild events (if b then quiet s else under settings s).orders
-  by true = tt
-  by false = numbers_mild events (losing_on s.desk settings)
+settings_mild events s (Ok settings) =
+    either_way (λ (o : Outcome). AreMild events o.orders) (are_present s.desk settings) (quiet s) (under settings s) (λ present. tt) (λ new. numbers_mild events (losing_on s.desk settings))
 
 -- A batch is ordered that was never to land.
 stage_mild : (events : List Event) (desk : DeskView) (running : Option Batch) (waiting : List Batch) → ((number : ℕ) → 1 ≤ uses number waiting → landings number events ≡ 0)
     → AreMild events (first_order desk running waiting)
 stage_mild events desk (Some batch) waiting never = tt
 stage_mild events desk None [] never = tt
-stage_mild events desk None (batch ∷ waiting) never = by desk.base where
-  first : 1 ≤ uses batch.number (batch ∷ waiting)
-  first = omega (arith, sum_by-cons (λ (b : Batch). if eqb batch.number b.number then 1 else 0) batch waiting, ap {B = ℕ} (λ (b : Bool). if b then 1 else 0) ((Decides-eqb batch.number batch.number).1 refl))
-
-  by : (base : Option (List ℕ)) → AreMild events (option_map_or (λ b. Stage batch.number batch.branch b (filter_map (head_on desk) batch.changes) ∷ []) base [])
-  by None = tt
-  by (Some base) = ((λ c. (refl, refl, stage_rest events batch.number batch.branch base (filter_map (head_on desk) batch.changes) c (never batch.number first))), tt)
+stage_mild events desk None (batch ∷ waiting) never =
+    let first : 1 ≤ uses batch.number (batch ∷ waiting) = grind (arith, nat_tests, sum_by-cons (λ (b : Batch). if eqb batch.number b.number then 1 else 0) batch waiting) in
+    let heads = filter_map (head_on desk) batch.changes in
+    by_option (λ base. AreMild events (option_map_or (λ b. Stage batch.number batch.branch b heads ∷ []) base []))
+    tt (λ base. ((λ c. (refl, refl, stage_rest events batch.number batch.branch base heads c (never batch.number first))), tt)) desk.base
 
 pub starting_look : (branch : Branch) (s : State) (events : List Event) (now : ℕ) → look s.desk ≡ look_back events
     → ((number : ℕ) → 1 ≤ uses number (lane_of branch s.queue).waiting → landings number events ≡ 0)
@@ -210,22 +190,10 @@ lone_look alter why desk events (Some n) same each =
 
 -- No notice ends both.
 not_of_try : (why : Why) → ends_why why ≡ true → tells_of_try why ≡ false
-not_of_try why.Conflict ends = refl
-not_of_try (why.Failed name) ends = refl
-not_of_try why.TimedOut ends = refl
-not_of_try why.Pushed ends = refl
-not_of_try why.Closed ends = refl
-not_of_try why.Labeled ends = refl
-not_of_try why.Reviews ends = refl
-not_of_try why.Settings ends = refl
-not_of_try why.TryPassed ends = cc ends
-not_of_try why.TryFailed ends = cc ends
+not_of_try why ends = grind arith
 
 only_of_try : (why : Why) → tells_of_try why ≡ true → ends_why why ≡ false
-only_of_try why tells = by (ends_why why) refl where
-  by : (b : Bool) → ends_why why ≡ b → b ≡ false
-  by true is = sym tells ∙ not_of_try why is
-  by false is = refl
+only_of_try why tells = grind arith
 
 -- what a notice ends, by the branch of the batch that it tells of
 abbrev pub ends_on : Branch → Why → Bool
@@ -234,9 +202,9 @@ ends_on Trying why = tells_of_try why
 
 pub ending_look : (branch : Branch) (s : State) (events : List Event) (why : Why) → ends_on branch why ≡ true → look s.desk ≡ look_back events
     → look (ending branch why s).state.desk ≡ look_back (given events (ending branch why s).orders)
-ending_look branch s events why ends same = lone_look (spent branch) why s.desk events (lone_on branch s) same (at branch ends) where
+ending_look branch s events why ends same = lone_look (given_up branch) why s.desk events (lone_on branch s) same (at branch ends) where
   at : (b : Branch) → ends_on b why ≡ true → (n c : ℕ) (here : Bool) → eqb c n ≡ here
-      → cond here (option_map (spent b) (change_back events c)) (change_back events c) ≡ change_back (gave (Notice n why) ∷ events) c
+      → cond here (option_map (given_up b) (change_back events c)) (change_back events c) ≡ change_back (gave (Notice n why) ∷ events) c
   at Staging ends n c true is = sym (order_ended events c (Notice n why) ((λ i. ends i && eqb c n) ∙ is) (λ i. not_of_try why ends i && eqb c n) refl)
   at Staging ends n c false is = sym (order_elsewhere events c (Notice n why) ((λ i. ends i && eqb c n) ∙ is) (λ i. not_of_try why ends i && eqb c n) refl)
   at Trying ends n c true is = sym (order_ended_try events c (Notice n why) ((λ i. ends i && eqb c n) ∙ is) (λ i. only_of_try why ends i && eqb c n) refl)
@@ -256,8 +224,7 @@ land_look s events batch base commit same none members =
 
 -- THE RUNNING BATCH GOES BACK
 landed_unfit : (settings : Option SettingsView) (labels reviews : Texts) → is_fit settings phase.Landed labels reviews ≡ false
-landed_unfit None labels reviews = refl
-landed_unfit (Some settings) labels reviews = refl
+landed_unfit settings labels reviews = grind arith
 
 module _ (desk : DeskView) (events : List Event) (same : look desk ≡ look_back events) where
   -- as the changes of a batch that was landing, and the other ones
@@ -287,23 +254,15 @@ module _ (desk : DeskView) (events : List Event) (same : look desk ≡ look_back
     outside : landing_back events c ≡ false → change_back events c ≡ change_after events c (record (rest_back events c) { landing = false }) None
     outside none = sym (unaltered events c) ∙ (λ i. change_after events c (record (rest_back events c) { landing = none i }) None)
 
-  pub base_look : (base : List ℕ) (running : Option Batch) → Lands events running → Members events running → look (with_base (released_on (Some base) desk running) base) ≡ look_back (did (Other (Base base)) ∷ events)
-  base_look base None all members = nothing all where
-    nothing : Lands events None → look (with_base desk base) ≡ look_back (did (Other (Base base)) ∷ events)
-    nothing none =
-        ap (λ (l : Look). record l { base = Some base }) same
-        ∙ (λ i. record (look_back events) { change = λ c. (sym (elsewhere events c (Other (Base base)) refl (base_rest events base c none))) i; base = Some base })
-  base_look base (Some batch) all members = by batch.stage refl where
-    nothing : lands (Some batch) ≡ false → look (with_base desk base) ≡ look_back (did (Other (Base base)) ∷ events)
-    nothing not_so =
-        let none : Lands events None = λ n. all n ∙ none_lands n (Some batch) not_so in
-        ap (λ (l : Look). record l { base = Some base }) same
-        ∙ (λ i. record (look_back events) { change = λ c. (sym (elsewhere events c (Other (Base base)) refl (base_rest events base c none))) i; base = Some base })
+  none_landed : (base : List ℕ) → Lands events None → look (with_base desk base) ≡ look_back (did (Other (Base base)) ∷ events)
+  none_landed base none =
+      ap (λ (l : Look). record l { base = Some base }) same
+      ∙ (λ i. record (look_back events) { change = λ c. (sym (elsewhere events c (Other (Base base)) refl (base_rest events base c none))) i; base = Some base })
 
+  pub base_look : (base : List ℕ) (running : Option Batch) → Lands events running → Members events running → look (with_base (released_on (Some base) desk running) base) ≡ look_back (did (Other (Base base)) ∷ events)
+  base_look base None all members = none_landed base all
+  base_look base (Some batch) all members = by batch.stage refl where
     by : (at : StageOf) → batch.stage ≡ at → look (with_base (released_at (Some base) desk batch.changes at) base) ≡ look_back (did (Other (Base base)) ∷ events)
-    by stage.Waiting at = nothing (ap is_landing at)
-    by (stage.Ordered since) at = nothing (ap is_landing at)
-    by (stage.Staged since commit reports) at = nothing (ap is_landing at)
     by (stage.Landing commit) at =
         ap (λ (l : Look). record l { base = Some base })
         (released_look (Some base) batch commit (did (Other (Base base)) ∷ events) (look (all_altered (released (Some base) commit) desk batch.changes)) (λ c b there. each c (bytes_eq base commit) refl b there) refl) where
@@ -321,6 +280,7 @@ module _ (desk : DeskView) (events : List Event) (same : look desk ≡ look_back
           each c false is true there = (λ i. option_map (λ change. cond (is i) (landed change) (with_landing false change)) (change_back events c)) ∙ spared c ∙ sym (rest c false true is there)
           each c true is false there = outside c (landing_members events batch commit c at all members ∙ there) ∙ sym (rest c true false is there)
           each c false is false there = outside c (landing_members events batch commit c at all members ∙ there) ∙ sym (rest c false false is there)
+    by at is = none_landed base (λ n. all n ∙ none_lands n (Some batch) (ap is_landing is))
 
   -- a refusal of the batch that is landing
   refused_look : (batch : Batch) (commit : List ℕ) → batch.stage ≡ stage.Landing commit → Lands events (Some batch) → Members events (Some batch)
@@ -341,12 +301,9 @@ module _ (desk : DeskView) (events : List Event) (same : look desk ≡ look_back
   refusal_look number (Some batch) there all members = by (eqb number batch.number) refl batch.stage refl there where
     by : (b : Bool) → eqb number batch.number ≡ b → (at : StageOf) → batch.stage ≡ at → (b && is_landing at) ≡ true
         → look (released_at None desk batch.changes at) ≡ look_back (did (Other (Refused number)) ∷ events)
-    by true is stage.Waiting at so = cc so
-    by true is (stage.Ordered since) at so = cc so
-    by true is (stage.Staged since commit reports) at so = cc so
     by true is (stage.Landing commit) at so =
         refused_look batch commit at all members ∙ ap (λ n. look_back (did (Other (Refused n)) ∷ events)) (sym ((Decides-eqb number batch.number).0 is))
-    by false is at is' so = cc so
+    by b is at is' so = cc so
 
 -- ANY DEED ON A CHANGE
 pub about_look : (desk : DeskView) (events : List Event) (n : ℕ) (deed : Deed) → look desk ≡ look_back events → ((c : ℕ) → Unseen events c) → broken (look_back events) (On n deed) ≡ None
@@ -360,12 +317,9 @@ about_look desk events n (Said p (Known (Priority priority))) same unseen holds 
 about_look desk events n (Said p (Known DelegateAuthor)) same unseen holds = altered_next desk events n with_author_as_delegate (Said p (Known DelegateAuthor)) same (λ c is. author_next events c p)
 about_look desk events n (Said p (Known (DelegateTo names))) same unseen holds = altered_next desk events n (with_delegates names) (Said p (Known (DelegateTo names))) same (λ c is. names_next events c p names)
 about_look desk events n (Said p (Known DelegateNone)) same unseen holds = altered_next desk events n without_delegates (Said p (Known DelegateNone)) same (λ c is. none_next events c p)
-about_look desk events n (Said p (Known Ping)) same unseen holds = quiet_next desk events n (Said p (Known Ping)) same (λ c is. quiet_line events c (Said p (Known Ping)) refl (λ author. refl) (stays events c (Said p (Known Ping)) refl refl (λ fit. fit)))
 about_look desk events n (Said p (Known Try)) same unseen holds =
     altered_next desk events n with_try (Said p (Known Try)) same (λ c is. try_next events c p (tried_here events p n Try holds c is))
 about_look desk events n (Said p (Known TryCancel)) same unseen holds = altered_next desk events n without_try (Said p (Known TryCancel)) same (λ c is. try_cancel_next events c p)
-about_look desk events n (Said p (Known Retry)) same unseen holds = quiet_next desk events n (Said p (Known Retry)) same (λ c is. quiet_line events c (Said p (Known Retry)) refl (λ author. refl) (stays events c (Said p (Known Retry)) refl refl (λ fit. fit)))
-about_look desk events n (Said p Unknown) same unseen holds = quiet_next desk events n (Said p Unknown) same (λ c is. quiet_line events c (Said p Unknown) refl (λ author. refl) (stays events c (Said p Unknown) refl refl (λ fit. fit)))
 about_look desk events n (Happened (Opened author head)) same unseen holds =
     opening_next desk events n author head same (λ c is. opened_next events c author head (unseen c) (shut events n author head unseen holds c is) (fresh events n author head unseen holds c is))
 about_look desk events n (Happened (Pushed head)) same unseen holds =
@@ -379,6 +333,7 @@ about_look desk events n (Happened (Unlabeled label)) same unseen holds = altere
 about_look desk events n (Happened (Review person head approves)) same unseen holds =
     ap (λ (l : Look). look (altered desk n (reviewed l.settings person approves))) same
     ∙ altered_next desk events n (reviewed (settings_back events) person approves) (Happened (Review person head approves)) same (λ c is. reviewed_next events c person head approves)
+about_look desk events n deed same unseen holds = quiet_next desk events n deed same (λ c is. quiet_line events c deed refl (λ author. refl) (stays events c deed refl refl (λ fit. fit)))
 
 -- and its notices
 pub about_mild : (desk : DeskView) (events : List Event) (n : ℕ) (deed : Deed) → AreMild events (notices desk n deed)
@@ -386,6 +341,4 @@ about_mild desk events n (Happened (Pushed head)) = notice_mild events _ n why.P
 about_mild desk events n (Happened Closed) = notice_mild events _ n why.Closed refl refl
 about_mild desk events n (Happened (Labeled label)) = notice_mild events _ n why.Labeled refl refl
 about_mild desk events n (Happened (Review person head approves)) = notice_mild events _ n why.Reviews refl refl
-about_mild desk events n (Said person spoken) = tt
-about_mild desk events n (Happened (Opened author head)) = tt
-about_mild desk events n (Happened (Unlabeled label)) = tt
+about_mild desk events n deed = tt

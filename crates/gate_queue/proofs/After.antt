@@ -1,37 +1,17 @@
 -- What the history says of a change after one more event: by the act that the event did to the change, if it did one, and by
 -- whether the event ends its approval, or its try.
-use Rattle.std.proofs.Common.{◌≡◌, ℕ, ℤ, pos, Bool, true, false, cond, not, ◌&&◌, ◌||◌, List, [], ◌∷◌, Option, Some, None, is_some, eqb, refl, sym, ◌∙◌, ap}
+use Rattle.std.proofs.Common.{◌≡◌, ℕ, ℤ, pos, Bool, true, false, cond, not, ◌&&◌, ◌||◌, List, [], ◌∷◌, Option, Some, None, is_some, eqb, refl, sym, ◌∙◌, ap, arith}
 use Rattle.std.specs.FinSet as set
 use Rattle.std.specs.Option.{option_and_then, option_map, option_map_or, option_or, unwrap_or}
 use Rattle.gate_queue.specs.Vocabulary.{SettingsView, Texts, is_fit, is_open_phase, Change, Phase, Repeat, without_approval, Act, On, Deed, Order}
 use Rattle.gate_state.specs.Acts.{on}
-use Rattle.gate_queue.specs.History.{Event, did, gave, Mark, head_back, status_said, told_back, last_of, said_by, said_on, author_said, author_back, head_said, moves_head, phase_said, phase_by, landing_back, landed_back, priority_said, repeat_said, marked, label_said, labels_back, review_said, reviews_back, delegation_said, delegated, delegates_back, settings_back, fit_back, approval_said, ends_it, order_ends, ends, standing_back, approvers_back, try_said, ends_its_try, order_ends_try, tried_back, change_of, change_back}
+use Rattle.gate_queue.specs.History.{Event, did, gave, Mark, head_back, status_said, told_back, last_of, said_by, said_on, author_said, author_back, head_said, moves_head, phase_said, phase_by, landing_back, landed_back, priority_said, repeat_said, marked, label_said, labels_back, review_said, reviews_back, delegation_said, delegated, delegates_back, settings_back, fit_back, approval_said, ends_it, order_ends, standing_back, approvers_back, try_said, ends_its_try, order_ends_try, tried_back, change_of, change_back}
 use Rattle.gate_queue.specs.Machine.{without_try}
 
--- STANDING AND FIT
-fit_so : (starts keeps fit had : Bool) → ((starts && fit) || ((keeps && fit) && had)) ≡ true → fit ≡ true
-fit_so starts keeps true had is = refl
-fit_so true true false had is = is
-fit_so true false false had is = is
-fit_so false true false had is = is
-fit_so false false false had is = is
-
--- a change that is standing is fit
+-- STANDING AND FIT: a change that is standing is fit
 pub standing_fit : (events : List Event) (change : ℕ) → standing_back events change ≡ true → fit_back events change ≡ true
 standing_fit [] change is = cc is
-standing_fit (event ∷ events) change is =
-    fit_so (is_some (said_on change approval_said event events)) (not (ends change event events)) (fit_back (event ∷ events) change) (standing_back events change) is
-
-goes_on : {X : Type 0} (keeps fit had : Bool) (last : Option X) → cond ((keeps && fit) && had) last None ≡ cond (keeps && fit) (cond had last None) None
-goes_on true true had last = refl
-goes_on true false had last = refl
-goes_on false fit had last = refl
-
--- an approval that is kept if the change stays fit
-pub kept : {X : Type 0} (fit had : Bool) (last : Option X) → (had ≡ true → fit ≡ true) → cond fit (cond had last None) None ≡ cond had last None
-kept true had last so = refl
-kept false true last so = cc (so refl)
-kept false false last so = refl
+standing_fit (event ∷ events) change is = grind arith
 
 -- a change that was opened, altered as the history has it
 pub altered_as : (alter : Change → Change) (was is : List ℕ → Change) (author : Option (List ℕ)) → ((a : List ℕ) → author ≡ Some a → alter (was a) ≡ is a)
@@ -142,9 +122,7 @@ module _ (events : List Event) (c : ℕ) (rest : Rest) (done : Option Deed) wher
 module _ (events : List Event) (c : ℕ) where
   -- AN EVENT THAT DID NOTHING TO THE CHANGE: an act elsewhere, and an order that ends no approval and no try of it
   pub untouched : approvers_after events c (rest_back events c) None ≡ approvers_back events c
-  untouched =
-      goes_on true (fit_back events c) (standing_back events c) (last_of (said_on c approval_said) events)
-      ∙ kept (fit_back events c) (standing_back events c) (last_of (said_on c approval_said) events) (standing_fit events c)
+  untouched = let fit = standing_fit events c in grind arith
 
   pub unaltered : change_after events c (rest_back events c) None ≡ change_back events c
   unaltered = λ i. option_map (λ author. record (change_of events c author) { approved = untouched i }) (author_back events c)
@@ -159,21 +137,15 @@ module _ (events : List Event) (c : ℕ) where
   -- and one that ends its approval, or its try
   pub order_ended : (order : Order) → order_ends c order ≡ true → order_ends_try c order ≡ false → rest_after (gave order) events c ≡ rest_back events c
       → change_back (gave order ∷ events) c ≡ option_map without_approval (change_back events c)
-  order_ended order ending tries same = (λ i. change_by events c (same i) None (ending i) (tries i)) ∙ by (author_back events c) where
-    by : (author : Option (List ℕ)) → option_map (change_of_by events c (rest_back events c) None true false) author ≡ option_map without_approval (option_map (change_of events c) author)
-    by None = refl
-    by (Some author) = refl
+  order_ended order ending tries same = (λ i. change_by events c (same i) None (ending i) (tries i)) ∙ sym (altered_as without_approval (change_of events c) _ (author_back events c) (λ author is. refl))
 
   pub order_ended_try : (order : Order) → order_ends_try c order ≡ true → order_ends c order ≡ false → rest_after (gave order) events c ≡ rest_back events c
       → change_back (gave order ∷ events) c ≡ option_map without_try (change_back events c)
-  order_ended_try order ending goes same = (λ i. change_by events c (same i) None (goes i) (ending i)) ∙ by (author_back events c) where
-    by : (author : Option (List ℕ)) → option_map (change_of_by events c (rest_back events c) None false true) author ≡ option_map without_try (option_map (change_of events c) author)
-    by None = refl
-    by (Some author) = λ i. Some (record (change_of events c author) { approved = untouched i; trying = false })
+  order_ended_try order ending goes same = (λ i. change_by events c (same i) None (goes i) (ending i)) ∙ (let approvers = untouched in grind arith)
 
   -- new settings, or one that has landed: the approval goes on if the change is fit then
   pub unless_unfit : (rest : Rest) → approvers_after events c rest None ≡ cond (fit_after events c rest None) (approvers_back events c) None
-  unless_unfit rest = goes_on true (fit_after events c rest None) (standing_back events c) (last_of (said_on c approval_said) events)
+  unless_unfit rest = grind arith
 
   -- A DEED ON THE CHANGE
   pub altered_here : (alter : Change → Change) (deed : Deed) → author_after events c (rest_back events c) (Some deed) ≡ author_back events c
@@ -186,21 +158,17 @@ module _ (events : List Event) (c : ℕ) where
   -- one that approves nothing
   pub silent : (deed : Deed) → approval_said deed ≡ None
       → approvers_after events c (rest_back events c) (Some deed) ≡ cond (not (ends_it c events deed) && fit_after events c (rest_back events c) (Some deed)) (approvers_back events c) None
-  silent deed none = rw none (goes_on (not (ends_it c events deed)) (fit_after events c (rest_back events c) (Some deed)) (standing_back events c) _)
+  silent deed none = grind arith
 
   -- and ends the approval
   pub ended : (deed : Deed) → approval_said deed ≡ None → ends_it c events deed ≡ true → approvers_after events c (rest_back events c) (Some deed) ≡ None
-  ended deed none ending =
-      silent deed none ∙ ap (λ (b : Bool). cond (not b && fit_after events c (rest_back events c) (Some deed)) (approvers_back events c) None) ending
+  ended deed none ending = let approvers = silent deed none in grind arith
 
   -- or ends nothing, and leaves the change fit if it was
   pub stays : (deed : Deed) → approval_said deed ≡ None → ends_it c events deed ≡ false
       → (fit_back events c ≡ true → fit_after events c (rest_back events c) (Some deed) ≡ true)
       → approvers_after events c (rest_back events c) (Some deed) ≡ approvers_back events c
-  stays deed none goes fit =
-      silent deed none
-      ∙ ap (λ (b : Bool). cond (not b && fit_after events c (rest_back events c) (Some deed)) (approvers_back events c) None) goes
-      ∙ kept (fit_after events c (rest_back events c) (Some deed)) (standing_back events c) _ (λ standing. fit (standing_fit events c standing))
+  stays deed none goes fit = let approvers = silent deed none in let standing = standing_fit events c in grind arith
 
   -- a line that says nothing which is kept
   pub quiet_line : (deed : Deed) → author_after events c (rest_back events c) (Some deed) ≡ author_back events c

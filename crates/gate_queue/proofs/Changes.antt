@@ -1,6 +1,6 @@
 -- The changes of a desk after one of them was altered, or many.
-use Rattle.std.proofs.Common.{◌≡◌, ℕ, Bool, true, false, cond, not, ◌&&◌, ◌||◌, List, [], ◌∷◌, Option, Some, None, eqb, refl, sym, ◌∙◌, ap}
-use Rattle.std.proofs.lemmas.Bool.Decides.{Decides-eqb}
+use Rattle.std.proofs.Common.{◌≡◌, ℕ, Bool, true, false, cond, not, ◌&&◌, ◌||◌, List, [], ◌∷◌, Option, Some, eqb, refl, sym, ◌∙◌, ap, arith}
+use Rattle.std.proofs.lemmas.Bool.Decides.{Decides-eqb, nat_tests}
 use Rattle.std.specs.Cmp.{nat_cmp_total, unsigned_ties}
 use Rattle.std.specs.FinMap as finite
 use Rattle.std.specs.FinMap.{FinMap, get-insert, nat_cmp-IsAntisymmetric, same_map}
@@ -9,6 +9,7 @@ use Rattle.std.specs.List.{list_any}
 use Rattle.std.specs.Option.{option_map, option_map_or}
 use Rattle.gate_queue.specs.Vocabulary.{SettingsView, Look, DeskView, with_change, without_approval, look, Change}
 use Rattle.gate_queue.specs.Machine.{with_altered, altered, lone_altered, all_altered, opened, unless_against}
+use Rattle.gate_queue.proofs.Choosing.{by_option}
 
 pub same_number : (c number : ℕ) → eqb c number ≡ true → c ≡ number
 same_number c number is = (Decides-eqb c number).0 is
@@ -21,60 +22,36 @@ get-with_change desk number change c =
 -- what is put where it stands already changes nothing
 pub same_change : (desk : DeskView) (number : ℕ) (change : Change) → finite.get desk.changes number ≡ Some change → with_change desk number change ≡ desk
 same_change desk number change had = ap (λ (changes : FinMap nat_cmp Change). record desk { changes = changes }) (same_map nat_cmp_total nat_cmp-IsAntisymmetric _ _ (λ c.
-    get-with_change desk number change c ∙ by c (eqb c number) refl)) where
-      by : (c : ℕ) (b : Bool) → eqb c number ≡ b → cond b (Some change) (finite.get desk.changes c) ≡ finite.get desk.changes c
-      by c true is = sym (ap (finite.get desk.changes) (same_number c number is) ∙ had)
-      by c false is = refl
+    get-with_change desk number change c ∙ grind (arith, nat_tests, had)))
 
-not_there : (alter : Change → Change) (b : Bool) (had : Option Change) → (b ≡ true → had ≡ None) → had ≡ cond b (option_map alter had) had
-not_there alter false had none = refl
-not_there alter true had none = rw (none refl) refl
+altered_at : (desk : DeskView) (number : ℕ) (alter : Change → Change) (c : ℕ)
+    → finite.get (altered desk number alter).changes c ≡ cond (eqb c number) (option_map alter (finite.get desk.changes c)) (finite.get desk.changes c)
+altered_at desk number alter c = grind (arith, nat_tests, λ (change : Change). get-with_change desk number (alter change) c)
 
-there : (alter : Change → Change) (change : Change) (b : Bool) (had : Option Change) → (b ≡ true → had ≡ Some change) → cond b (Some (alter change)) had ≡ cond b (option_map alter had) had
-there alter change false had some = refl
-there alter change true had some = rw (some refl) refl
-
-altered_at : (desk : DeskView) (number : ℕ) (alter : Change → Change) (had : Option Change) → finite.get desk.changes number ≡ had → (c : ℕ)
-    → finite.get (with_altered desk number (option_map alter had)).changes c ≡ cond (eqb c number) (option_map alter (finite.get desk.changes c)) (finite.get desk.changes c)
-altered_at desk number alter None is c =
-    not_there alter (eqb c number) (finite.get desk.changes c) (λ same. ap (finite.get desk.changes) (same_number c number same) ∙ is)
-altered_at desk number alter (Some change) is c =
-    get-with_change desk number (alter change) c
-    ∙ there alter change (eqb c number) (finite.get desk.changes c) (λ same. ap (finite.get desk.changes) (same_number c number same) ∙ is)
-
--- what the rules read where a change was altered
-look_altered : (desk : DeskView) (number : ℕ) (alter : Change → Change) (had : Option Change) → finite.get desk.changes number ≡ had
-    → look (with_altered desk number (option_map alter had))
-    ≡ record (look desk) { change = λ c. cond (eqb c number) (option_map alter ((look desk).change c)) ((look desk).change c) }
-look_altered desk number alter None is = λ i. record (look desk) { change = λ c. altered_at desk number alter None is c i }
-look_altered desk number alter (Some change) is = λ i. record (look desk) { change = λ c. altered_at desk number alter (Some change) is c i }
-
+-- what the rules read if a change was altered
 pub altered_look : (desk : DeskView) (number : ℕ) (alter : Change → Change)
     → look (altered desk number alter) ≡ record (look desk) { change = λ c. cond (eqb c number) (option_map alter ((look desk).change c)) ((look desk).change c) }
-altered_look desk number alter = look_altered desk number alter (finite.get desk.changes number) refl
+altered_look desk number alter =
+    by_option (λ had. finite.get desk.changes number ≡ had → look (with_altered desk number (option_map alter had)) ≡ record (look desk) { change = λ c. finite.get (with_altered desk number (option_map alter had)).changes c })
+    (λ is. refl) (λ change is. refl) (finite.get desk.changes number) refl
+    ∙ (λ i. record (look desk) { change = λ c. altered_at desk number alter c i })
 
 -- and where one was opened
-opened_where : (author head : List ℕ) (b : Bool) (at here : Option Change) → (b ≡ true → at ≡ here)
-    → cond b (Some (opened author head at)) here ≡ cond b (Some (opened author head here)) here
-opened_where author head false at here same = refl
-opened_where author head true at here same = rw (same refl) refl
-
 pub opened_at : (desk : DeskView) (number : ℕ) (author head : List ℕ) (c : ℕ)
     → finite.get (with_change desk number (opened author head (finite.get desk.changes number))).changes c
     ≡ cond (eqb c number) (Some (opened author head (finite.get desk.changes c))) (finite.get desk.changes c)
 opened_at desk number author head c =
-    get-with_change desk number (opened author head (finite.get desk.changes number)) c
-    ∙ opened_where author head (eqb c number) (finite.get desk.changes number) (finite.get desk.changes c) (λ same. ap (finite.get desk.changes) (sym (same_number c number same)))
+    get-with_change desk number (opened author head (finite.get desk.changes number)) c ∙ grind (arith, nat_tests)
 
 -- THE ONE that was altered or opened, and each other
 at_itself : {X : Type 0} (n : ℕ) (here elsewhere : X) → cond (eqb n n) here elsewhere ≡ here
 at_itself n here elsewhere = ap (λ (b : Bool). cond b here elsewhere) ((Decides-eqb n n).1 refl)
 
 pub altered_here : (desk : DeskView) (number : ℕ) (alter : Change → Change) → finite.get (altered desk number alter).changes number ≡ option_map alter (finite.get desk.changes number)
-altered_here desk number alter = ap (λ (l : Look). l.change number) (altered_look desk number alter) ∙ at_itself number _ _
+altered_here desk number alter = altered_at desk number alter number ∙ at_itself number _ _
 
 pub altered_elsewhere : (desk : DeskView) (number : ℕ) (alter : Change → Change) (c : ℕ) → eqb c number ≡ false → finite.get (altered desk number alter).changes c ≡ finite.get desk.changes c
-altered_elsewhere desk number alter c differs = ap (λ (l : Look). l.change c) (altered_look desk number alter) ∙ rw differs refl
+altered_elsewhere desk number alter c differs = altered_at desk number alter c ∙ rw differs refl
 
 pub opened_here : (desk : DeskView) (number : ℕ) (author head : List ℕ)
     → finite.get (with_change desk number (opened author head (finite.get desk.changes number))).changes number ≡ Some (opened author head (finite.get desk.changes number))
@@ -87,17 +64,9 @@ opened_elsewhere desk number author head c differs = opened_at desk number autho
 -- Settings that may end an approval leave of a change what the end of an approval leaves.
 pub against_same : {X : Type 0} (seen : Change → X) → ((c : Change) → seen (without_approval c) ≡ seen c) → (against : SettingsView → Change → Bool) (settings : Option SettingsView) (c : Change)
     → seen (unless_against against settings c) ≡ seen c
-against_same seen same against None c = refl
-against_same seen same against (Some settings) c = on (against settings c) where
-  on : (b : Bool) → seen (cond b (without_approval c) c) ≡ seen c
-  on true = same c
-  on false = refl
+against_same seen same against settings c = grind (arith, same c)
 
 -- MANY CHANGES altered, by an alteration that does nothing more the second time
-twice : (alter : Change → Change) → ((change : Change) → alter (alter change) ≡ alter change) → (had : Option Change) → option_map alter (option_map alter had) ≡ option_map alter had
-twice alter same None = refl
-twice alter same (Some change) = ap Some (same change)
-
 pub all_look : (alter : Change → Change) → ((change : Change) → alter (alter change) ≡ alter change) → (changes : List ℕ) (desk : DeskView)
     → look (all_altered alter desk changes)
     ≡ record (look desk) { change = λ c. cond (list_any (eqb c) changes) (option_map alter (finite.get desk.changes c)) (finite.get desk.changes c) }
@@ -108,9 +77,7 @@ all_look alter same (n ∷ changes) desk =
     ∙ (λ i. record (look desk) { change = λ c. step (eqb c n) (list_any (eqb c) changes) (finite.get desk.changes c) i }) where
       step : (here rest : Bool) (had : Option Change)
           → cond rest (option_map alter (cond here (option_map alter had) had)) (cond here (option_map alter had) had) ≡ cond (here || rest) (option_map alter had) had
-      step true true had = twice alter same had
-      step true false had = refl
-      step false rest had = refl
+      step here rest had = grind (arith, same)
 
 -- THE ONE CHANGE of a batch that has no other is altered.
 module _ (alter : Change → Change) (desk : DeskView) (one : Option ℕ) where
@@ -118,31 +85,17 @@ module _ (alter : Change → Change) (desk : DeskView) (one : Option ℕ) where
   is_one c = option_map_or (λ n. eqb c n) one false
 
   pub lone_at : (c : ℕ) → finite.get (lone_altered alter desk one).changes c ≡ cond (is_one c) (option_map alter (finite.get desk.changes c)) (finite.get desk.changes c)
-  lone_at c = by one where
-    by : (o : Option ℕ) → finite.get (lone_altered alter desk o).changes c ≡ cond (option_map_or (λ n. eqb c n) o false) (option_map alter (finite.get desk.changes c)) (finite.get desk.changes c)
-    by None = refl
-    by (Some n) = ap (λ (l : Look). l.change c) (altered_look desk n alter)
+  lone_at c = grind (arith, λ (n : ℕ). altered_at desk n alter c)
 
   pub lone_rest : ((lone_altered alter desk one).settings ≡ desk.settings) × ((lone_altered alter desk one).clock ≡ desk.clock)
-  lone_rest = by one where
-    by : (o : Option ℕ) → ((lone_altered alter desk o).settings ≡ desk.settings) × ((lone_altered alter desk o).clock ≡ desk.clock)
-    by None = (refl, refl)
-    by (Some n) = (ap (λ (l : Look). l.settings) (altered_look desk n alter), ap (λ (l : Look). l.clock) (altered_look desk n alter))
+  lone_rest = grind arith
 
   -- what the alteration leaves of each change stays
   pub lone_same : {X : Type 0} (of : Change → X) (none : X) → ((change : Change) → of (alter change) ≡ of change) → (c : ℕ)
       → option_map_or of (finite.get (lone_altered alter desk one).changes c) none ≡ option_map_or of (finite.get desk.changes c) none
-  lone_same of none same c = ap (λ (o : Option Change). option_map_or of o none) (lone_at c) ∙ by (is_one c) (finite.get desk.changes c) where
-    by : (b : Bool) (had : Option Change) → option_map_or of (cond b (option_map alter had) had) none ≡ option_map_or of had none
-    by true None = refl
-    by true (Some change) = same change
-    by false had = refl
+  lone_same of none same c = ap (λ (o : Option Change). option_map_or of o none) (lone_at c) ∙ grind (arith, same)
 
   -- and what it ends, it ends of the one change
   pub lone_ends : (of : Change → Bool) → ((change : Change) → of (alter change) ≡ false) → (c : ℕ)
       → option_map_or of (finite.get (lone_altered alter desk one).changes c) false ≡ (not (is_one c) && option_map_or of (finite.get desk.changes c) false)
-  lone_ends of ended c = ap (λ (o : Option Change). option_map_or of o false) (lone_at c) ∙ by (is_one c) (finite.get desk.changes c) where
-    by : (b : Bool) (had : Option Change) → option_map_or of (cond b (option_map alter had) had) false ≡ (not b && option_map_or of had false)
-    by true None = refl
-    by true (Some change) = ended change
-    by false had = refl
+  lone_ends of ended c = ap (λ (o : Option Change). option_map_or of o false) (lone_at c) ∙ grind (arith, ended)

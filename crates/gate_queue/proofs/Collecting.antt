@@ -1,6 +1,6 @@
 -- The numbers of batches that are named, collected: a number is listed exactly if a test names it.
-use Rattle.std.proofs.Common.{◌≡◌, ◌⊎◌, ◌<◌, ◌+◌, ◌==◌, ◌||◌, ◌&&◌, not, ℕ, ℤ, Bool, true, false, cond, List, [], ◌∷◌, ◌++◌, map, length, take, get_or, slice_get, Option, Some, None, is_some, inl, inr, refl, sym, subst, ap, ◌∙◌, arith}
-use Rattle.std.proofs.Math.Bool.{and-false, and-true, or-false, or-true, or_assoc}
+use Rattle.std.proofs.Common.{◌≡◌, ◌<◌, ◌+◌, ◌==◌, ◌||◌, ◌&&◌, not, ℕ, ℤ, Bool, true, false, cond, List, [], ◌∷◌, ◌++◌, map, length, take, get_or, slice_get, Option, is_some, inl, inr, refl, sym, subst, ap, ◌∙◌, arith}
+use Rattle.std.proofs.Math.Bool.{or-false}
 use Rattle.std.proofs.lemmas.Bool.Decides.{nat_tests}
 use Rattle.std.proofs.lemmas.List.{take_more}
 use Rattle.std.proofs.lemmas.List.Folds.{list_any-append}
@@ -8,37 +8,33 @@ use Rattle.std.specs.Cmp.{nat_cmp_total}
 use Rattle.std.specs.FinMap as finite
 use Rattle.std.specs.FinMap.{nat_cmp-IsAntisymmetric}
 use Rattle.std.specs.List.{filter, list_all, list_any}
-use Rattle.std.specs.Option.{option_map, option_map_or}
+use Rattle.std.specs.Option.{option_map_or}
 use Rattle.std.specs.Ordering.{eq_by_cmp, nat_cmp}
+use Rattle.std.proofs.lemmas.Bool.{or_cases}
 use Rattle.gate_text.specs.Finite.{get-mapped}
 use Rattle.gate_queue.proofs.Noting.{equal_is}
 use Rattle.gate_queue.specs.Machine.{all_but, loses_approval, settled, with_new_settings}
 use Rattle.gate_queue.specs.MayChange.{is_in_front, is_joined, is_numbered, one_numbered}
-use Rattle.gate_queue.specs.Touching.{front, fronts, joining, lists, losing, numbers_so, number_of, settling}
-use Rattle.gate_queue.specs.Vocabulary.{Change, DeskView, SettingsView, State, numbers_where, without_approval, Batch, Lane, Queue}
-use Rattle.gate_state.specs.Lanes.{batches_of, is_fresh_beside, is_fresh_of, last_so, loses}
+use Rattle.gate_queue.specs.Touching.{front, fronts, joining, lists, numbers_so, number_of, settling}
+use Rattle.gate_queue.specs.Vocabulary.{Change, DeskView, SettingsView, State, numbers_where, Batch, Lane, Queue}
+use Rattle.gate_state.specs.Lanes.{batches_of, loses}
 use Rattle.gate_state.specs.Queue as queues
 use Rattle.gate_state.specs.State.{approved_on}
 use Rattle.gate_rules.specs.View.{numbers_in}
+use Rattle.gate_queue.proofs.Choosing.{by_bool}
 
 module _ (test : Batch → Bool) where
   pub numbers_so-more : (batch : Batch) (batches : List Batch) → numbers_so test (batch ∷ batches) ≡ numbers_so test (batch ∷ []) ++ numbers_so test batches
-  numbers_so-more batch batches = by (test batch) where
-    by : (b : Bool) → map (λ (x : Batch). x.number) (cond b (batch ∷ filter test batches) (filter test batches)) ≡ map (λ (x : Batch). x.number) (cond b (batch ∷ []) []) ++ numbers_so test batches
-    by true = refl
-    by false = refl
+  numbers_so-more batch batches =
+      by_bool (λ b. map (λ (x : Batch). x.number) (cond b (batch ∷ filter test batches) (filter test batches)) ≡ map (λ (x : Batch). x.number) (cond b (batch ∷ []) []) ++ numbers_so test batches)
+      refl refl (test batch)
 
   pub lists-so : (number : ℕ) (batches : List Batch) → lists number (numbers_so test batches) ≡ one_numbered test batches number
   lists-so number [] = refl
-  lists-so number (batch ∷ batches) = by (test batch) (lists-so number batches) where
-    by : (b : Bool) → lists number (numbers_so test batches) ≡ one_numbered test batches number
-        → lists number (map (λ (x : Batch). x.number) (cond b (batch ∷ filter test batches) (filter test batches))) ≡ ((batch.number == number) && b) || one_numbered test batches number
-    by true rest = ap (λ (r : Bool). (batch.number == number) || r) rest ∙ ap (λ (r : Bool). r || one_numbered test batches number) (sym (and-true (batch.number == number)))
-    by false rest = rest ∙ ap (λ (r : Bool). r || one_numbered test batches number) (sym (and-false (batch.number == number)))
+  lists-so number (batch ∷ batches) = grind (arith, lists-so number batches)
 
 pub lists-of : (number : ℕ) (batch : Option Batch) → lists number (number_of batch) ≡ is_numbered number batch
-lists-of number None = refl
-lists-of number (Some batch) = or-false (batch.number == number)
+lists-of number batch = grind arith
 
 pub lists-both : (number : ℕ) (xs ys : List ℕ) → lists number (xs ++ ys) ≡ lists number xs || lists number ys
 lists-both number xs ys = list_any-append (λ other. other == number) xs ys
@@ -52,30 +48,16 @@ listed-other number (other ∷ numbers) = λ i. flip number other i || listed-ot
 -- a change that stays approved under new settings
 pub stays_approved : (desk : DeskView) (settings : SettingsView) (change : ℕ)
     → approved_on (with_new_settings desk settings) change ≡ option_map_or (λ (c : Change). is_some c.approved && not (loses_approval settings c)) (finite.get desk.changes change) false
-stays_approved desk settings change = ap (λ (c : Option Change). option_map_or (λ (x : Change). is_some x.approved) c false) (get-mapped nat_cmp (settled settings) nat_cmp_total desk.changes change) ∙ each (finite.get desk.changes change) where
-  by : (b : Bool) (c : Change) → is_some (cond b (without_approval c) c).approved ≡ (is_some c.approved && not b)
-  by true c = sym (and-false (is_some c.approved))
-  by false c = sym (and-true (is_some c.approved))
-
-  each : (c : Option Change) → option_map_or (λ (x : Change). is_some x.approved) (option_map (settled settings) c) false ≡ option_map_or (λ (x : Change). is_some x.approved && not (loses_approval settings x)) c false
-  each None = refl
-  each (Some c) = by (loses_approval settings c) c
+stays_approved desk settings change = let there = get-mapped nat_cmp (settled settings) nat_cmp_total desk.changes change in grind arith
 
 -- A number is listed among some exactly if they are to be noted.
 module _ (number : ℕ) where
   pub joining-lists : (priority : ℤ) (change : ℕ) (queue : Queue)
       → lists number (joining priority change queue) ≡ (one_numbered (loses (all_but change)) (queues.batches_of queue) number || is_joined priority change queue.staging.waiting number)
   joining-lists priority change queue =
-      let last = last_so (is_fresh_of priority) queue.staging.waiting in
-      let beside = last_so (is_fresh_beside priority change) queue.staging.waiting in
-      let all : lists number (losing change queue.staging ++ losing change queue.trying) ≡ one_numbered (loses (all_but change)) (queues.batches_of queue) number =
-      lists-both number (losing change queue.staging) (losing change queue.trying)
-      ∙ (λ i. lists-so (loses (all_but change)) number (batches_of queue.staging) i || lists-so (loses (all_but change)) number (batches_of queue.trying) i)
-      ∙ sym (list_any-append (λ (b : Batch). (b.number == number) && loses (all_but change) b) (batches_of queue.staging) (batches_of queue.trying)) in
-      lists-both number _ (number_of beside)
-      ∙ (λ i. lists-both number (losing change queue.staging ++ losing change queue.trying) (number_of last) i || lists-of number beside i)
-      ∙ (λ i. (all i || lists-of number last i) || is_numbered number beside)
-      ∙ or_assoc (one_numbered (loses (all_but change)) (queues.batches_of queue) number) (is_numbered number last) (is_numbered number beside)
+      let losing = lists-so (loses (all_but change)) number in
+      let all = list_any-append (λ (b : Batch). (b.number == number) && loses (all_but change) b) (batches_of queue.staging) (batches_of queue.trying) in
+      grind (arith, lists-both, lists-of)
 
   front-lists : (lane : Lane) → lists number (front lane) ≡ is_in_front lane number
   front-lists lane = lists-both number (number_of lane.running) (number_of (slice_get lane.waiting 0)) ∙ (λ i. lists-of number lane.running i || lists-of number (slice_get lane.waiting 0) i)
@@ -86,20 +68,13 @@ module _ (number : ℕ) where
   pub settling-lists : (s : State) (settings : SettingsView)
       → lists number (settling s settings) ≡ (is_numbered number s.queue.staging.running || is_numbered number s.queue.trying.running || one_numbered (loses (approved_on (with_new_settings s.desk settings))) s.queue.staging.waiting number)
   settling-lists s settings =
-      let one = s.queue.staging.running in
-      let other = s.queue.trying.running in
-      let test : Batch → Bool = loses (approved_on (with_new_settings s.desk settings)) in
-      lists-both number (number_of one ++ number_of other) (numbers_so test s.queue.staging.waiting)
-      ∙ (λ i. lists-both number (number_of one) (number_of other) i || lists-so test number s.queue.staging.waiting i)
-      ∙ (λ i. (lists-of number one i || lists-of number other i) || one_numbered test s.queue.staging.waiting number)
+      let losing = lists-so (loses (approved_on (with_new_settings s.desk settings))) number in
+      grind (arith, lists-both, lists-of)
 
   -- a change is in a batch if the batch loses it when all others stay
   pub has-lists : (changes : List ℕ) → not (list_all (all_but number) changes) ≡ lists number changes
   has-lists [] = refl
-  has-lists (change ∷ changes) = by (change == number) (has-lists changes) where
-    by : (b : Bool) → not (list_all (all_but number) changes) ≡ lists number changes → not (not b && list_all (all_but number) changes) ≡ (b || lists number changes)
-    by true rest = refl
-    by false rest = rest
+  has-lists (change ∷ changes) = grind (arith, has-lists changes)
 
   -- one item more
   pub lists-more : (xs : List ℕ) (i x d : ℕ) → i < length xs → x ≡ get_or xs i d → lists number (take (i + 1) xs) ≡ (lists number (take i xs) || (x == number))
@@ -112,25 +87,13 @@ module _ (number : ℕ) where
   where-lists meets desk is = walk (finite.entries desk.changes) (ap (λ (c : Option Change). option_map_or meets c false) (sym (finite.get-entries desk.changes number)) ∙ is) where
     walk : (entries : List (ℕ × Change)) → option_map_or meets (finite.find nat_cmp number entries) false ≡ true → lists number (numbers_in meets entries) ≡ true
     walk [] is = cc is
-    walk (entry ∷ entries) is = by (eq_by_cmp nat_cmp number entry.0) refl (meets entry.1) refl is (walk entries) where
-      by : (b : Bool) → eq_by_cmp nat_cmp number entry.0 ≡ b → (m : Bool) → meets entry.1 ≡ m → option_map_or meets (cond b (Some entry.1) (finite.find nat_cmp number entries)) false ≡ true
-          → (option_map_or meets (finite.find nat_cmp number entries) false ≡ true → lists number (numbers_in meets entries) ≡ true)
-          → lists number (cond m (entry.0 ∷ numbers_in meets entries) (numbers_in meets entries)) ≡ true
-      by true same true meet is rest =
-          let at = nat_cmp-IsAntisymmetric number entry.0 (equal_is (nat_cmp number entry.0) same) in
-          let here : (entry.0 == number) ≡ true = grind (arith, nat_tests) in
-          ap (λ (b : Bool). b || lists number (numbers_in meets entries)) here
-      by true same false meet is rest = cc (meet, is)
-      by false other true meet is rest = ap (λ (b : Bool). (entry.0 == number) || b) (rest is) ∙ or-true (entry.0 == number)
-      by false other false meet is rest = rest is
-
-pub either : (a b : Bool) → (a || b) ≡ true → (a ≡ true) ⊎ (b ≡ true)
-either true b is = inl refl
-either false b is = inr is
+    walk (entry ∷ entries) is =
+        let same = λ (at : eq_by_cmp nat_cmp number entry.0 ≡ true). nat_cmp-IsAntisymmetric number entry.0 (equal_is (nat_cmp number entry.0) at) in
+        grind (arith, nat_tests, walk entries)
 
 -- what holds of the numbers so far, and of one more
 pub all_more : (P : ℕ → Type 0) (xs : List ℕ) (i x d : ℕ) → i < length xs → x ≡ get_or xs i d → ((n : ℕ) → lists n (take i xs) ≡ true → P n) → P x → (n : ℕ) → lists n (take (i + 1) xs) ≡ true → P n
-all_more P xs i x d within is so_far here n listed = elim (either (lists n (take i xs)) (x == n) (sym (lists-more n xs i x d within is) ∙ listed)) [
+all_more P xs i x d within is so_far here n listed = elim (or_cases (lists n (take i xs)) (x == n) (sym (lists-more n xs i x d within is) ∙ listed)) [
   | inl before ↦ so_far n before
   | inr same ↦ let at : x ≡ n = grind (arith, nat_tests) in subst P at here
 ]

@@ -1,13 +1,13 @@
 -- A batch that is tested by looking back was tested in the words of the whole list. The look-backs cut the list one by one;
 -- an event that came after a cut isn't the event of another cut, and so the cuts nest.
-use Rattle.std.proofs.Common.{◌≡◌, ◌≢◌, ℕ, Bool, true, false, not, ◌&&◌, List, [], ◌∷◌, ◌++◌, Option, Some, None, is_some, eqb, refl, sym, ◌∙◌, ap, subst, append_assoc}
-use Rattle.std.proofs.lemmas.Bool.Decides.{Decides-eqb}
+use Rattle.std.proofs.Common.{◌≡◌, ◌≢◌, ℕ, Bool, true, false, not, ◌&&◌, List, [], ◌∷◌, ◌++◌, Option, Some, None, is_some, eqb, refl, sym, ◌∙◌, ap, subst, append_assoc, arith}
+use Rattle.std.proofs.lemmas.Bool.Decides.{Decides-eqb, nat_tests}
 use Rattle.std.proofs.lemmas.Slice.Eq.{bytes_eq-Decides}
 use Rattle.std.specs.Bool.{then_some}
 use Rattle.std.specs.Cmp.{first_so, second_so}
 use Rattle.std.specs.Option.{option_map_or, option_or}
 use Rattle.std.specs.Str.{bytes_eq}
-use Rattle.gate_queue.specs.Vocabulary.{SettingsView, same_settings, On, Other, Base, Staged, Status, StatusState, Success, Failure, Error, Pending, Head, Stage, Land, Notice, Branch, Staging, Trying}
+use Rattle.gate_queue.specs.Vocabulary.{SettingsView, same_settings, Other, Base, Staged, Status, StatusState, Success, Failure, Error, Head, Stage, Branch, Staging}
 use Rattle.gate_text.specs.Same.{same_settings-is}
 use Rattle.gate_queue.specs.History.{Event, did, gave, said_by, settings_said, settings_back, is_order_on, keeps_order, is_staged_as, keeps_staged, state_said, is_bad, keeps_clean, is_clean, passes, keeps_passed, has_passed, IsTested}
 use Rattle.gate_queue.specs.Machine.{is_good}
@@ -25,67 +25,34 @@ lacks_both : (later before : List Event) (event out : Event) → Lacks later out
 lacks_both [] before event out none other rest = (other, rest)
 lacks_both (next ∷ later) before event out none other rest = (none.0, lacks_both later before event out none.1 other rest)
 
-first_of_two : (x y : Event) (xs ys : List Event) → x ∷ xs ≡ y ∷ ys → x ≡ y
-first_of_two x y xs ys is = cc
-
-rest_of_two : (x y : Event) (xs ys : List Event) → x ∷ xs ≡ y ∷ ys → xs ≡ ys
-rest_of_two x y xs ys is = cc
-
 -- The older event isn't after the newer one: so the newer one is among those after the older one.
 nested : (later before after older : List Event) (old new : Event) → later ++ old ∷ before ≡ after ++ new ∷ older → Lacks after old → new ≢ old → (between : List Event) × (later ≡ after ++ new ∷ between)
-nested [] before [] older old new is none other = absurd (other (sym (first_of_two old new before older is)))
-nested [] before (next ∷ after) older old new is none other = absurd (none.0 (sym (first_of_two old next before (after ++ new ∷ older) is)))
-nested (first ∷ later) before [] older old new is none other = (later, ap (λ (e : Event). e ∷ later) (first_of_two first new (later ++ old ∷ before) older is))
+nested [] before [] older old new is none other = absurd (other cc)
+nested [] before (next ∷ after) older old new is none other = absurd (none.0 cc)
+nested (first ∷ later) before [] older old new is none other = (later, cc)
 nested (first ∷ later) before (next ∷ after) older old new is none other =
-    let same = first_of_two first next (later ++ old ∷ before) (after ++ new ∷ older) is in
-    let (between, inside) = nested later before after older old new (rest_of_two first next (later ++ old ∷ before) (after ++ new ∷ older) is) none.1 other in
-    (between, λ i. same i ∷ inside i)
+    let (between, inside) = nested later before after older old new (cc) none.1 other in
+    (between, cc)
 
 -- An event that is in neither first part cuts the list at one place.
 same_cut : (one a other b : List Event) (event : Event) → one ++ event ∷ a ≡ other ++ event ∷ b → Lacks one event → Lacks other event → one ≡ other
 same_cut [] a [] b event is none neither = refl
-same_cut [] a (next ∷ other) b event is none neither = absurd (neither.0 (sym (first_of_two event next a (other ++ event ∷ b) is)))
-same_cut (first ∷ one) a [] b event is none neither = absurd (none.0 (first_of_two first event (one ++ event ∷ a) b is))
-same_cut (first ∷ one) a (next ∷ other) b event is none neither =
-    let same = first_of_two first next (one ++ event ∷ a) (other ++ event ∷ b) is in
-    let rest = same_cut one a other b event (rest_of_two first next (one ++ event ∷ a) (other ++ event ∷ b) is) none.1 neither.1 in
-    λ i. same i ∷ rest i
+same_cut [] a (next ∷ other) b event is none neither = absurd (neither.0 cc)
+same_cut (first ∷ one) a [] b event is none neither = absurd (none.0 cc)
+same_cut (first ∷ one) a (next ∷ other) b event is none neither = let rest = same_cut one a other b event (cc) none.1 neither.1 in cc
 
 -- THE EVENTS that start a look-back
 staging_is : (number : ℕ) (base : List ℕ) (event : Event) (before : List Event) → is_order_on number base event before ≡ true → (heads : List Head) × (event ≡ gave (Stage number Staging base heads))
-staging_is number base (did act) before so = cc so
-staging_is number base (gave (Stage batch Staging other heads)) before so =
-    let of = (Decides-eqb number batch).0 (first_so (eqb number batch) (bytes_eq base other) so) in
-    let on = (bytes_eq-Decides base other).0 (second_so (eqb number batch) (bytes_eq base other) so) in
-    (heads, λ i. gave (Stage (sym of i) Staging (sym on i) heads))
-staging_is number base (gave (Stage batch Trying other heads)) before so = cc so
-staging_is number base (gave (Land batch other commit)) before so = cc so
-staging_is number base (gave (Notice change why)) before so = cc so
+staging_is number base (gave (Stage batch Staging other heads)) before so = (heads, grind (arith, nat_tests, bytes_eq-Decides base other))
+staging_is number base event before so = cc so
 
 staged_is : (number : ℕ) (commit : List ℕ) (event : Event) (before : List Event) → is_staged_as number commit event before ≡ true → event ≡ did (Other (Staged number commit))
-staged_is number commit (gave order) before so = cc so
-staged_is number commit (did (Other (Staged batch other))) before so =
-    let of = (Decides-eqb number batch).0 (first_so (eqb number batch) (bytes_eq commit other) so) in
-    let with = (bytes_eq-Decides commit other).0 (second_so (eqb number batch) (bytes_eq commit other) so) in
-    λ i. did (Other (Staged (sym of i) (sym with i)))
-staged_is number commit (did (Other _)) before so = cc so
-staged_is number commit (did (On n deed)) before so = cc so
+staged_is number commit (did (Other (Staged batch other))) before so = grind (arith, nat_tests, bytes_eq-Decides commit other)
+staged_is number commit event before so = cc so
 
 success_is : (commit name : List ℕ) (event : Event) (before : List Event) → option_map_or is_good (said_by (state_said commit name) event before) false ≡ true → event ≡ did (Other (Status commit name Success))
-success_is commit name (gave order) before so = cc so
-success_is commit name (did (Other (Status other status state))) before so = by (bytes_eq commit other) (bytes_eq name status) state refl refl so where
-  by : (b d : Bool) (s : StatusState) → bytes_eq commit other ≡ b → bytes_eq name status ≡ d → option_map_or is_good (then_some (b && d) s) false ≡ true → did (Other (Status other status s)) ≡ did (Other (Status commit name Success))
-  by true true Success at of good =
-      let same = (bytes_eq-Decides commit other).0 at in
-      let called = (bytes_eq-Decides name status).0 of in
-      λ i. did (Other (Status (sym same i) (sym called i) Success))
-  by true true Failure at of good = cc good
-  by true true Error at of good = cc good
-  by true true Pending at of good = cc good
-  by true false s at of good = cc good
-  by false d s at of good = cc good
-success_is commit name (did (Other _)) before so = cc so
-success_is commit name (did (On n deed)) before so = cc so
+success_is commit name (did (Other (Status other status state))) before so = grind (arith, bytes_eq-Decides commit other, bytes_eq-Decides name status)
+success_is commit name event before so = cc so
 
 -- SETTINGS that equal those before
 still_same : (said present : Option SettingsView) → option_map_or (λ (new : SettingsView). option_map_or (λ (old : SettingsView). same_settings old new) present false) said true ≡ true → option_or said present ≡ present
@@ -94,9 +61,8 @@ still_same (Some new) None so = cc so
 still_same (Some new) (Some old) so = ap Some (sym (same_settings-is old new so))
 
 settings_next : (event : Event) (before : List Event) → keeps_order event before ≡ true → settings_back (event ∷ before) ≡ settings_back before
-settings_next (gave order) before kept = refl
-settings_next (did (On n deed)) before kept = refl
 settings_next (did (Other fact)) before kept = still_same (settings_said fact) (settings_back before) (second_so _ _ kept)
+settings_next event before kept = refl
 
 settings_kept : (newer older before : List Event) → AllKept keeps_order (newer ++ older) before → settings_back ((newer ++ older) ++ before) ≡ settings_back (older ++ before)
 settings_kept [] older before kept = refl

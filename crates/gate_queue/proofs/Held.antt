@@ -1,12 +1,12 @@
 -- What holds of a state, and that it goes on when the open changes at a head are told of a status.
-use Rattle.std.proofs.Common.{◌≡◌, ℕ, pos, Bool, true, false, cond, List, Option, Some, None, is_some, refl, sym, ◌∙◌, ap, subst}
+use Rattle.std.proofs.Common.{◌≡◌, ℕ, pos, false, List, is_some, refl, sym, subst, arith}
 use Rattle.std.specs.Cmp.{nat_cmp_total}
 use Rattle.std.specs.FinMap as finite
-use Rattle.std.specs.Option.{option_map, option_map_or}
+use Rattle.std.specs.Option.{option_map_or}
 use Rattle.std.specs.Ordering.{nat_cmp}
 use Rattle.gate_text.specs.Finite.{get-mapped}
-use Rattle.gate_queue.specs.Vocabulary.{Texts, DeskView, is_open_at, look, Change, StatusState, Branch, Staging, Trying, Lane, State}
-use Rattle.gate_rules.specs.View.{with_status, told_at}
+use Rattle.gate_queue.specs.Vocabulary.{Texts, DeskView, look, Change, StatusState, Branch, Staging, Trying, Lane, State}
+use Rattle.gate_rules.specs.View.{told_at}
 use Rattle.gate_state.specs.State.{IsDesk, Marks, IsBranch, IsQueue, marks_on}
 use Rattle.gate_queue.specs.Machine.{is_good, heads_told}
 use Rattle.gate_queue.proofs.Keeping.{on_time}
@@ -35,14 +35,7 @@ still_branch on old new lane same is =
 module _ (s : State) (commit name : List ℕ) (state : StatusState) where
   told_seen : {X : Type 0} (seen : Change → X) (none : X) → ((change : Change) (passed : Texts) → seen (record change { passed = passed }) ≡ seen change) → (c : ℕ)
       → option_map_or seen (finite.get (heads_told commit name state s).desk.changes c) none ≡ option_map_or seen (finite.get s.desk.changes c) none
-  told_seen seen none same c = ap (λ (o : Option Change). option_map_or seen o none) (get-mapped nat_cmp (told_at commit name (is_good state)) nat_cmp_total s.desk.changes c) ∙ by (finite.get s.desk.changes c) where
-    on : (change : Change) (b : Bool) → seen (cond b (with_status name (is_good state) change) change) ≡ seen change
-    on change true = same change _
-    on change false = refl
-
-    by : (change : Option Change) → option_map_or seen (option_map (told_at commit name (is_good state)) change) none ≡ option_map_or seen change none
-    by None = refl
-    by (Some change) = on change (is_open_at commit change)
+  told_seen seen none same c = let at = get-mapped nat_cmp (told_at commit name (is_good state)) nat_cmp_total s.desk.changes c in grind (arith, same)
 
   pub heads_told_holds : Holds s → Holds (heads_told commit name state s)
   heads_told_holds is = record {

@@ -1,15 +1,15 @@
 -- What the history says of landing and landed batches and changes, after one more event.
-use Rattle.std.proofs.Common.{◌≡◌, ◌+◌, ℕ, eqb, Bool, true, false, ◌&&◌, ◌||◌, cond, if◌then◌else◌, List, [], ◌∷◌, Option, Some, None, is_some, refl, sym, ◌∙◌, ap, arith}
+use Rattle.std.proofs.Common.{◌≡◌, ◌+◌, ℕ, eqb, Bool, true, false, ◌&&◌, ◌||◌, if◌then◌else◌, List, [], ◌∷◌, Option, Some, None, is_some, refl, sym, ◌∙◌, ap, arith}
 use Rattle.std.proofs.lemmas.Bool.Decides.{nat_tests, Decides-eqb}
 use Rattle.std.proofs.lemmas.List.Sums.{sum_by-cons}
 use Rattle.std.specs.Bool.{then_some, ⊤}
 use Rattle.std.specs.FinMap as finite
 use Rattle.std.specs.List.{cons_option, count_by, filter_map, list_any}
-use Rattle.std.specs.Option.{option_flatten, option_map, option_or}
+use Rattle.std.specs.Option.{option_flatten, option_or}
 use Rattle.std.specs.Str.{bytes_eq}
-use Rattle.gate_queue.specs.Vocabulary.{DeskView, Change, On, Other, Base, Refused, Head, Order, Stage, Land, Notice, Batch, Branch, StageOf}
-use Rattle.gate_queue.specs.History.{Event, did, gave, last_of, base_said, names_change, batches_back, ends_landing, landing_said, landing_with, are_same, has_landed, landing_back, landed_back, is_order, is_stage_of, is_land_of, stages, landings}
-use Rattle.gate_state.specs.Lanes.{is_landing}
+use Rattle.std.proofs.lemmas.Bool.{or_left, or_right}
+use Rattle.gate_queue.specs.Vocabulary.{DeskView, Other, Base, Refused, Head, Order, Stage, Land, Batch, Branch, StageOf}
+use Rattle.gate_queue.specs.History.{Event, did, gave, last_of, names_change, batches_back, landing_said, landing_with, are_same, has_landed, landing_back, landed_back, is_order, is_stage_of, is_land_of, stages, landings}
 use Rattle.gate_queue.specs.Machine.{head_on}
 use Rattle.gate_state.specs.declared.batch.Stage.TheVariants as stage
 use Rattle.gate_queue.proofs.After.{rest_back, rest_after}
@@ -18,12 +18,7 @@ use Rattle.gate_queue.proofs.Keeping.{lands}
 -- LISTS AND TESTS
 pub list_any_or : {X : Type 0} (one other : X → Bool) (xs : List X) → list_any (λ x. one x || other x) xs ≡ (list_any one xs || list_any other xs)
 list_any_or one other [] = refl
-list_any_or one other (x ∷ xs) = ap (λ (b : Bool). (one x || other x) || b) (list_any_or one other xs) ∙ by (one x) (other x) (list_any one xs) (list_any other xs) where
-  by : (a b c d : Bool) → ((a || b) || (c || d)) ≡ ((a || c) || (b || d))
-  by true b c d = refl
-  by false true true d = refl
-  by false true false d = refl
-  by false false c d = refl
+list_any_or one other (x ∷ xs) = grind (arith, list_any_or one other xs)
 
 pub list_any_never : {X : Type 0} (xs : List X) → list_any (λ (x : X). false) xs ≡ false
 list_any_never [] = refl
@@ -34,29 +29,19 @@ list_any_same one other same xs = λ i. list_any (λ x. same x i) xs
 
 -- one more in front, for which the test fails
 pub list_any_skip : (test : ℕ → Bool) (b : Bool) (n : ℕ) (ns : List ℕ) → test n ≡ false → list_any test (cons_option (then_some b n) ns) ≡ list_any test ns
-list_any_skip test true n ns fails = ap (λ (b : Bool). b || list_any test ns) fails
-list_any_skip test false n ns fails = refl
+list_any_skip test b n ns fails = grind arith
 
 -- THE RUNNING BATCH and the commit that it is landing with
 abbrev pub commit_of : StageOf → Option (List ℕ)
-commit_of stage.Waiting = None
-commit_of (stage.Ordered since) = None
-commit_of (stage.Staged since commit reports) = None
 commit_of (stage.Landing commit) = Some commit
+commit_of other = None
 
 abbrev pub landing_of : ℕ → Option Batch → Option (List ℕ)
 landing_of number None = None
 landing_of number (Some batch) = if eqb number batch.number then commit_of batch.stage else None
 
 pub none_lands : (number : ℕ) (running : Option Batch) → lands running ≡ false → landing_of number running ≡ None
-none_lands number None not_so = refl
-none_lands number (Some batch) not_so = at batch.stage not_so (eqb number batch.number) where
-  at : (s : StageOf) → is_landing s ≡ false → (b : Bool) → cond b (commit_of s) None ≡ None
-  at stage.Waiting not_so true = refl
-  at (stage.Ordered since) not_so true = refl
-  at (stage.Staged since commit reports) not_so true = refl
-  at (stage.Landing commit) not_so true = cc not_so
-  at s not_so false = refl
+none_lands number running not_so = grind arith
 
 -- Only the running batch lands, and the history has it so.
 abbrev pub Lands : List Event → Option Batch → Type 0
@@ -68,31 +53,22 @@ Members events None = ⊤
 Members events (Some batch) = (c : ℕ) → list_any (λ number. eqb number batch.number) (batches_back events c) ≡ list_any (eqb c) batch.changes
 
 -- A NUMBER THAT WAS NEVER TO LAND
-one_more : (test : Order → Bool) (event : Event) (events : List Event) → count_by (is_order test) (event ∷ events) ≡ (if is_order test event then 1 else 0) + count_by (is_order test) events
-one_more test event events = sum_by-cons (λ e. if is_order test e then 1 else 0) event events
-
-flat : {X : Type 0} (b : Bool) (rest : Option (Option X)) → option_flatten rest ≡ None → option_flatten (option_or (then_some b None) rest) ≡ None
-flat true rest none = refl
-flat false rest none = none
-
-not_same : (base commit : Option (List ℕ)) → commit ≡ None → are_same base commit ≡ false
-not_same None commit none = refl
-not_same (Some base) None none = refl
-not_same (Some base) (Some commit) none = cc none
+pub counted : (test : Order → Bool) (event : Event) (events : List Event) → count_by (is_order test) (event ∷ events) ≡ (if is_order test event then 1 else 0) + count_by (is_order test) events
+counted test event events = sum_by-cons (λ e. if is_order test e then 1 else 0) event events
 
 pub never_landing : (number : ℕ) (events : List Event) → landings number events ≡ 0 → (landing_with events number ≡ None) × (has_landed events number ≡ false)
 never_landing number [] none = (refl, refl)
-never_landing number (did (On n deed) ∷ events) none = never_landing number events none
 never_landing number (did (Other fact) ∷ events) none =
     let rest = never_landing number events none in
-    (flat (ends_landing number fact) (last_of (landing_said number) events) rest.0, (λ i. not_same (base_said fact) (landing_with events number) rest.0 i || rest.1 i))
-never_landing number (gave (Stage batch branch base heads) ∷ events) none = never_landing number events none
-never_landing number (gave (Notice change why) ∷ events) none = never_landing number events none
+    let lands = rest.0 in
+    let landed = rest.1 in
+    (grind arith, grind arith)
 never_landing number (gave (Land batch base commit) ∷ events) none =
-    let one = one_more (is_land_of number) (gave (Land batch base commit)) events in
+    let one = counted (is_land_of number) (gave (Land batch base commit)) events in
     let other : eqb number batch ≡ false = grind (arith, nat_tests) in
     let rest = never_landing number events (grind (arith, nat_tests)) in
     (ap (λ (b : Bool). option_flatten (option_or (then_some b (Some commit)) (last_of (landing_said number) events))) other ∙ rest.0, rest.1)
+never_landing number (event ∷ events) none = never_landing number events none
 
 -- AN ORDER TO STAGE a number that was never to land leaves what is landing and has landed.
 pub stage_rest : (events : List Event) (number : ℕ) (branch : Branch) (base : List ℕ) (heads : List Head) (c : ℕ) → landings number events ≡ 0
@@ -107,37 +83,28 @@ stage_rest events number branch base heads c none =
 -- and a number that was never staged is none of a change
 pub never_named : (number c : ℕ) (events : List Event) → stages number events ≡ 0 → list_any (λ n. eqb n number) (batches_back events c) ≡ false
 never_named number c [] none = refl
-never_named number c (did act ∷ events) none = never_named number c events none
-never_named number c (gave (Land batch base commit) ∷ events) none = never_named number c events none
-never_named number c (gave (Notice change why) ∷ events) none = never_named number c events none
 never_named number c (gave (Stage batch branch base heads) ∷ events) none =
-    let one = one_more (is_stage_of number) (gave (Stage batch branch base heads)) events in
+    let one = counted (is_stage_of number) (gave (Stage batch branch base heads)) events in
     let other : eqb batch number ≡ false = grind (arith, nat_tests) in
     list_any_skip (λ n. eqb n number) (names_change c heads) batch (batches_back events c) other ∙ never_named number c events (grind (arith, nat_tests))
+never_named number c (event ∷ events) none = never_named number c events none
 
 -- so that it is one exactly of those that are staged
 pub staged_named : (number c : ℕ) (events : List Event) (branch : Branch) (base : List ℕ) (heads : List Head) → stages number events ≡ 0
     → list_any (λ n. eqb n number) (batches_back (gave (Stage number branch base heads) ∷ events) c) ≡ names_change c heads
-staged_named number c events branch base heads none = by (names_change c heads) where
-  by : (b : Bool) → list_any (λ n. eqb n number) (cons_option (then_some b number) (batches_back events c)) ≡ b
-  by true = ap (λ (b : Bool). b || list_any (λ n. eqb n number) (batches_back events c)) ((Decides-eqb number number).1 refl)
-  by false = never_named number c events none
+staged_named number c events branch base heads none =
+    let itself = (Decides-eqb number number).1 refl in
+    let never = never_named number c events none in
+    grind arith
 
 -- the heads of known changes name them all, and no other
 pub named_heads : (desk : DeskView) (c : ℕ) (changes : List ℕ) → ((n : ℕ) → list_any (eqb n) changes ≡ true → is_some (finite.get desk.changes n) ≡ true)
     → names_change c (filter_map (head_on desk) changes) ≡ list_any (eqb c) changes
 named_heads desk c [] known = refl
 named_heads desk c (first ∷ changes) known =
-    by (named_heads desk c changes (λ n there. known n (more (eqb n first) (list_any (eqb n) changes) there))) (finite.get desk.changes first)
-    (known first (ap (λ (b : Bool). b || list_any (eqb first) changes) ((Decides-eqb first first).1 refl))) where
-      more : (b d : Bool) → d ≡ true → (b || d) ≡ true
-      more true d there = refl
-      more false d there = there
-
-      by : names_change c (filter_map (head_on desk) changes) ≡ list_any (eqb c) changes → (had : Option Change) → is_some had ≡ true
-          → names_change c (cons_option (option_map (λ (x : Change). record { change = first; head = x.head }) had) (filter_map (head_on desk) changes)) ≡ list_any (eqb c) (first ∷ changes)
-      by rest None some = cc some
-      by rest (Some x) some = ap (λ (b : Bool). eqb c first || b) rest
+    let rest = named_heads desk c changes (λ n there. known n (or_right (eqb n first) (list_any (eqb n) changes) there)) in
+    let there = known first (or_left _ _ ((Decides-eqb first first).1 refl)) in
+    grind arith
 
 -- AN ORDER TO LAND the running batch, when none is landing
 pub land_rest : (events : List Event) (batch : Batch) (base commit : List ℕ) (c : ℕ) → Lands events None → Members events (Some batch)
@@ -145,8 +112,7 @@ pub land_rest : (events : List Event) (batch : Batch) (base commit : List ℕ) (
 land_rest events batch base commit c none members =
     λ i. record (rest_back events c) { landing = (list_any_same _ (λ n. eqb n batch.number) (λ n. test n (eqb n batch.number)) (batches_back events c) ∙ members c) i } where
       test : (n : ℕ) (b : Bool) → is_some (option_flatten (option_or (then_some b (Some commit)) (last_of (landing_said n) events))) ≡ b
-      test n true = refl
-      test n false = ap is_some (none n)
+      test n b = grind (arith, none n)
 
 -- none is landing
 pub not_landing_back : (events : List Event) (c : ℕ) → Lands events None → landing_back events c ≡ false
@@ -158,8 +124,7 @@ pub landing_members : (events : List Event) (batch : Batch) (commit : List ℕ) 
 landing_members events batch commit c at all members =
     list_any_same _ (λ n. eqb n batch.number) (λ n. ap is_some (all n) ∙ test (eqb n batch.number)) (batches_back events c) ∙ members c where
       test : (b : Bool) → is_some (if b then commit_of batch.stage else None) ≡ b
-      test true = ap (λ (s : StageOf). is_some (commit_of s)) at
-      test false = refl
+      test b = grind (arith, at)
 
 -- A NEW BASE
 -- ends all landing
@@ -180,14 +145,7 @@ base_landed events base batch commit c at all members =
     ∙ list_any_or (λ n. bytes_eq base commit && eqb n batch.number) (has_landed events) (batches_back events c)
     ∙ ap (λ (b : Bool). b || landed_back events c) (named (bytes_eq base commit)) where
       test : (b : Bool) → are_same (Some base) (if b then commit_of batch.stage else None) ≡ (bytes_eq base commit && b)
-      test true = ap (λ (s : StageOf). are_same (Some base) (commit_of s)) at ∙ and_true (bytes_eq base commit) where
-        and_true : (b : Bool) → b ≡ (b && true)
-        and_true true = refl
-        and_true false = refl
-      test false = and_false (bytes_eq base commit) where
-        and_false : (b : Bool) → false ≡ (b && false)
-        and_false true = refl
-        and_false false = refl
+      test b = grind (arith, at)
 
       named : (b : Bool) → list_any (λ n. b && eqb n batch.number) (batches_back events c) ≡ (b && list_any (eqb c) batch.changes)
       named true = members c
@@ -195,7 +153,4 @@ base_landed events base batch commit c at all members =
 
 -- A REFUSAL of the batch that is landing ends all landing, and lands nothing.
 pub refused_ends : (events : List Event) (batch : Batch) → Lands events (Some batch) → Lands (did (Other (Refused batch.number)) ∷ events) None
-refused_ends events batch all number = by (eqb number batch.number) refl where
-  by : (b : Bool) → eqb number batch.number ≡ b → option_flatten (option_or (then_some b None) (last_of (landing_said number) events)) ≡ None
-  by true is = refl
-  by false is = all number ∙ ap (λ (b : Bool). if b then commit_of batch.stage else None) is
+refused_ends events batch all number = grind (arith, all number)

@@ -29,6 +29,7 @@ pub mod Steps
 pub mod Telling
 pub mod Tested
 pub mod Testing
+pub mod Told
 pub mod Unseen
 pub mod Untouched
 pub mod Wording

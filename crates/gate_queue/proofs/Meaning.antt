@@ -1,9 +1,9 @@
--- What an act means: no rule denies it if none denies the act, and it keeps the limits.
-use Rattle.std.proofs.Common.{◌≡◌, ℕ, List, ◌∷◌, Option, Some, None, IfSome, refl, sym, ◌∙◌, ap, subst}
+-- What an act means: no rule denies it if none denies the act, it keeps the limits, and its orders are right by the act.
+use Rattle.std.proofs.Common.{◌≡◌, ℕ, List, ◌∷◌, Option, Some, None, IfSome, refl, sym, ◌∙◌, ap, subst, arith}
 use Rattle.std.specs.FinMap as finite
 use Rattle.std.specs.List.{All}
 use Rattle.std.specs.Option.{option_and_then, option_or}
-use Rattle.gate_queue.specs.Vocabulary.{Command, Ping, Approve, ApproveFor, Withdraw, Priority, Try, TryCancel, DelegateAuthor, DelegateTo, DelegateNone, Retry, Known, Unknown, Look, first_failing, asks, is_known, is_open, last_command, look, Change, Repeat, Rule, UnknownChange, NotOpen, Act, On, Other, Said, Happened, Order, Stage, Land, Notice, State}
+use Rattle.gate_queue.specs.Vocabulary.{Command, Retry, Known, Look, first_failing, asks, is_known, is_open, last_command, look, Change, Repeat, Rule, UnknownChange, NotOpen, Act, On, Said, Order, Land, State}
 use Rattle.gate_rules.specs.Rules.{admits, need_of_retry, is_delegate, repeated_rules}
 use Rattle.gate_rules.specs.declared.change.Repeat.TheVariants as repeat
 use Rattle.gate_rules.specs.declared.rule.Rule.TheVariants.{NotPermitted}
@@ -12,23 +12,12 @@ use Rattle.gate_queue.specs.History.{Event, IsRightOrder}
 use Rattle.gate_queue.specs.Machine.{broken, missing, denial, repeated, meaning, done, unless_denied, after}
 use Rattle.gate_state.specs.State.{IsChange, RepeatKeepsLimits, IsState}
 use Rattle.gate_queue.proofs.Wording.{none_both}
+use Rattle.gate_queue.proofs.Choosing.{by_option}
 
 -- An act means itself, but for a `retry`.
 pub means : (P : Act → Type 0) (s : Look) (act : Act) → P act → ((n : ℕ) (person : List ℕ) → act ≡ On n (Said person (Known Retry)) → P (On n (Said person (Known (repeated (last_command s n)))))) → P (meaning s act)
 means P s (On n (Said person (Known Retry))) itself repeats = repeats n person refl
-means P s (On n (Said person (Known Ping))) itself repeats = itself
-means P s (On n (Said person (Known Approve))) itself repeats = itself
-means P s (On n (Said person (Known (ApproveFor names)))) itself repeats = itself
-means P s (On n (Said person (Known Withdraw))) itself repeats = itself
-means P s (On n (Said person (Known (Priority priority)))) itself repeats = itself
-means P s (On n (Said person (Known Try))) itself repeats = itself
-means P s (On n (Said person (Known TryCancel))) itself repeats = itself
-means P s (On n (Said person (Known DelegateAuthor))) itself repeats = itself
-means P s (On n (Said person (Known (DelegateTo names)))) itself repeats = itself
-means P s (On n (Said person (Known DelegateNone))) itself repeats = itself
-means P s (On n (Said person Unknown)) itself repeats = itself
-means P s (On n (Happened fact)) itself repeats = itself
-means P s (Other fact) itself repeats = itself
+means P s act itself repeats = itself
 
 -- NO RULE DENIES what a `retry` repeats, if none denies the `retry`.
 abbrev retry_row : Look → List ℕ → ℕ → Option Repeat → List (Option Rule)
@@ -40,10 +29,7 @@ retry_row s person n last =
 
 repeated_holds : (s : Look) (person : List ℕ) (n : ℕ) (last : Option Repeat) → last_command s n ≡ last → first_failing (retry_row s person n last) ≡ None
     → broken s (On n (Said person (Known (repeated last)))) ≡ None
-repeated_holds s person n None is holds = subst (λ l. first_failing (retry_row s person n l) ≡ None) (sym is) holds
-repeated_holds s person n (Some repeat.Approve) is holds = holds
-repeated_holds s person n (Some (repeat.ApproveFor names)) is holds = holds
-repeated_holds s person n (Some repeat.Try) is holds = holds
+repeated_holds s person n last is holds = grind arith
 
 meaning_holds : (s : Look) (act : Act) → broken s act ≡ None → broken s (meaning s act) ≡ None
 meaning_holds s act holds =
@@ -59,10 +45,7 @@ meaning_allowed s act holds =
 
 -- What an act means, means itself.
 meaning_repeated : (s : Look) (n : ℕ) (person : List ℕ) (last : Option Repeat) → last_command s n ≡ last → meaning s (On n (Said person (Known (repeated last)))) ≡ On n (Said person (Known (repeated last)))
-meaning_repeated s n person None is = ap (λ (l : Option Repeat). On n (Said person (Known (repeated l)))) is
-meaning_repeated s n person (Some repeat.Approve) is = refl
-meaning_repeated s n person (Some (repeat.ApproveFor names)) is = refl
-meaning_repeated s n person (Some repeat.Try) is = refl
+meaning_repeated s n person last is = grind arith
 
 pub retry_means : (s : State) (n : ℕ) (person : List ℕ) → denial s (On n (Said person (Known Retry))) ≡ None
     → after s (On n (Said person (Known Retry))) ≡ after s (On n (Said person (Known (repeated (last_command (look s.desk) n)))))
@@ -74,16 +57,12 @@ retry_means s n person holds =
 
 -- THE LIMITS: what a change keeps for a `retry` is within them.
 repeated_limits : (n : ℕ) (person : List ℕ) (last : Option Repeat) → RepeatKeepsLimits last → ActKeepsLimits (On n (Said person (Known (repeated last))))
-repeated_limits n person None keeps = tt
-repeated_limits n person (Some repeat.Approve) keeps = tt
 repeated_limits n person (Some (repeat.ApproveFor names)) keeps = keeps
-repeated_limits n person (Some repeat.Try) keeps = tt
+repeated_limits n person last keeps = tt
 
 kept_limits : (s : State) → IsState s → (n : ℕ) → RepeatKeepsLimits (last_command (look s.desk) n)
-kept_limits s is n = by (finite.get s.desk.changes n) (is.desk.changes n) where
-  by : (had : Option Change) → IfSome had (IsChange s.desk.settings s.desk.base) → RepeatKeepsLimits (option_and_then (λ (c : Change). c.last) had)
-  by None was = tt
-  by (Some c) was = was.last
+kept_limits s is n =
+    by_option (λ had. IfSome had (IsChange s.desk.settings s.desk.base) → RepeatKeepsLimits (option_and_then (λ (c : Change). c.last) had)) (λ was. tt) (λ c was. was.last) (finite.get s.desk.changes n) (is.desk.changes n)
 
 pub meaning_limits : (s : State) → IsState s → (act : Act) → ActKeepsLimits act → ActKeepsLimits (meaning (look s.desk) act)
 meaning_limits s is act limits =
@@ -91,9 +70,8 @@ meaning_limits s is act limits =
 
 -- AN ORDER is right by the act if it is by what the act means: no command orders a landing.
 spoken_right : (events : List Event) (n : ℕ) (person : List ℕ) (command : Command) (act : Act) (order : Order) → IsRightOrder events (On n (Said person (Known command))) order → IsRightOrder events act order
-spoken_right events n person command act (Stage batch branch base heads) right = right
 spoken_right events n person command act (Land batch base commit) right = cc right.success
-spoken_right events n person command act (Notice change why) right = tt
+spoken_right events n person command act order right = right
 
 pub meaning_right : (events : List Event) (s : Look) (act : Act) (orders : List Order) → All (IsRightOrder events (meaning s act)) orders → All (IsRightOrder events act) orders
 meaning_right events s act orders =

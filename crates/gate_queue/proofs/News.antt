@@ -1,20 +1,19 @@
 -- News of a batch and a tick leave all batches but those in front, and all changes but those that run.
-use Rattle.std.proofs.Common.{◌≡◌, ◌<◌, ◌≤◌, ℕ, true, false, ◌||◌, List, slice_get, Option, Some, None, refl, sym, ◌∙◌, ap, arith}
+use Rattle.std.proofs.Common.{◌≡◌, ◌<◌, ◌≤◌, ℕ, true, false, ◌||◌, List, slice_get, Option, Some, refl, sym, ◌∙◌, ap, arith}
 use Rattle.std.proofs.lemmas.Bool.{or_parts}
 use Rattle.std.specs.FinMap as finite
 use Rattle.std.specs.Option.{option_map, option_or}
-use Rattle.gate_queue.specs.Vocabulary.{DeskView, without_approval, is_required, with_clock, Other, Tick, StatusState, Success, Failure, Error, Pending, Batch, Branch, Staging, Trying, Report, Lane, Queue, Why, State, Outcome}
+use Rattle.gate_queue.specs.Vocabulary.{DeskView, without_approval, with_clock, Other, Tick, StatusState, Batch, Branch, Staging, Trying, Report, Lane, Queue, Why, State}
 use Rattle.gate_state.specs.Lanes as lanes
 use Rattle.gate_state.specs.Lanes.{staged_at, reported_on, to_land as landing_from}
 use Rattle.gate_state.specs.Queue.{batch_numbered, lane_of, with_lane, staged, reported}
 use Rattle.gate_state.specs.State.{approved_on}
-use Rattle.gate_state.specs.declared.batch.Report.TheVariants as report
 use Rattle.gate_state.specs.declared.reply.Why.TheVariants as why
-use Rattle.gate_queue.specs.Machine.{quiet, with_queue, with_desk, failing, with_landing, to_land, if_passed, goes_on, told_of, told, has_staged, has_passed, released_on, sent_back, has_overdue, timed_out, without_try, done, ending, passing, on_both, told_on, starting, told_as}
+use Rattle.gate_queue.specs.Machine.{with_queue, with_desk, with_landing, to_land, told, released_on, sent_back, timed_out, without_try, done, ending, on_both, starting, told_as}
 use Rattle.gate_queue.specs.MayChange.{Parts, Untouched, in_front, is_run, is_in_front}
-use Rattle.gate_queue.proofs.Choosing.{either_way}
 use Rattle.gate_queue.proofs.Desks.{DeskLeft, same_desk, later_desk, all_desk, run_only, lone_desk, released_desk}
 use Rattle.gate_queue.proofs.Lanes.{find-filter, Same, started_same, IsNews, no_news, later_news, failed_news, requeued_news, dropped_news, altered_news}
+use Rattle.gate_queue.proofs.Told.{EachStep, told_so, timed_out_both_so}
 
 -- The batch of a number is found by those that have it.
 pub same_found : (n : ℕ) (queue after : Queue) → Same n queue.staging after.staging → Same n queue.trying after.trying → batch_numbered n after ≡ batch_numbered n queue
@@ -77,8 +76,7 @@ news_untouched s t news =
 -- ONE BRANCH
 module _ (s : State) where
   runs_not : (branch : Branch) (change : ℕ) → (in_front s).change change ≡ false → is_run change (lane_of branch s.queue) ≡ false
-  runs_not Staging change other = (or_parts (is_run change s.queue.staging) (is_run change s.queue.trying) other).0
-  runs_not Trying change other = (or_parts (is_run change s.queue.staging) (is_run change s.queue.trying) other).1
+  runs_not branch change other = grind arith
 
   pub on_branch : (branch : Branch) (desk : DeskView) (lane : Lane) (used : ℕ) → DeskLeft (in_front s).change s.desk desk → IsNews s.queue.next (lane_of branch s.queue) lane
       → IsNewsOf s (record { desk = desk; queue = with_lane branch lane used s.queue })
@@ -115,49 +113,21 @@ module _ (s : State) where
       on_branch Staging _ _ _ (released_desk (in_front s).change s.queue.staging (runs_not Staging) base s.desk)
       (requeued_news (approved_on (released_on base s.desk s.queue.staging.running)) s.queue.next s.queue.staging)
 
--- A STATUS
-both_news : (does : Branch → State → Outcome) → ((branch : Branch) (s : State) → IsNewsOf s (does branch s).state) → (s : State) → IsNewsOf s (on_both does s).state
-both_news does each s = more s (does Staging s).state _ (each Staging s) (each Trying (does Staging s).state)
-
-passing_news : (branch : Branch) (batch : Batch) (s : State) → (lane_of branch s.queue).running ≡ Some batch → IsNewsOf s (passing branch batch s).state
-passing_news Staging batch s runs = land_news s batch runs
-passing_news Trying batch s runs = ending_news s Trying why.TryPassed
-
-told_of_news : (branch : Branch) (name : List ℕ) (state : StatusState) (s : State) → IsNewsOf s (told_of branch name state s).state
-told_of_news branch name state s = by state where
-  goes_on_news : (report : Report) → IsNewsOf s (goes_on branch name report s).state
-  goes_on_news report = more s next _ (reported_news s branch name report) (on (lane_of branch next.queue).running refl) where
-    next : State
-    next = with_queue s (reported branch name report s.queue)
-
-    on : (running : Option Batch) → (lane_of branch next.queue).running ≡ running → IsNewsOf next (if_passed branch next running).state
-    on None runs = none next
-    on (Some batch) runs =
-        either_way (λ (o : Outcome). IsNewsOf next o.state) (has_passed next.desk.settings batch.stage) (passing branch batch next) (quiet next)
-        (λ passes. passing_news branch batch next runs) (λ fails. none next)
-
-  by : (said : StatusState) → IsNewsOf s (told_of branch name said s).state
-  by Success = goes_on_news report.Success
-  by Pending = goes_on_news report.Pending
-  by Failure = ending_news s branch (told_as branch (why.Failed name))
-  by Error = ending_news s branch (told_as branch (why.Failed name))
+-- A STATUS, and the end of what takes too long
+reporting : EachStep (λ few s is. IsNewsOf s is.state)
+reporting = record {
+  nothing = λ few s. none s;
+  both = λ s first next one other. more s first.state (next first.state).state one other;
+  report = λ branch name report s required next rest. more s (with_queue s (reported branch name report s.queue)) next.state (reported_news s branch name report) rest;
+  fail = λ branch cause s ends stays. ending_news s branch (told_as branch cause);
+  pass = λ s stays. ending_news s Trying why.TryPassed;
+  land = λ s batch runs passes. land_news s batch runs;
+}
 
 pub told_news : (commit name : List ℕ) (state : StatusState) (s : State) → IsNewsOf s (told commit name state s).state
-told_news commit name state s =
-    either_way (λ (o : Outcome). IsNewsOf s o.state) (is_required s.desk.settings name) (on_both (told_on commit name state) s) (quiet s)
-    (λ required. both_news (told_on commit name state) each s) (λ other. none s) where
-      each : (branch : Branch) (t : State) → IsNewsOf t (told_on commit name state branch t).state
-      each branch t =
-          either_way (λ (o : Outcome). IsNewsOf t o.state) (has_staged commit (lane_of branch t.queue)) (told_of branch name state t) (quiet t)
-          (λ there. told_of_news branch name state t) (λ elsewhere. none t)
+told_news = told_so reporting
 
--- A TICK: what takes too long ends, and then the first batch that waits is started on each branch
-ended_on_time_news : (now : ℕ) (s : State) → IsNewsOf s (on_both (timed_out now) s).state
-ended_on_time_news now = both_news (timed_out now)
-    (λ branch t.
-    either_way (λ (o : Outcome). IsNewsOf t o.state) (has_overdue now t.desk.settings (lane_of branch t.queue)) (failing branch why.TimedOut t) (quiet t)
-    (λ overdue. ending_news t branch (told_as branch why.TimedOut)) (λ timely. none t))
-
+-- A TICK: after that end, the first batch that waits is started on each branch
 pub started_untouched : (now : ℕ) (s t : State) → IsNewsOf s t → Untouched (in_front s) s (on_both (starting now) t).state
 started_untouched now s t news =
     untouched_by (in_front s) s (on_both (starting now) t).state news.desk
@@ -171,5 +141,5 @@ started_untouched now s t news =
 pub tick_untouched : (now : ℕ) (s : State) → Untouched (in_front s) s (done s (Other (Tick now))).state
 tick_untouched now s =
     let set = with_desk s (with_clock s.desk now) in
-    let same = started_untouched now set (on_both (timed_out now) set).state (ended_on_time_news now set) in
+    let same = started_untouched now set (on_both (timed_out now) set).state (timed_out_both_so reporting now set) in
     record { people = same.people; changes = same.changes; batches = same.batches; settings = same.settings; next = same.next }

@@ -1,6 +1,6 @@
 -- What a state keeps, every act keeps.
-use Rattle.std.proofs.Common.{◌≡◌, ◌≤◌, ℕ, pos, eqb, leb, Bool, true, false, not, ◌&&◌, ◌||◌, cond, if◌then◌else◌, List, [], ◌∷◌, length, Option, Some, None, Result, Ok, Err, is_some, IfSome, refl, sym, ◌∙◌, ap, subst, arith}
-use Rattle.std.proofs.lemmas.Bool.{leb-true}
+use Rattle.std.proofs.Common.{◌≡◌, ◌≤◌, ℕ, pos, eqb, leb, Bool, true, false, not, ◌||◌, cond, if◌then◌else◌, List, [], ◌∷◌, length, Option, Some, None, Result, Ok, Err, is_some, IfSome, refl, sym, ◌∙◌, ap, subst, arith}
+use Rattle.std.proofs.lemmas.Bool.{leb-true, or_left}
 use Rattle.std.proofs.lemmas.Bool.Decides.{Decides-eqb}
 use Rattle.std.proofs.lemmas.List.Elements.{All-nil}
 use Rattle.std.proofs.lemmas.List.Sums.{sum_by-cons}
@@ -10,21 +10,19 @@ use Rattle.std.specs.FinMap.{get-empty}
 use Rattle.std.specs.List.{list_any}
 use Rattle.std.specs.Option.{option_map, option_map_or}
 use Rattle.std.specs.Ordering.{nat_cmp}
-use Rattle.std.specs.Str.{bytes_eq}
 use Rattle.gate_text.specs.Finite.{get-mapped}
-use Rattle.gate_queue.specs.Vocabulary.{SettingsView, settings_of, SettingsFault, Look, is_blocked, has_too_few_reviews, DeskView, with_base, with_clock, without_approval, look, is_required, Change, Rule, ClockBack, Act, On, Other, Opened, Pushed, Closed, Labeled, Unlabeled, Review, Deed, Said, Happened, Role, Settings, Base, Staged as StagedFact, Conflict, Status, Refused, Tick, StatusState, Success, Failure, Error, Pending, Why, Batch, Branch, Staging, Trying, Report, StageOf as Stage, Lane, Queue, State, Outcome}
+use Rattle.gate_queue.specs.Vocabulary.{SettingsView, settings_of, SettingsFault, Look, is_blocked, has_too_few_reviews, DeskView, with_base, with_clock, without_approval, look, is_required, Change, Rule, ClockBack, Act, On, Other, Opened, Pushed, Closed, Labeled, Unlabeled, Review, Deed, Said, Happened, Role, Settings, Base, Staged as StagedFact, Conflict, Status, Refused, Tick, Why, Batch, Branch, Staging, Trying, Report, StageOf as Stage, Lane, Queue, State, Outcome}
 use Rattle.gate_state.specs.State.{IsMoment, approved_on, landing_on, priority_on, trying_on, IsChange, IsDesk, Marks, IsRunning, IsBranch, IsQueue, IsState, marks_on}
 use Rattle.gate_state.specs.Counts.{occurs, held, held_by, in_landing, of_any_priority}
 use Rattle.gate_state.specs.Lanes as lanes
 use Rattle.gate_state.specs.Lanes.{empty_lane, is_landing}
 use Rattle.gate_state.specs.Acts.{ActKeepsLimits, DeedKeepsLimits}
 use Rattle.gate_state.specs.declared.reply.Why.TheVariants as why
-use Rattle.gate_queue.specs.Machine.{empty_state, heads_told, broken, denial, meaning, missing, has_ordered, is_ordered, has_staged, is_staged_with, effect, all_altered, without_try, closed, with_label, without_label, with_review, quiet, with_desk, with_queue, about, with_settled, settled, loses_approval, are_present, with_new_settings, under, accepted, lone, lone_altered, failing, has_passed, with_landing, to_land, if_passed, goes_on, told_of, told, landed, released, released_at, released_on, sent_back, is_landing_with, lands_with, tries_left, rebased, is_overdue, has_overdue, timed_out, starting, done, unless_denied, after, ending, passing, on_both, told_on, told_as, spent, lone_on, ordered_on}
+use Rattle.gate_queue.specs.Machine.{empty_state, heads_told, broken, denial, meaning, missing, has_ordered, effect, all_altered, without_try, closed, with_label, without_label, with_review, quiet, with_desk, with_queue, about, with_settled, settled, are_present, with_new_settings, under, accepted, lone_altered, has_passed, with_landing, to_land, released, released_at, released_on, sent_back, is_landing_with, lands_with, tries_left, rebased, timed_out, starting, done, unless_denied, after, ending, on_both, told_as, given_up, lone_on, ordered_on}
 use Rattle.gate_state.specs.Queue as specs
 use Rattle.gate_state.specs.Service.{IsInOrder, QueueIsInOrder, IsAlone, AreAlone}
-use Rattle.gate_state.specs.declared.batch.Report.TheVariants as report
-use Rattle.gate_state.specs.declared.batch.Stage.TheVariants.{Waiting, Ordered, Staged, Landing}
-use Rattle.gate_queue.proofs.Choosing.{either_way}
+use Rattle.gate_state.specs.declared.batch.Stage.TheVariants.{Staged, Landing}
+use Rattle.gate_queue.proofs.Choosing.{either_way, by_option}
 use Rattle.gate_queue.proofs.Changes.{all_look, lone_rest, lone_same, lone_ends}
 use Rattle.gate_queue.proofs.Fitness.{passed}
 use Rattle.gate_queue.proofs.Growing.{queue_grows}
@@ -38,6 +36,7 @@ use Rattle.gate_queue.proofs.Wording.{none_both}
 use Rattle.gate_queue.proofs.Held.{Holds, still_branch, heads_told_holds}
 use Rattle.gate_state.specs.Room.{HasRoom}
 use Rattle.gate_state.specs.Queue.{lane_of}
+use Rattle.gate_queue.proofs.Told.{EachStep, told_so, timed_out_both_so}
 
 -- A DEED ON A CHANGE
 only_at : (desk : DeskView) (n : ℕ) (deed : Deed) → broken (look desk) (On n deed) ≡ None → OnlyAt n desk (effect desk n deed)
@@ -86,187 +85,108 @@ under_holds s settings is = record {
   at : (change : ℕ) → finite.get (with_settled s.desk settings).changes change ≡ option_map (settled settings) (finite.get s.desk.changes change)
   at change = get-mapped nat_cmp (settled settings) nat_cmp_total s.desk.changes change
 
-  priced : (had : Option Change) → option_map_or (λ (c : Change). c.priority) (option_map (settled settings) had) (pos 0) ≡ option_map_or (λ (c : Change). c.priority) had (pos 0)
-  priced None = refl
-  priced (Some change) = on (loses_approval settings change) where
-    on : (b : Bool) → (cond b (without_approval change) change).priority ≡ change.priority
-    on true = refl
-    on false = refl
-
   priced_as : (change : ℕ) → priority_on new change ≡ priority_on s.desk change
-  priced_as change = ap (λ (c : Option Change). option_map_or (λ (x : Change). x.priority) c (pos 0)) (at change) ∙ priced (finite.get s.desk.changes change)
-
-  marked : (had : Option Change) → option_map_or (λ (c : Change). c.landing) (option_map (settled settings) had) false ≡ option_map_or (λ (c : Change). c.landing) had false
-  marked None = refl
-  marked (Some change) = on (loses_approval settings change) where
-    on : (b : Bool) → (cond b (without_approval change) change).landing ≡ change.landing
-    on true = refl
-    on false = refl
+  priced_as change = let there = at change in grind arith
 
   lands_as : (change : ℕ) → landing_on new change ≡ landing_on s.desk change
-  lands_as change = ap (λ (c : Option Change). option_map_or (λ (x : Change). x.landing) c false) (at change) ∙ marked (finite.get s.desk.changes change)
-
-  tried : (had : Option Change) → option_map_or (λ (c : Change). c.trying) (option_map (settled settings) had) false ≡ option_map_or (λ (c : Change). c.trying) had false
-  tried None = refl
-  tried (Some change) = on (loses_approval settings change) where
-    on : (b : Bool) → (cond b (without_approval change) change).trying ≡ change.trying
-    on true = refl
-    on false = refl
+  lands_as change = let there = at change in grind arith
 
   tried_as : (change : ℕ) → trying_on new change ≡ trying_on s.desk change
-  tried_as change = ap (λ (c : Option Change). option_map_or (λ (x : Change). x.trying) c false) (at change) ∙ tried (finite.get s.desk.changes change)
-
-  settled_from : (had : Option Change) → option_map_or (λ (c : Change). is_some c.approved) (option_map (settled settings) had) false ≡ true
-      → option_map_or (λ (c : Change). is_some c.approved) (option_map (settled settings) had) false ≡ option_map_or (λ (c : Change). is_some c.approved) had false
-  settled_from None some = cc some
-  settled_from (Some change) some = on (loses_approval settings change) some where
-    on : (b : Bool) → is_some (cond b (without_approval change) change).approved ≡ true → is_some (cond b (without_approval change) change).approved ≡ is_some change.approved
-    on true some = cc some
-    on false some = refl
+  tried_as change = let there = at change in grind arith
 
   kept : (change : ℕ) → approved_on new change ≡ true → (approved_on new change ≡ approved_on s.desk change) × (priority_on new change ≡ priority_on s.desk change)
-  kept change some =
-      let approved = λ (c : Option Change). option_map_or (λ (x : Change). is_some x.approved) c false in
-      (ap approved (at change) ∙ settled_from (finite.get s.desk.changes change) (ap approved (sym (at change)) ∙ some), priced_as change)
+  kept change some = let there = at change in (grind arith, priced_as change)
 
 accepted_holds : (s : State) (read : Result SettingsView SettingsFault) → Holds s → Holds (accepted s read).state
 accepted_holds s (Err fault) is = is
-accepted_holds s (Ok settings) is = by (are_present s.desk settings) where
-  by : (b : Bool) → Holds (cond b (quiet s) (under settings s)).state
-  by true = is
-  by false = under_holds s settings is
+accepted_holds s (Ok settings) is = either_way (λ (o : Outcome). Holds o.state) (are_present s.desk settings) (quiet s) (under settings s) (λ present. is) (λ new. under_holds s settings is)
 
 -- No try is landing, so that one that fails is dropped.
 pub try_not_landing : (lane : Lane) → AreAlone lane → lands lane.running ≡ false
-try_not_landing lane alone = by lane.running alone.running where
-  by : (running : Option Batch) → IfSome running (λ batch. IsAlone batch × (is_landing batch.stage ≡ false)) → lands running ≡ false
-  by None is = refl
-  by (Some batch) is = is.1
+try_not_landing lane alone =
+    by_option (λ running. IfSome running (λ batch. IsAlone batch × (is_landing batch.stage ≡ false)) → lands running ≡ false) (λ is. refl) (λ batch is. is.1) lane.running alone.running
 
--- A BATCH ENDS
+-- A BATCH ENDS: the desk then
+module _ (branch : Branch) (s : State) where
+  abbrev ended_desk : DeskView
+  ended_desk = lone_altered (given_up branch) s.desk (lone_on branch s)
+
+  ended_rest : (ended_desk.settings ≡ s.desk.settings) × (ended_desk.clock ≡ s.desk.clock)
+  ended_rest = lone_rest (given_up branch) s.desk (lone_on branch s)
+
+  -- what is read of a change, if what it loses isn't
+  still_seen : {X : Type 0} (seen : Change → X) (none : X) → ((change : Change) → seen (given_up branch change) ≡ seen change) → (c : ℕ)
+      → option_map_or seen (finite.get ended_desk.changes c) none ≡ option_map_or seen (finite.get s.desk.changes c) none
+  still_seen = lone_same (given_up branch) s.desk (lone_on branch s)
+
 pub ending_holds : (branch : Branch) (s : State) (why : Why) → Holds s → lands (lane_of branch s.queue).running ≡ false → Holds (ending branch why s).state
 ending_holds Staging s why is not_so = record {
-  desk = lone_keeps without_approval s.desk one (λ change was. ended_keeps s.desk.settings s.desk.base change was) is.desk;
+  desk = lone_keeps without_approval s.desk (lone_on Staging s) (λ change was. ended_keeps s.desk.settings s.desk.base change was) is.desk;
   queue = record {
     order = (queue_law s.queue is.queue.order).fail Staging;
-    staging = on_time Staging s.desk new (lanes.failed s.queue.next s.queue.staging) rest.0 rest.1
-        (failed_keeps Staging s.desk.clock s.desk.settings (marks_on Staging s.desk) (marks_on Staging new) s.queue.next s.queue.staging is.queue.staging not_so
-        (λ c. lone_ends without_approval s.desk one (λ (x : Change). is_some x.approved) (λ change. refl) c)
-        (λ c. (lone_same without_approval s.desk one (λ (x : Change). x.priority) (pos 0) (λ change. refl) c, lone_same without_approval s.desk one (λ (x : Change). x.landing) false (λ change. refl) c)));
-    trying = still_branch Trying s.desk new s.queue.trying
-        (record { settings = rest.0; clock = rest.1; wanted = lone_same without_approval s.desk one (λ (x : Change). x.trying) false (λ change. refl); landing = λ c. refl; priority = λ c. refl })
+    staging = on_time Staging s.desk (ended_desk Staging s) (lanes.failed s.queue.next s.queue.staging) (ended_rest Staging s).0 (ended_rest Staging s).1
+        (failed_keeps Staging s.desk.clock s.desk.settings (marks_on Staging s.desk) (marks_on Staging (ended_desk Staging s)) s.queue.next s.queue.staging is.queue.staging not_so
+        (λ c. lone_ends without_approval s.desk (lone_on Staging s) (λ (x : Change). is_some x.approved) (λ change. refl) c)
+        (λ c. (still_seen Staging s (λ (x : Change). x.priority) (pos 0) (λ change. refl) c, still_seen Staging s (λ (x : Change). x.landing) false (λ change. refl) c)));
+    trying = still_branch Trying s.desk (ended_desk Staging s) s.queue.trying
+        (record { settings = (ended_rest Staging s).0; clock = (ended_rest Staging s).1; wanted = still_seen Staging s (λ (x : Change). x.trying) false (λ change. refl); landing = λ c. refl; priority = λ c. refl })
         is.queue.trying;
     alone = is.queue.alone;
   };
-} where
-  one : Option ℕ
-  one = lone s.queue.staging.running
-
-  new : DeskView
-  new = lone_altered without_approval s.desk one
-
-  rest : (new.settings ≡ s.desk.settings) × (new.clock ≡ s.desk.clock)
-  rest = lone_rest without_approval s.desk one
+}
 ending_holds Trying s why is not_so = record {
-  desk = lone_keeps without_try s.desk one (λ change was. untried_keeps s.desk.settings s.desk.base change was) is.desk;
+  desk = lone_keeps without_try s.desk (lone_on Trying s) (λ change was. untried_keeps s.desk.settings s.desk.base change was) is.desk;
   queue = record {
     order = (queue_law s.queue is.queue.order).drop Trying;
-    staging = still_branch Staging s.desk new s.queue.staging
+    staging = still_branch Staging s.desk (ended_desk Trying s) s.queue.staging
         (record {
-          settings = rest.0;
-          clock = rest.1;
-          wanted = lone_same without_try s.desk one (λ (x : Change). is_some x.approved) false (λ change. refl);
-          landing = lone_same without_try s.desk one (λ (x : Change). x.landing) false (λ change. refl);
-          priority = lone_same without_try s.desk one (λ (x : Change). x.priority) (pos 0) (λ change. refl);
+          settings = (ended_rest Trying s).0;
+          clock = (ended_rest Trying s).1;
+          wanted = still_seen Trying s (λ (x : Change). is_some x.approved) false (λ change. refl);
+          landing = still_seen Trying s (λ (x : Change). x.landing) false (λ change. refl);
+          priority = still_seen Trying s (λ (x : Change). x.priority) (pos 0) (λ change. refl);
         })
         is.queue.staging;
-    trying = on_time Trying s.desk new (lanes.dropped s.queue.trying) rest.0 rest.1
-        (subst (IsBranch Trying s.desk.clock s.desk.settings (marks_on Trying new)) (singles_law s.queue.next s.queue.trying is.queue.alone).fail.0
-        (failed_keeps Trying s.desk.clock s.desk.settings (marks_on Trying s.desk) (marks_on Trying new) s.queue.next s.queue.trying is.queue.trying not_so
-        (λ c. lone_ends without_try s.desk one (λ (x : Change). x.trying) (λ change. refl) c) (λ c. (refl, refl))));
+    trying = on_time Trying s.desk (ended_desk Trying s) (lanes.dropped s.queue.trying) (ended_rest Trying s).0 (ended_rest Trying s).1
+        (subst (IsBranch Trying s.desk.clock s.desk.settings (marks_on Trying (ended_desk Trying s))) (singles_law s.queue.next s.queue.trying is.queue.alone).fail.0
+        (failed_keeps Trying s.desk.clock s.desk.settings (marks_on Trying s.desk) (marks_on Trying (ended_desk Trying s)) s.queue.next s.queue.trying is.queue.trying not_so
+        (λ c. lone_ends without_try s.desk (lone_on Trying s) (λ (x : Change). x.trying) (λ change. refl) c) (λ c. (refl, refl))));
     alone = (singles_law s.queue.next s.queue.trying is.queue.alone).drop;
   };
-} where
-  one : Option ℕ
-  one = lone s.queue.trying.running
-
-  new : DeskView
-  new = lone_altered without_try s.desk one
-
-  rest : (new.settings ≡ s.desk.settings) × (new.clock ≡ s.desk.clock)
-  rest = lone_rest without_try s.desk one
+}
 
 -- THE RULES ON BATCHES say that the running batch isn't landing
 pub ordered_so : (lane : Lane) (number : ℕ) → has_ordered number lane ≡ true → lands lane.running ≡ false
-ordered_so lane number so = by lane.running so where
-  at : (stage : Stage) (b : Bool) → (b && is_ordered stage) ≡ true → is_landing stage ≡ false
-  at Waiting true is = cc is
-  at (Ordered since) true is = refl
-  at (Staged since commit reports) true is = refl
-  at (Landing commit) true is = cc is
-  at stage false is = cc is
-
-  by : (running : Option Batch) → option_map_or (λ (batch : Batch). eqb number batch.number && is_ordered batch.stage) running false ≡ true → lands running ≡ false
-  by None is = refl
-  by (Some batch) is = at batch.stage (eqb number batch.number) is
-
-pub staged_so : (lane : Lane) (commit : List ℕ) → has_staged commit lane ≡ true → lands lane.running ≡ false
-staged_so lane commit so = by lane.running so where
-  at : (stage : Stage) → is_staged_with commit stage ≡ true → is_landing stage ≡ false
-  at Waiting is = refl
-  at (Ordered since) is = refl
-  at (Staged since other reports) is = refl
-  at (Landing other) is = cc is
-
-  by : (running : Option Batch) → option_map_or (λ (batch : Batch). is_staged_with commit batch.stage) running false ≡ true → lands running ≡ false
-  by None is = refl
-  by (Some batch) is = at batch.stage is
-
-pub overdue_so : (now : ℕ) (settings : Option SettingsView) (lane : Lane) → has_overdue now settings lane ≡ true → lands lane.running ≡ false
-overdue_so now settings lane so = by lane.running so where
-  at : (stage : Stage) → is_overdue settings now stage ≡ true → is_landing stage ≡ false
-  at Waiting is = refl
-  at (Ordered since) is = refl
-  at (Staged since other reports) is = refl
-  at (Landing other) is = cc is
-
-  by : (running : Option Batch) → option_map_or (λ (batch : Batch). is_overdue settings now batch.stage) running false ≡ true → lands running ≡ false
-  by None is = refl
-  by (Some batch) is = at batch.stage is
+ordered_so lane number so = grind arith
 
 -- A BATCH IS TO LAND, or goes back
 -- a change that is in a batch is approved or landing
 pub queued_held : (s : State) → Holds s → (c : ℕ) → 1 ≤ held of_any_priority c s.queue.staging → (approved_on s.desk c || landing_on s.desk c) ≡ true
-queued_held s is c some = by (approved_on s.desk c || landing_on s.desk c) refl where
-  by : (b : Bool) → (approved_on s.desk c || landing_on s.desk c) ≡ b → (approved_on s.desk c || landing_on s.desk c) ≡ true
-  by true so = so
-  by false so = absurd (omega (arith, some, is.queue.staging.places c, ap {B = ℕ} (λ (b : Bool). if b then 1 else 0) so))
+queued_held s is c some = let places = is.queue.staging.places c in grind arith
 
 -- and one that is in a try is tried
 pub tried_held : (s : State) → Holds s → (c : ℕ) → 1 ≤ held of_any_priority c s.queue.trying → trying_on s.desk c ≡ true
-tried_held s is c some = by (trying_on s.desk c) refl where
-  by : (b : Bool) → trying_on s.desk c ≡ b → trying_on s.desk c ≡ true
-  by true so = so
-  by false so = absurd (omega (arith, some, is.queue.trying.places c, ap {B = ℕ} (λ (b : Bool). if b || false then 1 else 0) so))
+tried_held s is c some = let places = is.queue.trying.places c in grind arith
+
+-- A change of the desk of which a test holds is one that the desk keeps.
+there_so : (s : State) → Holds s → (test : Change → Bool) (c : ℕ) → option_map_or test (finite.get s.desk.changes c) false ≡ true
+    → (change : Change) × IsChange s.desk.settings s.desk.base change × (test change ≡ true)
+there_so s is test c so = by (finite.get s.desk.changes c) (is.desk.changes c) so where
+  by : (had : Option Change) → IfSome had (IsChange s.desk.settings s.desk.base) → option_map_or test had false ≡ true → (change : Change) × IsChange s.desk.settings s.desk.base change × (test change ≡ true)
+  by None was so = cc so
+  by (Some change) was so = (change, was, so)
 
 pub tried_ready : (s : State) → Holds s → (c : ℕ) → trying_on s.desk c ≡ true → (is_some s.desk.settings ≡ true) × (is_some s.desk.base ≡ true)
-tried_ready s is c so = by (finite.get s.desk.changes c) refl where
-  by : (had : Option Change) → finite.get s.desk.changes c ≡ had → (is_some s.desk.settings ≡ true) × (is_some s.desk.base ≡ true)
-  by None here = cc (sym (ap (λ (o : Option Change). option_map_or (λ (x : Change). x.trying) o false) here) ∙ so)
-  by (Some change) here =
-      let ready = (subst (λ (o : Option Change). IfSome o (IsChange s.desk.settings s.desk.base)) here (is.desk.changes c)).tried (sym (ap (λ (o : Option Change). option_map_or (λ (x : Change). x.trying) o false) here) ∙ so) in
-      (ready.1, ready.2)
+tried_ready s is c so = let (change, was, tried) = there_so s is (λ (x : Change). x.trying) c so in let ready = was.tried tried in (ready.1, ready.2)
 
 -- so that there are settings and a base, if a batch has changes
 pub ready : (s : State) → Holds s → (changes : List ℕ) → not (eqb (length changes) 0) ≡ true
     → ((c : ℕ) → list_any (eqb c) changes ≡ true → (approved_on s.desk c || landing_on s.desk c) ≡ true) → (is_some s.desk.settings ≡ true) × (is_some s.desk.base ≡ true)
 ready s is [] some all = cc some
-ready s is (first ∷ changes) some all = at (all first (ap (λ (b : Bool). b || list_any (eqb first) changes) ((Decides-eqb first first).1 refl))) (finite.get s.desk.changes first) refl where
-  at : (approved_on s.desk first || landing_on s.desk first) ≡ true → (had : Option Change) → finite.get s.desk.changes first ≡ had → (is_some s.desk.settings ≡ true) × (is_some s.desk.base ≡ true)
-  at so None here = cc (sym (ap (λ (o : Option Change). option_map_or (λ (x : Change). is_some x.approved) o false || option_map_or (λ (x : Change). x.landing) o false) here) ∙ so)
-  at so (Some change) here =
-      (subst (λ (o : Option Change). IfSome o (IsChange s.desk.settings s.desk.base)) here (is.desk.changes first)).ready
-      (sym (ap (λ (o : Option Change). option_map_or (λ (x : Change). is_some x.approved) o false || option_map_or (λ (x : Change). x.landing) o false) here) ∙ so)
+ready s is (first ∷ changes) some all =
+    let so = all first (or_left _ _ ((Decides-eqb first first).1 refl)) in
+    let (change, was, queued) = there_so s is (λ (x : Change). is_some x.approved || x.landing) first (grind (arith, so)) in
+    was.ready queued
 
 module _ (s : State) (is : Holds s) (batch : Batch) (runs : s.queue.staging.running ≡ Some batch) where
   pub queued_there : (c : ℕ) → list_any (eqb c) batch.changes ≡ true → (approved_on s.desk c || landing_on s.desk c) ≡ true
@@ -305,44 +225,23 @@ module _ (s : State) (is : Holds s) (batch : Batch) (runs : s.queue.staging.runn
       here c = ap (λ (l : Look). l.change c) same_look
 
       kept : (c : ℕ) → (approved_on marked c ≡ approved_on s.desk c) × (priority_on marked c ≡ priority_on s.desk c) × (trying_on marked c ≡ trying_on s.desk c)
-      kept c = rw (here c) (by (list_any (eqb c) batch.changes) (finite.get s.desk.changes c)) where
-        by : (b : Bool) (had : Option Change)
-            → (option_map_or (λ (x : Change). is_some x.approved) (cond b (option_map (with_landing true) had) had) false ≡ option_map_or (λ (x : Change). is_some x.approved) had false)
-            × (option_map_or (λ (x : Change). x.priority) (cond b (option_map (with_landing true) had) had) (pos 0) ≡ option_map_or (λ (x : Change). x.priority) had (pos 0))
-            × (option_map_or (λ (x : Change). x.trying) (cond b (option_map (with_landing true) had) had) false ≡ option_map_or (λ (x : Change). x.trying) had false)
-        by true None = (refl, refl, refl)
-        by true (Some change) = (refl, refl, refl)
-        by false had = (refl, refl, refl)
+      kept c = let at = here c in (grind arith, grind arith, grind arith)
 
       landing_now : (c : ℕ) → landing_on marked c ≡ (list_any (eqb c) batch.changes || landing_on s.desk c)
-      landing_now c = ap (λ (o : Option Change). option_map_or (λ (x : Change). x.landing) o false) (here c) ∙ by (list_any (eqb c) batch.changes) (finite.get s.desk.changes c) refl (queued_there c) where
-        by : (b : Bool) (had : Option Change) → finite.get s.desk.changes c ≡ had → (b ≡ true → (approved_on s.desk c || landing_on s.desk c) ≡ true)
-            → option_map_or (λ (x : Change). x.landing) (cond b (option_map (with_landing true) had) had) false ≡ (b || option_map_or (λ (x : Change). x.landing) had false)
-        by true None at queued = cc (sym (ap (λ (o : Option Change). option_map_or (λ (x : Change). is_some x.approved) o false || option_map_or (λ (x : Change). x.landing) o false) at) ∙ queued refl)
-        by true (Some change) at queued = refl
-        by false had at queued = refl
+      landing_now c = let at = here c in let queued = queued_there c in grind arith
 
-passed_holds : (branch : Branch) (s : State) (batch : Batch) → (lane_of branch s.queue).running ≡ Some batch → has_passed s.desk.settings batch.stage ≡ true → Holds s
-    → Holds (passing branch batch s).state
-passed_holds Trying s batch runs passes is = ending_holds Trying s why.TryPassed is (try_not_landing s.queue.trying is.queue.alone)
-passed_holds Staging s batch runs passes is = by batch.stage refl passes where
+land_holds : (s : State) (batch : Batch) → s.queue.staging.running ≡ Some batch → has_passed s.desk.settings batch.stage ≡ true → Holds s → Holds (to_land batch s).state
+land_holds s batch runs passes is = by batch.stage refl passes where
   by : (at : Stage) → batch.stage ≡ at → has_passed s.desk.settings at ≡ true → Holds (to_land batch s).state
-  by Waiting stage passes = cc passes
-  by (Ordered since) stage passes = cc passes
-  by (Landing commit) stage passes = cc passes
   by (Staged since commit reports) stage passes = to_land_holds s is batch runs since commit reports stage
-
-if_passed_holds : (branch : Branch) (s : State) (running : Option Batch) → (lane_of branch s.queue).running ≡ running → Holds s → Holds (if_passed branch s running).state
-if_passed_holds branch s None runs is = is
-if_passed_holds branch s (Some batch) runs is =
-    either_way (λ (o : Outcome). Holds o.state) (has_passed s.desk.settings batch.stage) (passing branch batch s) (quiet s) (λ passes. passed_holds branch s batch runs passes is) (λ fails. is)
+  by other stage passes = cc passes
 
 -- A STATUS of a commit that is tested
--- a lane that is another one, and keeps what the state keeps of it
 pub its_branch : (branch : Branch) (s : State) → Holds s → IsBranch branch s.desk.clock s.desk.settings (marks_on branch s.desk) (lane_of branch s.queue)
 its_branch Staging s is = is.queue.staging
 its_branch Trying s is = is.queue.trying
 
+-- a lane that is another one, and keeps what the state keeps of it
 one_lane : (branch : Branch) (s : State) → Holds s → (alter : Lane → Lane) → QueueIsInOrder (specs.with_lane branch (alter (lane_of branch s.queue)) 0 s.queue)
     → IsBranch branch s.desk.clock s.desk.settings (marks_on branch s.desk) (alter (lane_of branch s.queue)) → AreAlone (alter s.queue.trying)
     → Holds (with_queue s (specs.with_lane branch (alter (lane_of branch s.queue)) 0 s.queue))
@@ -356,90 +255,25 @@ reported_holds branch s name report required is =
     (reported_keeps branch s.desk.clock s.desk.settings (marks_on branch s.desk) s.queue.next (lane_of branch s.queue) (its_branch branch s is) name report required)
     ((singles_law s.queue.next s.queue.trying is.queue.alone).report name report)
 
--- what it leaves
-if_passed_settings : (branch : Branch) (s : State) (running : Option Batch) → (if_passed branch s running).state.desk.settings ≡ s.desk.settings
-if_passed_settings branch s None = refl
-if_passed_settings branch s (Some batch) =
-    either_way (λ (o : Outcome). o.state.desk.settings ≡ s.desk.settings) (has_passed s.desk.settings batch.stage) (passing branch batch s) (quiet s) (λ passes. by branch) (λ fails. refl) where
-      by : (b : Branch) → (passing b batch s).state.desk.settings ≡ s.desk.settings
-      by Staging = ap (λ (l : Look). l.settings) (all_look (with_landing true) (λ change. refl) batch.changes s.desk)
-      by Trying = (lone_rest without_try s.desk (lone_on Trying s)).0
-
--- a status whose name is required
-abbrev pub IsAsked : List ℕ → State → Type 0
-IsAsked name s = (is_required s.desk.settings name ≡ true) × Holds s
-
-told_of_holds : (branch : Branch) (s : State) (name : List ℕ) (state : StatusState) → lands (lane_of branch s.queue).running ≡ false → IsAsked name s → IsAsked name (told_of branch name state s).state
-told_of_holds branch s name state not_so is = by state where
-  still : (t : State) → t.desk.settings ≡ s.desk.settings → is_required t.desk.settings name ≡ true
-  still t same = ap (λ (o : Option SettingsView). is_required o name) same ∙ is.0
-
-  goes : (report : Report) → IsAsked name (goes_on branch name report s).state
-  goes report =
-      let after = with_queue s (specs.reported branch name report s.queue) in
-      (still (goes_on branch name report s).state (if_passed_settings branch after (lane_of branch after.queue).running), if_passed_holds branch after (lane_of branch after.queue).running refl (reported_holds branch s name report is.0 is.1))
-
-  ends : (cause : Why) → IsAsked name (failing branch cause s).state
-  ends cause = (still (failing branch cause s).state (lone_rest (spent branch) s.desk (lone_on branch s)).0, ending_holds branch s (told_as branch cause) is.1 not_so)
-
-  by : (said : StatusState) → IsAsked name (told_of branch name said s).state
-  by Success = goes report.Success
-  by Pending = goes report.Pending
-  by Failure = ends (why.Failed name)
-  by Error = ends (why.Failed name)
-
-pub told_on_holds : (commit name : List ℕ) (state : StatusState) (branch : Branch) (s : State) → IsAsked name s → IsAsked name (told_on commit name state branch s).state
-told_on_holds commit name state branch s is =
-    either_way (λ (o : Outcome). IsAsked name o.state) (has_staged commit (lane_of branch s.queue)) (told_of branch name state s) (quiet s)
-    (λ there. told_of_holds branch s name state (staged_so (lane_of branch s.queue) commit there) is) (λ elsewhere. is)
-
-told_holds : (s : State) (commit name : List ℕ) (state : StatusState) → Holds s → Holds (told commit name state s).state
-told_holds s commit name state is =
-    either_way (λ (o : Outcome). Holds o.state) (is_required s.desk.settings name) (on_both (told_on commit name state) s) (quiet s)
-    (λ required. (told_on_holds commit name state Trying _ (told_on_holds commit name state Staging s (required, is))).1) (λ other. is)
+-- each step of a status, and of the end of what has taken too long
+pub holding : EachStep (λ few s is. Holds s → Holds is.state)
+holding = record {
+  nothing = λ few s is. is;
+  both = λ s first next one other is. other (one is);
+  report = λ branch name report s required next rest is. rest (reported_holds branch s name report required is);
+  fail = λ branch cause s ends stays is. ending_holds branch s (told_as branch cause) is stays;
+  pass = λ s stays is. ending_holds Trying s why.TryPassed is stays;
+  land = λ s batch runs passes is. land_holds s batch runs passes is;
+}
 
 -- THE RUNNING BATCH GOES BACK
 pub released_twice : (on : Option (List ℕ)) (commit : List ℕ) (change : Change) → released on commit (released on commit change) ≡ released on commit change
-released_twice None commit change = refl
-released_twice (Some on) commit change = by (bytes_eq on commit) where
-  by : (b : Bool) → cond b (landed (cond b (landed change) (with_landing false change))) (with_landing false (cond b (landed change) (with_landing false change))) ≡ cond b (landed change) (with_landing false change)
-  by true = refl
-  by false = refl
-
--- what becomes of a change
-record Freed (old new : Option Change) (in_it : Bool) : Type 0 where
-  approved : option_map_or (λ (x : Change). is_some x.approved) new false ≡ true → option_map_or (λ (x : Change). is_some x.approved) old false ≡ true
-  lost : option_map_or (λ (x : Change). is_some x.approved) new false ≡ false → option_map_or (λ (x : Change). is_some x.approved) old false ≡ true → in_it ≡ true
-  priority : option_map_or (λ (x : Change). x.priority) new (pos 0) ≡ option_map_or (λ (x : Change). x.priority) old (pos 0)
-  landing : in_it ≡ true → option_map_or (λ (x : Change). x.landing) new false ≡ false
-  others : in_it ≡ false → option_map_or (λ (x : Change). x.landing) new false ≡ option_map_or (λ (x : Change). x.landing) old false
-  tried : option_map_or (λ (x : Change). x.trying) new false ≡ true → option_map_or (λ (x : Change). x.trying) old false ≡ true
-
-freed : (on : Option (List ℕ)) (commit : List ℕ) (in_it : Bool) (had : Option Change) → Freed had (cond in_it (option_map (released on commit) had) had) in_it
-freed on commit false had = record { approved = λ some. some; lost = λ none some. cc (sym none ∙ some); priority = refl; landing = λ so. cc so; others = λ so. refl; tried = λ so. so }
-freed on commit true None = record { approved = λ some. cc some; lost = λ none some. cc some; priority = refl; landing = λ so. refl; others = λ so. refl; tried = λ so. so }
-freed None commit true (Some change) = record { approved = λ some. some; lost = λ none some. refl; priority = refl; landing = λ so. refl; others = λ so. cc so; tried = λ so. so }
-freed (Some on) commit true (Some change) = by (bytes_eq on commit) where
-  by : (b : Bool) → Freed (Some change) (Some (cond b (landed change) (with_landing false change))) true
-  by true = record { approved = λ some. cc some; lost = λ none some. refl; priority = refl; landing = λ so. refl; others = λ so. cc so; tried = λ so. cc so }
-  by false = record { approved = λ some. some; lost = λ none some. refl; priority = refl; landing = λ so. refl; others = λ so. cc so; tried = λ so. so }
+released_twice on commit change = grind arith
 
 -- whether what lands has landed, on a new base
 abbrev lands_on : Option (List ℕ) → Option Batch → Bool
 lands_on None running = false
 lands_on (Some base) running = option_map_or (λ (batch : Batch). is_landing_with base batch.stage) running false
-
--- If it hasn't, its tries go on.
-abbrev comes_in : Option (List ℕ) → List ℕ → Bool
-comes_in None commit = false
-comes_in (Some base) commit = bytes_eq base commit
-
-still_tried : (on : Option (List ℕ)) (commit : List ℕ) → comes_in on commit ≡ false → (in_it : Bool) (had : Option Change)
-    → option_map_or (λ (x : Change). x.trying) (cond in_it (option_map (released on commit) had) had) false ≡ option_map_or (λ (x : Change). x.trying) had false
-still_tried on commit stays false had = refl
-still_tried on commit stays true None = refl
-still_tried None commit stays true (Some change) = refl
-still_tried (Some base) commit stays true (Some change) = ap (λ (b : Bool). (cond b (landed change) (with_landing false change)).trying) stays
 
 -- WHAT GOES BACK, on `Staging`, and what that leaves of tries
 record Back (on : Option (List ℕ)) (s : State) (new : DeskView) : Type 0 where
@@ -460,46 +294,38 @@ went_back on s is = by s.queue.staging.running refl where
     clock = refl;
     staging =
         requeued_keeps Staging s.desk.clock s.desk.settings (marks_on Staging s.desk) (marks_on Staging s.desk) s.queue.next s.queue.staging is.queue.staging s.desk.clock s.desk.settings
-        (λ c so. (so, refl)) (λ c lost had. cc (sym lost ∙ had)) (λ c. unmarked c (landing_on s.desk c) refl);
+        (λ c so. (so, refl)) (λ c lost had. cc (sym lost ∙ had)) unmarked;
     tried = λ c so. so;
     still = λ stays c. refl;
   } where
-    unmarked : (c : ℕ) (b : Bool) → landing_on s.desk c ≡ b → landing_on s.desk c ≡ false
-    unmarked c true so =
-        absurd (omega (arith, none_landing of_any_priority c s.queue.staging.running s.queue.staging.waiting not_so, is.queue.staging.landing c ∙ ap {B = ℕ} (λ (b : Bool). if b then 1 else 0) so))
-    unmarked c false so = so
+    unmarked : (c : ℕ) → landing_on s.desk c ≡ false
+    unmarked c =
+        let none = none_landing of_any_priority c s.queue.staging.running s.queue.staging.waiting not_so in
+        let lands = is.queue.staging.landing c in
+        grind arith
 
   by : (running : Option Batch) → s.queue.staging.running ≡ running → Back on s (released_on on s.desk running)
   by None runs = unmoved (ap lands runs)
   by (Some batch) runs = at batch.stage refl where
     at : (stage : Stage) → batch.stage ≡ stage → Back on s (released_at on s.desk batch.changes stage)
-    at Waiting stage = unmoved (ap lands runs ∙ ap is_landing stage)
-    at (Ordered since) stage = unmoved (ap lands runs ∙ ap is_landing stage)
-    at (Staged since commit reports) stage = unmoved (ap lands runs ∙ ap is_landing stage)
     at (Landing commit) stage = record {
       desk = all_keep (released on commit) batch.changes s.desk (released_keeps s.desk.settings s.desk.base on commit) is.desk;
       settings = ap (λ (l : Look). l.settings) same;
       clock = ap (λ (l : Look). l.clock) same;
       staging = on_time Staging s.desk new (lanes.requeued (approved_on new) s.queue.next s.queue.staging) (ap (λ (l : Look). l.settings) same) (ap (λ (l : Look). l.clock) same)
           (requeued_keeps Staging s.desk.clock s.desk.settings (marks_on Staging s.desk) (marks_on Staging new) s.queue.next s.queue.staging is.queue.staging s.desk.clock s.desk.settings
-          (λ c so. ((becomes c).approved so, (becomes c).priority)) (λ c lost had. marked c ((becomes c).lost lost had)) (λ c. unmarked c (list_any (eqb c) batch.changes) refl));
-      tried = λ c so. (becomes c).tried so;
-      still = λ stays c.
-          ap (λ (l : Look). option_map_or (λ (x : Change). x.trying) (l.change c) false) same
-          ∙ still_tried on commit (stays_out on (sym (ap (lands_on on) runs) ∙ stays)) (list_any (eqb c) batch.changes) (finite.get s.desk.changes c);
+          (λ c so. let at = here c in (grind arith, grind arith)) (λ c lost had. let at = here c in marked c (grind arith)) unmarked);
+      tried = λ c so. let at = here c in grind arith;
+      still = λ stays c. let at = here c in let out = sym (ap (lands_on on) runs) ∙ stays in grind arith;
     } where
-      stays_out : (base : Option (List ℕ)) → lands_on base (Some batch) ≡ false → comes_in base commit ≡ false
-      stays_out None out = refl
-      stays_out (Some base) out = sym (ap (is_landing_with base) stage) ∙ out
-
       new : DeskView
       new = all_altered (released on commit) s.desk batch.changes
 
       same : look new ≡ record (look s.desk) { change = λ c. cond (list_any (eqb c) batch.changes) (option_map (released on commit) (finite.get s.desk.changes c)) (finite.get s.desk.changes c) }
       same = all_look (released on commit) (released_twice on commit) batch.changes s.desk
 
-      becomes : (c : ℕ) → Freed (finite.get s.desk.changes c) (finite.get new.changes c) (list_any (eqb c) batch.changes)
-      becomes c = rw (ap (λ (l : Look). l.change c) same) (freed on commit (list_any (eqb c) batch.changes) (finite.get s.desk.changes c))
+      here : (c : ℕ) → finite.get new.changes c ≡ cond (list_any (eqb c) batch.changes) (option_map (released on commit) (finite.get s.desk.changes c)) (finite.get s.desk.changes c)
+      here c = ap (λ (l : Look). l.change c) same
 
       counted : (c : ℕ) → occurs c batch.changes ≡ (if landing_on s.desk c then 1 else 0)
       counted c =
@@ -507,17 +333,18 @@ went_back on s is = by s.queue.staging.running refl where
           ∙ ap {B = ℕ} (λ (l : Stage). if is_landing l then occurs c batch.changes else 0) stage) ∙ is.queue.staging.landing c
 
       marked : (c : ℕ) → list_any (eqb c) batch.changes ≡ true → landing_on s.desk c ≡ true
-      marked c there = on_it (landing_on s.desk c) refl where
-        on_it : (b : Bool) → landing_on s.desk c ≡ b → landing_on s.desk c ≡ true
-        on_it true so = so
-        on_it false so = absurd (omega (arith, some_there c batch.changes there, counted c ∙ ap {B = ℕ} (λ (b : Bool). if b then 1 else 0) so))
+      marked c there =
+          let some = some_there c batch.changes there in
+          let count = counted c in
+          grind arith
 
-      unmarked : (c : ℕ) (b : Bool) → list_any (eqb c) batch.changes ≡ b → landing_on new c ≡ false
-      unmarked c true there = (becomes c).landing there
-      unmarked c false there = (becomes c).others there ∙ off_it (landing_on s.desk c) refl where
-        off_it : (b : Bool) → landing_on s.desk c ≡ b → landing_on s.desk c ≡ false
-        off_it true so = absurd (omega (arith, none_there c batch.changes there, counted c ∙ ap {B = ℕ} (λ (b : Bool). if b then 1 else 0) so))
-        off_it false so = so
+      unmarked : (c : ℕ) → landing_on new c ≡ false
+      unmarked c =
+          let at = here c in
+          let none = none_there c batch.changes in
+          let count = counted c in
+          grind arith
+    at other stage = unmoved (ap lands runs ∙ ap is_landing stage)
 
 -- a refusal, after which all tries go on
 refused_holds : (s : State) → Holds s → Holds (sent_back None s)
@@ -566,11 +393,6 @@ rebased_holds base s is = record { desk = base_keeps new base back.desk; queue =
   }
 
 -- A TICK
-pub timed_out_holds : (now : ℕ) (branch : Branch) (s : State) → Holds s → Holds (timed_out now branch s).state
-timed_out_holds now branch s is =
-    either_way (λ (o : Outcome). Holds o.state) (has_overdue now s.desk.settings (lane_of branch s.queue)) (failing branch why.TimedOut s) (quiet s)
-    (λ overdue. ending_holds branch s (told_as branch why.TimedOut) is (overdue_so now s.desk.settings (lane_of branch s.queue) overdue)) (λ timely. is)
-
 pub clock_holds : (s : State) (now : ℕ) → IsMoment now → s.desk.clock ≤ now → Holds s → Holds (with_desk s (with_clock s.desk now))
 clock_holds s now limit past is = record {
   desk = clock_keeps s.desk now limit is.desk;
@@ -597,28 +419,23 @@ starting_holds now branch s is =
 
 -- the end of what has taken too long leaves the clock
 timed_out_clock : (now : ℕ) (branch : Branch) (s : State) → (timed_out now branch s).state.desk.clock ≡ s.desk.clock
-timed_out_clock now branch s =
-    either_way (λ (o : Outcome). o.state.desk.clock ≡ s.desk.clock) (has_overdue now s.desk.settings (lane_of branch s.queue)) (failing branch why.TimedOut s) (quiet s)
-    (λ overdue. (lone_rest (spent branch) s.desk (lone_on branch s)).1) (λ timely. refl)
+timed_out_clock now branch s = let rest = lone_rest (given_up branch) s.desk (lone_on branch s) in grind arith
 
 pub still_clock : (now : ℕ) (s : State) → (on_both (timed_out now) s).state.desk.clock ≡ s.desk.clock
 still_clock now s = timed_out_clock now Trying (timed_out now Staging s).state ∙ timed_out_clock now Staging s
 
-pub ended_on_time_holds : (now : ℕ) (s : State) → Holds s → Holds (on_both (timed_out now) s).state
-ended_on_time_holds now s is = timed_out_holds now Trying (timed_out now Staging s).state (timed_out_holds now Staging s is)
-
 tick_holds : (s : State) (now : ℕ) → IsMoment now → s.desk.clock ≤ now → Holds s → Holds (done s (Other (Tick now))).state
 tick_holds s now limit past is =
     let t = with_desk s (with_clock s.desk now) in
-    let ended : IsNow now (on_both (timed_out now) t).state = (still_clock now t, ended_on_time_holds now t (clock_holds s now limit past is)) in
+    let ended : IsNow now (on_both (timed_out now) t).state = (still_clock now t, timed_out_both_so holding now t (clock_holds s now limit past is)) in
     (starting_holds now Trying _ (starting_holds now Staging (on_both (timed_out now) t).state ended)).1
 
 -- A BATCH IS STAGED that was ordered, on its branch. It isn't landing.
 pub ordered_on_so : (s : State) → Holds s → (number : ℕ) → lands (lane_of (ordered_on number s.queue) s.queue).running ≡ false
-ordered_on_so s is number = by (has_ordered number s.queue.staging) refl where
-  by : (b : Bool) → has_ordered number s.queue.staging ≡ b → lands (lane_of (if b then Staging else Trying) s.queue).running ≡ false
-  by true there = ordered_so s.queue.staging number there
-  by false there = try_not_landing s.queue.trying is.queue.alone
+ordered_on_so s is number =
+    let ordered = ordered_so s.queue.staging number in
+    let tried = try_not_landing s.queue.trying is.queue.alone in
+    grind arith
 
 staged_holds : (s : State) (batch : ℕ) (commit : List ℕ) → Holds s → Holds (done s (Other (StagedFact batch commit))).state
 staged_holds s batch commit is =
@@ -638,7 +455,7 @@ done_holds s (Other (Settings text)) is limits there holds = accepted_holds s (s
 done_holds s (Other (Base base)) is limits there holds = rebased_holds base s is
 done_holds s (Other (StagedFact batch commit)) is limits there holds = staged_holds s batch commit is
 done_holds s (Other (Conflict batch)) is limits there holds = ending_holds (ordered_on batch s.queue) s (told_as (ordered_on batch s.queue) why.Conflict) is (ordered_on_so s is batch)
-done_holds s (Other (Status commit name state)) is limits there holds = told_holds (heads_told commit name state s) commit name state (heads_told_holds s commit name state is)
+done_holds s (Other (Status commit name state)) is limits there holds = told_so holding commit name state (heads_told commit name state s) (heads_told_holds s commit name state is)
 done_holds s (Other (Refused batch)) is limits there holds = refused_holds s is
 done_holds s (Other (Tick now)) is limits there holds = tick_holds s now limits (leb-true s.desk.clock now (passed (leb s.desk.clock now) ClockBack [] holds).0) is
 

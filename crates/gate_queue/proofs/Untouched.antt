@@ -1,27 +1,26 @@
 -- What an act leaves as it was, act by act.
-use Rattle.std.proofs.Common.{◌≡◌, ◌<◌, ◌≤◌, ℕ, ℤ, Bool, true, false, cond, not, ◌||◌, if◌then◌else◌, List, Option, Some, None, Result, Ok, Err, refl, sym, ◌∙◌, ap, subst, arith}
+use Rattle.std.proofs.Common.{◌≡◌, ◌<◌, ◌≤◌, ℕ, ℤ, Bool, true, false, not, ◌||◌, if◌then◌else◌, List, Option, Some, None, Result, Ok, Err, refl, sym, ◌∙◌, ap, subst, arith}
 use Rattle.std.proofs.lemmas.Bool.{or_parts, not-true, and_parts}
 use Rattle.std.proofs.lemmas.List.Folds.{list_any-append}
 use Rattle.std.proofs.lemmas.Map.Text.{is_eq-slice_cmp}
 use Rattle.std.specs.Cmp.{nat_cmp_total}
 use Rattle.std.specs.Cmp.Lexicographic.{nat_list_cmp_total}
-use Rattle.std.specs.FinMap as finite
 use Rattle.std.specs.FinMap.{get-insert, get-remove}
-use Rattle.std.specs.Option.{option_map, option_map_or}
+use Rattle.std.specs.Option.{option_map_or}
 use Rattle.std.specs.Ordering.{int_eq, nat_cmp}
-use Rattle.std.specs.Str.{bytes_eq}
 use Rattle.gate_text.specs.Finite.{get-mapped}
-use Rattle.gate_queue.specs.Vocabulary.{SettingsView, settings_of, Approve, ApproveFor, Try, Retry, Known, Unknown, SettingsFault, is_member, last_command, DeskView, is_open_at, is_required, with_role, without_approval, look, Change, Repeat, RoleOf, Rule, Act, On, Other, Opened, Pushed, Closed, Labeled, Unlabeled, Review, Deed, Said, Happened, Role, Settings, Base, Staged, Conflict, Status, Refused, Tick, StatusState, Batch, Staging, Trying, Queue, State, Outcome, Branch}
-use Rattle.gate_rules.specs.View.{with_status, told_at}
+use Rattle.gate_queue.specs.Vocabulary.{SettingsView, settings_of, Approve, ApproveFor, Try, Retry, Known, Unknown, SettingsFault, last_command, DeskView, with_role, look, Change, Repeat, RoleOf, Act, On, Other, Opened, Pushed, Closed, Labeled, Unlabeled, Review, Deed, Said, Happened, Role, Settings, Base, Staged, Conflict, Status, Refused, Tick, StatusState, Batch, Staging, Trying, Queue, State, Outcome}
+use Rattle.gate_rules.specs.View.{told_at}
 use Rattle.gate_rules.specs.declared.change.Repeat.TheVariants as repeat
 use Rattle.gate_state.specs.Lanes as lanes
 use Rattle.gate_state.specs.Lanes.{is_fresh_beside, is_fresh_of, last_so, loses}
-use Rattle.gate_state.specs.Queue.{batches_of, taken_out, restarted, lane_of}
+use Rattle.gate_state.specs.Queue.{batches_of, taken_out, restarted}
 use Rattle.gate_state.specs.State.{approved_on, priority_on, trying_on, IsState}
-use Rattle.gate_queue.specs.Machine.{denial, repeated, done, acted, effect, about, all_but, followed, tried_by, approval_followed, size_on, pushed, closed, labeled, with_label, without_label, reviewed, with_review, loses_approval, settled, with_new_settings, resettled, under, accepted, are_present, quiet, then_next, on_either, has_staged, is_good, heads_told, told_of, told, ordered_on, sent_back, rebased, tries_left, lands_with, with_desk, on_both, told_on, unless_denied as denied, told_as}
+use Rattle.gate_queue.specs.Machine.{denial, repeated, done, acted, effect, about, all_but, followed, tried_by, approval_followed, size_on, pushed, closed, labeled, with_label, without_label, reviewed, with_review, settled, with_new_settings, resettled, under, accepted, are_present, quiet, on_either, has_staged, is_good, heads_told, told, ordered_on, sent_back, rebased, tries_left, lands_with, with_desk, unless_denied as denied, told_as}
 use Rattle.gate_queue.specs.MayChange.{Parts, no_parts, with_heads, of_status, Untouched, LawOfUntouched, unless_denied, may_do, is_numbered, one_numbered, is_joined, of_change, in_front, of_base, stays_tried, of_settings, of_text, of_person, is_run, is_in_front, next_priority}
 use Rattle.gate_state.specs.declared.reply.Why.TheVariants as why
 use Rattle.gate_queue.proofs.Changes.{against_same}
+use Rattle.gate_queue.proofs.Choosing.{by_bool, by_option, either_way}
 use Rattle.gate_queue.proofs.Desks.{released_desk, Effect, same_effect, kept_effect, spoken_effect, opened_effect, pushed_same}
 use Rattle.gate_queue.proofs.Lanes.{joined_later, Same, enqueued_same, tried_same, taken_out_same, none_loses, taken_running, restarted_same}
 use Rattle.gate_queue.proofs.Meaning.{means}
@@ -29,19 +28,12 @@ use Rattle.gate_queue.proofs.News.{same_found, untouched_by, IsNewsOf, news_unto
 
 -- NUMBERS that are given aren't given again.
 followed_rises : (was now moved : Bool) (size : Option ℕ) (priority : ℤ) (change : ℕ) (queue : Queue) → queue.next ≤ (followed was now moved size priority change queue).next
-followed_rises false false moved size priority change queue = omega arith
-followed_rises false true moved size priority change queue = omega arith
-followed_rises true false moved size priority change queue = omega arith
-followed_rises true true false size priority change queue = omega arith
-followed_rises true true true size priority change queue = omega arith
+followed_rises was now moved size priority change queue = grind arith
 
 tried_rises : (was now : Bool) (change : ℕ) (queue : Queue) → queue.next ≤ (tried_by was now change queue).next
-tried_rises false false change queue = omega arith
-tried_rises false true change queue = omega arith
-tried_rises true false change queue = omega arith
-tried_rises true true change queue = omega arith
+tried_rises was now change queue = grind arith
 
--- AN ACT ABOUT A CHANGE: the queue follows the desk
+-- A DEED ON A CHANGE: the queue follows the desk
 module _ (s : State) (is : IsState s) (n : ℕ) (old : n < s.queue.next) (change : ℕ) (priority : ℤ) (other : (of_change s priority change).batch n ≡ false) where
   abbrev has_it : List Batch → Bool
   has_it batches = one_numbered (loses (all_but change)) batches n
@@ -83,15 +75,9 @@ module _ (s : State) (is : IsState s) (n : ℕ) (old : n < s.queue.next) (change
   followed_so : (was now moved : Bool) (size : Option ℕ) (at : ℤ) → (now ≡ true → at ≡ priority) → Follows (followed was now moved size at change s.queue)
   followed_so was now moved size at same = record {
     staging = followed_same was now moved size at same;
-    trying = trying was now moved;
+    trying = grind arith;
     next = followed_rises was now moved size at change s.queue;
-  } where
-    trying : (was now moved : Bool) → (followed was now moved size at change s.queue).trying ≡ s.queue.trying
-    trying false false moved = refl
-    trying false true moved = refl
-    trying true false moved = refl
-    trying true true false = refl
-    trying true true true = refl
+  }
 
   tried_by_same : (was now : Bool) (queue : Queue) → Follows queue → Same n s.queue.staging (tried_by was now change queue).staging × Same n s.queue.trying (tried_by was now change queue).trying
   tried_by_same false false queue so = (so.staging, rw so.trying refl)
@@ -112,41 +98,26 @@ about_untouched s is change deed done =
     (λ n old other.
     tried_by_same s is n old change priority other (trying_on s.desk change) (trying_on new change) (approval_followed s.desk new change s.queue)
     (followed_so s is n old change priority other was now moved (size_on new) (priority_on new change) done.priced))
-    (omega (
-      arith,
-      followed_rises was now moved (size_on new) (priority_on new change) change s.queue,
-      tried_rises (trying_on s.desk change) (trying_on new change) change (approval_followed s.desk new change s.queue),
-    ))
+    (omega (arith, followed_rises was now moved (size_on new) (priority_on new change) change s.queue, tried_rises (trying_on s.desk change) (trying_on new change) change (approval_followed s.desk new change s.queue)))
 
 -- ROLES
 role_untouched : (s : State) (person : List ℕ) (role : RoleOf) → Untouched (of_person person) s (with_desk s (with_role s.desk person role))
-role_untouched s person role = record {
-  people = λ name other. by name other (is_member role);
-  changes = λ number other. refl;
-  batches = λ number old other. refl;
-  settings = λ other. refl;
-  next = omega arith;
-} where
-  by : (name : List ℕ) → bytes_eq name person ≡ false → (member : Bool)
-      → finite.get (if member then finite.insert s.desk.roles person role else finite.remove s.desk.roles person) name ≡ finite.get s.desk.roles name
-  by name other true = rw (get-insert nat_list_cmp_total s.desk.roles person role name, is_eq-slice_cmp name person, other) refl
-  by name other false = rw (get-remove nat_list_cmp_total s.desk.roles person name, is_eq-slice_cmp name person, other) refl
+role_untouched s person role =
+    grind (arith, λ (name : List ℕ). get-insert nat_list_cmp_total s.desk.roles person role name, λ (name : List ℕ). get-remove nat_list_cmp_total s.desk.roles person name, is_eq-slice_cmp)
 
 -- SETTINGS
 same_untouched : (may : Parts) (s : State) → Untouched may s s
-same_untouched may s = record { people = λ name other. refl; changes = λ number other. refl; batches = λ number old other. refl; settings = λ other. refl; next = omega arith }
+same_untouched may s = search arith
 
 under_untouched : (s : State) → IsState s → (settings : SettingsView) → Untouched (of_settings s settings) s (under settings s).state
 under_untouched s is settings = record {
   people = λ name other. refl;
-  changes = λ number other. get-mapped nat_cmp (settled settings) nat_cmp_total s.desk.changes number ∙ kept (finite.get s.desk.changes number) other;
+  changes = λ number other. get-mapped nat_cmp (settled settings) nat_cmp_total s.desk.changes number ∙ grind (arith, other);
   batches = λ n old other.
-      let parts = or_parts (is_numbered n s.queue.staging.running || is_numbered n s.queue.trying.running) (has_it n s.queue.staging.waiting) other in
-      let run = or_parts (is_numbered n s.queue.staging.running) (is_numbered n s.queue.trying.running) parts.0 in
       same_found n s.queue (resettled new s.queue)
-      (restarted_same n out.next (omega (arith, old)) out.staging (taken_running n Staging (approved_on new) s.queue.next s.queue.staging run.0)
-      ∙ taken_out_same n Staging (approved_on new) s.queue.next old s.queue.staging is.queue.staging.waiting (all_but_running n s.queue.staging.running s.queue.staging.waiting run.0 parts.1))
-      (restarted_same n again.next (omega (arith, old)) s.queue.trying run.1);
+      (restarted_same n out.next (omega (arith, old)) out.staging (taken_running n Staging (approved_on new) s.queue.next s.queue.staging (grind arith))
+      ∙ taken_out_same n Staging (approved_on new) s.queue.next old s.queue.staging is.queue.staging.waiting (grind arith))
+      (restarted_same n again.next (omega (arith, old)) s.queue.trying (grind arith));
   settings = λ other. cc other;
   next = omega arith;
 } where
@@ -159,61 +130,28 @@ under_untouched s is settings = record {
   again : Queue
   again = restarted Staging out
 
-  has_it : ℕ → List Batch → Bool
-  has_it n batches = one_numbered (loses (approved_on new)) batches n
-
-  all_but_running : (n : ℕ) (running : Option Batch) (waiting : List Batch) → is_numbered n running ≡ false → has_it n waiting ≡ false → has_it n (lanes.batches_of (record { running = running; waiting = waiting })) ≡ false
-  all_but_running n None waiting other rest = rest
-  all_but_running n (Some batch) waiting other rest = rw other rest
-
-  kept : (had : Option Change) → option_map_or (loses_approval settings) had false ≡ false → option_map (settled settings) had ≡ had
-  kept None other = refl
-  kept (Some c) other = ap (λ (b : Bool). Some (if b then without_approval c else c)) other
-
 settings_untouched : (s : State) → IsState s → (read : Result SettingsView SettingsFault) → Untouched (of_text s read) s (accepted s read).state
 settings_untouched s is (Err fault) = same_untouched no_parts s
-settings_untouched s is (Ok settings) = by (are_present s.desk settings) where
-  by : (present : Bool) → Untouched (if present then no_parts else of_settings s settings) s (if present then quiet s else under settings s).state
-  by true = same_untouched no_parts s
-  by false = under_untouched s is settings
+settings_untouched s is (Ok settings) =
+    by_bool (λ present. Untouched (if present then no_parts else of_settings s settings) s (if present then quiet s else under settings s).state)
+    (same_untouched no_parts s) (under_untouched s is settings) (are_present s.desk settings)
 
 -- A STATUS
 unstaged : (commit name : List ℕ) (state : StatusState) (s : State) → on_either (has_staged commit) s.queue ≡ false → told commit name state s ≡ quiet s
-unstaged commit name state s none = by (is_required s.desk.settings name) where
-  parts : (has_staged commit s.queue.staging ≡ false) × (has_staged commit s.queue.trying ≡ false)
-  parts = or_parts (has_staged commit s.queue.staging) (has_staged commit s.queue.trying) none
-
-  idle : (branch : Branch) → has_staged commit (lane_of branch s.queue) ≡ false → told_on commit name state branch s ≡ quiet s
-  idle branch none = ap (λ (b : Bool). cond b (told_of branch name state s) (quiet s)) none
-
-  by : (b : Bool) → cond b (on_both (told_on commit name state) s) (quiet s) ≡ quiet s
-  by true = ap (λ (first : Outcome). then_next first (told_on commit name state Trying)) (idle Staging parts.0) ∙ ap (λ (next : Outcome). record { state = next.state; orders = next.orders }) (idle Trying parts.1)
-  by false = refl
+unstaged commit name state s none = grind arith
 
 module _ (s : State) (commit name : List ℕ) (state : StatusState) where
   abbrev heads : State
   heads = heads_told commit name state s
 
-  kept_elsewhere : (had : Option Change) → option_map_or (is_open_at commit) had false ≡ false → option_map (told_at commit name (is_good state)) had ≡ had
-  kept_elsewhere None other = refl
-  kept_elsewhere (Some change) other = ap (λ (b : Bool). Some (cond b (with_status name (is_good state) change) change)) other
-
   after_heads : (may : Parts) (t : State) → Untouched may heads t → Untouched (with_heads s commit may) s t
-  after_heads may t same = record {
-    people = same.people;
-    changes = λ number other.
-        let parts = or_parts (may.change number) (option_map_or (is_open_at commit) (finite.get s.desk.changes number) false) other in
-        same.changes number parts.0 ∙ get-mapped nat_cmp (told_at commit name (is_good state)) nat_cmp_total s.desk.changes number ∙ kept_elsewhere (finite.get s.desk.changes number) parts.1;
-    batches = same.batches;
-    settings = same.settings;
-    next = same.next;
-  }
+  after_heads may t same = grind (arith, λ (number : ℕ). get-mapped nat_cmp (told_at commit name (is_good state)) nat_cmp_total s.desk.changes number)
 
   status_untouched : Untouched (of_status s commit) s (told commit name state heads).state
-  status_untouched = by (on_either (has_staged commit) s.queue) refl where
-    by : (b : Bool) → on_either (has_staged commit) s.queue ≡ b → Untouched (with_heads s commit (if b then in_front s else no_parts)) s (told commit name state heads).state
-    by true staged = after_heads (in_front s) _ (news_untouched heads _ (told_news commit name state heads))
-    by false none = after_heads no_parts _ (subst (λ (o : Outcome). Untouched no_parts heads o.state) (sym (unstaged commit name state heads none)) (same_untouched no_parts heads))
+  status_untouched =
+      either_way (λ may. Untouched (with_heads s commit may) s (told commit name state heads).state) (on_either (has_staged commit) s.queue) (in_front s) no_parts
+      (λ staged. after_heads (in_front s) _ (news_untouched heads _ (told_news commit name state heads)))
+      (λ none. after_heads no_parts _ (subst (λ (o : Outcome). Untouched no_parts heads o.state) (sym (unstaged commit name state heads none)) (same_untouched no_parts heads)))
 
 -- A BASE
 base_untouched : (s : State) → IsState s → (base : List ℕ) → Untouched (of_base s) s (rebased base s)
@@ -238,8 +176,7 @@ base_untouched s is base = record {
   first = news_untouched s back news
 
   rises : (lands : Bool) → back.queue.next ≤ (tries_left lands back.desk back.queue).next
-  rises true = omega arith
-  rises false = omega arith
+  rises lands = grind arith
 
   -- a try that was and that the running batch hasn't is one still
   still : (change : ℕ) → stays_tried s change ≡ true → trying_on back.desk change ≡ true
@@ -291,7 +228,5 @@ acted_untouched s is act = means (λ a. Untouched (may_do s act) s (done s a).st
   repeats change person at = rw at (by change person (last_command (look s.desk) change))
 
 pub untouched_law : LawOfUntouched
-untouched_law s act is = by (denial s act) where
-  by : (rule : Option Rule) → Untouched (unless_denied rule (may_do s act)) s (denied rule s (acted s act).state)
-  by None = acted_untouched s is act
-  by (Some rule) = same_untouched no_parts s
+untouched_law s act is =
+    by_option (λ rule. Untouched (unless_denied rule (may_do s act)) s (denied rule s (acted s act).state)) (acted_untouched s is act) (λ rule. same_untouched no_parts s) (denial s act)

@@ -1,20 +1,18 @@
 -- The look-backs come to what the words over the whole list say.
-use Rattle.std.proofs.Common.{◌≡◌, ◌⊎◌, Bool, true, false, ◌&&◌, ◌||◌, List, [], ◌∷◌, ◌++◌, Option, Some, None, refl, sym, ◌∙◌, ap, inl, inr}
+use Rattle.std.proofs.Common.{◌≡◌, ◌⊎◌, Bool, true, ◌&&◌, List, [], ◌∷◌, ◌++◌, Option, Some, None, refl, sym, ◌∙◌, ap, inl, inr, arith}
 use Rattle.std.proofs.lemmas.List.{append-nil}
 use Rattle.std.specs.Cmp.{first_so, second_so}
 use Rattle.std.specs.Option.{option_or}
+use Rattle.std.proofs.Math.Bool.{or-true}
+use Rattle.std.proofs.lemmas.Bool.{or_cases}
 use Rattle.gate_queue.specs.History.{Event, last_of, since}
 use Rattle.gate_queue.specs.Words.{AllKept, StartedAndKept, AllSilent, SaidLast}
-
-either : (b c : Bool) → b || c ≡ true → (b ≡ true) ⊎ (c ≡ true)
-either true c is = inl refl
-either false c is = inr is
 
 -- SINCE
 module _ (start keep : Event → List Event → Bool) where
   pub since_found : (events : List Event) → since start keep events ≡ true → StartedAndKept start keep events
   since_found [] holds = cc holds
-  since_found (event ∷ events) holds = elim (either (start event events) (keep event events && since start keep events) holds) [
+  since_found (event ∷ events) holds = elim (or_cases (start event events) (keep event events && since start keep events) holds) [
     | inl started ↦ ([], events, event, refl, started, tt)
     | inr kept ↦
         let (later, before, first, is, started, others) = since_found events (second_so (keep event events) (since start keep events) kept) in (
@@ -27,27 +25,21 @@ module _ (start keep : Event → List Event → Bool) where
         )
   ]
 
-  or_true : (b : Bool) → (b || true) ≡ true
-  or_true true = refl
-  or_true false = refl
-
   since_kept : (later before : List Event) (event : Event) → start event before ≡ true → AllKept keep later (event ∷ before) → since start keep (later ++ event ∷ before) ≡ true
   since_kept [] before event started kept = rw started refl
   since_kept (next ∷ later) before event started kept =
-      rw (kept.0, since_kept later before event started kept.1) (or_true (start next (later ++ event ∷ before)))
+      rw (kept.0, since_kept later before event started kept.1) (or-true (start next (later ++ event ∷ before)))
 
   pub since_holds : (events : List Event) → StartedAndKept start keep events → since start keep events ≡ true
   since_holds events (later, before, event, is, started, kept) = ap (since start keep) is ∙ since_kept later before event started kept
 
 -- THE LAST
 pub none_both : {X : Type 0} (this rest : Option X) → option_or this rest ≡ None → (this ≡ None) × (rest ≡ None)
-none_both (Some x) rest is = cc is
-none_both None rest is = (refl, is)
+none_both this rest is = (grind arith, grind arith)
 
 module _ {X : Type 0} (said : Event → List Event → Option X) where
   last_first : (this rest : Option X) (x : X) → option_or this rest ≡ Some x → (this ≡ Some x) ⊎ ((this ≡ None) × (rest ≡ Some x))
-  last_first (Some y) rest x is = inl is
-  last_first None rest x is = inr (refl, is)
+  last_first this rest x is = grind arith
 
   pub last_found : (events : List Event) (x : X) → last_of said events ≡ Some x → SaidLast said events x
   last_found [] x is = cc is

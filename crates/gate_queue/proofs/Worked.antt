@@ -84,8 +84,8 @@ pushes = (refl, refl)
 first_reply : reply_to (empty_state 1) (Other (Role alice Reviewer)) ≡ Done []
 first_reply = refl
 
-subjects : (on 1 (On 1 (Happened Closed)) ≡ Some (Happened Closed)) × (on 2 (On 1 (Happened Closed)) ≡ None) × (on 1 (Other (Base a)) ≡ None)
-subjects = (refl, refl, refl)
+deeds_on : (on 1 (On 1 (Happened Closed)) ≡ Some (Happened Closed)) × (on 2 (On 1 (Happened Closed)) ≡ None) × (on 1 (Other (Base a)) ≡ None)
+deeds_on = (refl, refl, refl)
 
 -- an act on a batch that wasn't ordered, and a clock that goes back
 batches : (denial (empty_state 1) (Other (Staged 1 a)) ≡ Some NoSuchBatch)

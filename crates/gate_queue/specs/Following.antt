@@ -1,4 +1,4 @@
--- WHAT EACH ACT ABOUT A CHANGE DOES TO THE BATCHES, act by act, on every state and if no rule denies it. The machine has one
+-- WHAT EACH DEED ON A CHANGE DOES TO THE BATCHES, one by one, on every state and if no rule denies it. The machine has one
 -- definition for all of them, by which the queue follows the desk.
 use Rattle.std.specs.Prelude.{◌≡◌, ℕ, ℤ, not, Bool, false, ◌&&◌, List, None, if◌then◌else◌}
 use Rattle.std.specs.FinMap as finite

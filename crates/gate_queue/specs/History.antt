@@ -47,7 +47,7 @@ said_by said (did (On change deed)) before = None
 said_by said (did (Other fact)) before = said fact
 said_by said (gave order) before = None
 
--- what was done to a change, if the event is that
+-- what was done to a change, if the event was that
 abbrev pub done_to : ℕ → Event → Option Deed
 done_to change (did act) = on change act
 done_to change (gave order) = None

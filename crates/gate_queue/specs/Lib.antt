@@ -2,7 +2,7 @@
 --     Vocabulary the words that the others are written in
 --     Machine    the rules of facts, what each act does to the desk and the queue, its orders, and a step
 --     States     that each act leads from a state to a state
---     Following  what each act about a change does to the batches, act by act
+--     Following  what each deed on a change does to the batches, one by one
 --     MayChange  which people, changes and batches an act may change, and that all others stay as they are
 --     Before     what is noted of a state before acts change it
 --     History    the events of a history, what they say of people and changes, and what one more entry tells

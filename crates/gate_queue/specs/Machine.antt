@@ -397,9 +397,9 @@ lone_on branch s = lone (lane_of branch s.queue).running
 
 -- A BATCH ENDS. On `Staging` one of one change is dropped, and a larger one is split; a try is dropped in any case. The change of a
 -- batch that has no other is no longer approved then, or tried, and a notice says so.
-abbrev pub spent : Branch → Change → Change
-spent Staging = without_approval
-spent Trying = without_try
+abbrev pub given_up : Branch → Change → Change
+given_up Staging = without_approval
+given_up Trying = without_try
 
 abbrev pub without_running : Branch → Queue → Queue
 without_running Staging = failed Staging
@@ -407,7 +407,7 @@ without_running Trying = dropped Trying
 
 abbrev pub ending : Branch → Why → State → Outcome
 ending branch why s = record {
-  state = record { desk = lone_altered (spent branch) s.desk (lone_on branch s); queue = without_running branch s.queue };
+  state = record { desk = lone_altered (given_up branch) s.desk (lone_on branch s); queue = without_running branch s.queue };
   orders = lone_notices why (lone_on branch s);
 }
 
@@ -565,19 +565,19 @@ abbrev pub ordered_on : ℕ → Queue → Branch
 ordered_on number queue = if has_ordered number queue.staging then Staging else Trying
 
 -- ANY ACT that no rule denies
-abbrev pub happens : State → Fact → Outcome
-happens s (Role person role) = quiet (with_desk s (with_role s.desk person role))
-happens s (Settings text) = accepted s (settings_of text)
-happens s (Base commit) = quiet (rebased commit s)
-happens s (Staged batch commit) = quiet (with_queue s (staged (ordered_on batch s.queue) s.desk.clock commit s.queue))
-happens s (Conflict batch) = failing (ordered_on batch s.queue) why.Conflict s
-happens s (Status commit name state) = told commit name state (heads_told commit name state s)
-happens s (Refused batch) = quiet (sent_back None s)
-happens s (Tick now) = then_next (on_both (timed_out now) (with_desk s (with_clock s.desk now))) (on_both (starting now))
+abbrev pub fact_done : State → Fact → Outcome
+fact_done s (Role person role) = quiet (with_desk s (with_role s.desk person role))
+fact_done s (Settings text) = accepted s (settings_of text)
+fact_done s (Base commit) = quiet (rebased commit s)
+fact_done s (Staged batch commit) = quiet (with_queue s (staged (ordered_on batch s.queue) s.desk.clock commit s.queue))
+fact_done s (Conflict batch) = failing (ordered_on batch s.queue) why.Conflict s
+fact_done s (Status commit name state) = told commit name state (heads_told commit name state s)
+fact_done s (Refused batch) = quiet (sent_back None s)
+fact_done s (Tick now) = then_next (on_both (timed_out now) (with_desk s (with_clock s.desk now))) (on_both (starting now))
 
 abbrev pub done : State → Act → Outcome
 done s (On change deed) = about s change deed
-done s (Other fact) = happens s fact
+done s (Other fact) = fact_done s fact
 
 -- WHAT TAKES NO MEMORY: an act that adds nothing to a list, a set or a map, and gives no order
 abbrev pub CommandTakesNoMemory : Command → Type 0

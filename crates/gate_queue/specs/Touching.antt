@@ -19,7 +19,7 @@ abbrev pub number_of : Option Batch → List ℕ
 number_of None = []
 number_of (Some batch) = batch.number ∷ []
 
--- of an act about a change
+-- of a deed on a change
 abbrev pub losing : ℕ → Lane → List ℕ
 losing change lane = numbers_so (loses (all_but change)) (batches_of lane)
 

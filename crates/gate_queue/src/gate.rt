@@ -9,13 +9,13 @@ ghost use Rattle.gate_queue.specs.History.{Entry, Legal, EntryTells, entry_of};
 ghost use Rattle.gate_queue.specs.Machine.{DeskTakesNoMemory, QueueTakesNoMemory, RefusalMayWantMemory, Step, denial, empty_state};
 ghost use Rattle.gate_state.specs.Queue as queue_specs;
 ghost use Rattle.gate_state.specs.Service.{QueueIsInOrder};
-ghost use Rattle.gate_state.specs.Room.{HasRoom, IsFull};
+ghost use Rattle.gate_state.specs.Room.{HasRoom, is_full};
 
 use crate::fault::Fault;
 use crate::judging::rule_of;
 use crate::stepping::step;
 use gate_rules::{Change, Desk, Rule};
-use gate_state::{Act, Batch, Queue, Reply, State};
+use gate_state::{Act, Batch, MAX_NUMBER, Queue, Reply, State};
 use gate_text::ChangeNo;
 use std::alloc::{AllocError, Global};
 use std::marker::Model;
@@ -42,8 +42,8 @@ impl Model for Gate {
     ghost invariant = { λ gate. IsState gate.state };
 }
 
-// The greatest next number under which an act may step: no act uses more than the four from it on.
-const LAST_NEXT: u64 = 8_999_999_999_999_996;
+// How many numbers have to be left before an act. None uses more.
+const NEEDED: u64 = 4;
 
 impl Gate {
     /// A gate with an empty desk, its clock at 0, and without batches; the first will have the number 1. It takes no memory;
@@ -93,9 +93,9 @@ impl Gate {
 
     /// Whether the next number is above 8,999,999,999,999,996, so that no act steps.
     pub fn is_full(&self) -> bool
-        ensures value { (result ≡ true) ↔ IsFull self.now.queue }
+        ensures value { result ≡ is_full self.now.queue }
     {
-        LAST_NEXT < self.state.queue.next
+        MAX_NUMBER < self.state.queue.next + NEEDED
     }
 
     /// Lets an act that keeps its limits step, and answers the gate after it and the reply. `Full` if the next number is
@@ -113,7 +113,7 @@ impl Gate {
         ensures denied { IfOk result (λ done. (rule : Rule) → done.1 ≡ Denied rule → done.0 ≡ self) }
 
         // The faults. An act that a rule denies meets `Memory` only if the rule itself may want memory.
-        ensures full { (result ≡ Err Fault.Full) ↔ IsFull self.queue }
+        ensures full { (result ≡ Err Fault.Full) ↔ (is_full self.queue ≡ true) }
         ensures cause { IfErr result (λ fault. (fault ≡ Fault.Memory) ⊎ (fault ≡ Fault.Full)) }
         ensures refused { IfErr result (λ fault. fault ≡ Fault.Memory → (rule : Rule) → denial self act.now ≡ Some rule → RefusalMayWantMemory act.now (Some rule)) }
 

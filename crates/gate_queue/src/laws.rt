@@ -27,7 +27,7 @@ pub fn law_of_states()
     ensures { LawOfStates }
 {}
 
-/// The law of the queue: what each act that is about a change does to the batches, act by act, on every state and if no rule
+/// The law of the queue: what each deed on a change does to the batches, one by one, on every state and if no rule
 /// denies it. The machine has one definition for all of them, by which the queue follows the desk.
 pub fn law_of_the_queue()
     ensures { LawOfTheQueue }

@@ -31,13 +31,13 @@ pub fn perform(
         } => perform_command(desk, alloc, person, number, command)?,
         // An unknown line does nothing.
         Deed::Said { .. } => {}
-        Deed::Happened(fact) => return take_fact(desk, alloc, number, fact),
+        Deed::Happened(fact) => return take_change_fact(desk, alloc, number, fact),
     }
     Ok(no_orders(alloc))
 }
 
 // Does what a fact about a change does that no rule denies.
-fn take_fact(
+fn take_change_fact(
     desk: &mut Desk,
     alloc: Global,
     number: ChangeNo,

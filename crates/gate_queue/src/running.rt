@@ -1,4 +1,4 @@
-ghost use Rattle.std.specs.Prelude.{◌≡◌, ◌≤◌, true, false, is_none, IfOk, IfSome, IsOk};
+ghost use Rattle.std.specs.Prelude.{◌≡◌, true, false, is_none, IfOk, IfSome, IsOk};
 ghost use Rattle.std.specs.List.{list_all};
 ghost use Rattle.gate_rules.specs.View.{is_open_head, is_required};
 ghost use Rattle.gate_state.specs.Lanes.{has_succeeded};
@@ -37,7 +37,7 @@ fn end(branch: Branch, state: State, alloc: Global, why: Why) -> Result<Outcome,
     let State { mut desk, queue } = state;
     let orders = match lone(&queue.lane(branch).running) {
         Some(change) => {
-            spend(&mut desk, branch, change);
+            give_up(&mut desk, branch, change);
             one_notice(alloc, change, why)?
         }
         None => no_orders(alloc),
@@ -50,8 +50,8 @@ fn end(branch: Branch, state: State, alloc: Global, why: Why) -> Result<Outcome,
 }
 
 // Ends what a change was in its batch for.
-fn spend(desk: &mut Desk, branch: Branch, change: ChangeNo)
-    ensures { desk.new ≡ machine.altered desk.old change (machine.spent branch) }
+fn give_up(desk: &mut Desk, branch: Branch, change: ChangeNo)
+    ensures { desk.new ≡ machine.altered desk.old change (machine.given_up branch) }
 {
     match branch {
         Branch::Staging => changing::withdraw(desk, change),
@@ -187,7 +187,7 @@ fn keep_report(
 {
     let State { desk, queue } = state;
     let queue = queue.report(branch, name.copy(alloc)?, report)?;
-    pass_if_so(branch, State { desk, queue }, alloc)
+    if_passed(branch, State { desk, queue }, alloc)
 }
 
 // Whether all required statuses have succeeded.
@@ -216,7 +216,7 @@ fn have_succeeded(reports: &Reports, names: &[Context]) -> bool
 }
 
 // Has the running batch of a branch land, or ends it as a try that has passed, if all required statuses have succeeded.
-fn pass_if_so(branch: Branch, state: State, alloc: Global) -> Result<Outcome, AllocError>
+fn if_passed(branch: Branch, state: State, alloc: Global) -> Result<Outcome, AllocError>
     ensures { IfOk result (λ outcome. outcome ≡ machine.if_passed branch state (queue_specs.lane_of branch state.queue).running) }
 {
     match &state.queue.lane(branch).running {

@@ -1,4 +1,4 @@
-ghost use Rattle.std.specs.Prelude.{◌≡◌, ◌≤◌, Ok, IfOk};
+ghost use Rattle.std.specs.Prelude.{◌≡◌, Ok, IfOk};
 ghost use Rattle.gate_text.specs.Settings.{settings_of};
 ghost use Rattle.gate_state.specs.declared.reply.Order.TheVariants.{Notice};
 ghost use Rattle.gate_state.specs.declared.reply.Why.TheVariants as why;

@@ -1,4 +1,4 @@
-ghost use Rattle.std.specs.Prelude.{◌≡◌, ◌≤◌, ◌<◌, true, false, is_none, Some, IfOk, IfErr, IsNone, IsOk};
+ghost use Rattle.std.specs.Prelude.{◌≡◌, true, false, is_none, Some, IfOk, IfErr, IsNone, IsOk};
 ghost use Rattle.gate_rules.specs.View.{look};
 ghost use Rattle.gate_rules.specs.declared.rule.Rule.{Rule};
 ghost use Rattle.gate_state.specs.declared.act.Act.TheVariants.{On, Other};
@@ -87,7 +87,7 @@ fn act_on_change(
 fn take_fact(state: State, alloc: Global, fact: &Fact) -> Result<Outcome, AllocError>
     requires room { HasRoom state.queue }
     requires holds { IsNone (denial state (Other fact.now)) }
-    ensures value { IfOk result (λ outcome. outcome ≡ machine.happens state fact.now) }
+    ensures value { IfOk result (λ outcome. outcome ≡ machine.fact_done state fact.now) }
     ensures no_memory { DeskTakesNoMemory state.desk (Other fact.now) → QueueTakesNoMemory state (Other fact.now) → IsOk result }
 {
     match fact {

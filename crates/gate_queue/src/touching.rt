@@ -63,7 +63,7 @@ impl Choice for StaysApproved<'_> {
     }
 }
 
-/// The numbers of the batches that an act about a change may change, which has this priority after it: those that have it, and
+/// The numbers of the batches that a deed on a change may change, which has this priority after it: those that have it, and
 /// those that it may join. `AllocError` if there is no memory for them.
 pub fn that_may_join(
     alloc: Global,

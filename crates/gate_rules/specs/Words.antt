@@ -1,9 +1,11 @@
--- The number and the name of each rule, and the name of each level; and the level and the rule of a name.
+-- The number and the name of each rule, and the name of each level and of each role; and the rule, the level and the role of a name.
 use Rattle.std.specs.Prelude.{ℕ, List, [], ◌∷◌, Option, codes}
 use Rattle.std.specs.List.{find}
 use Rattle.std.specs.Str.{bytes_eq}
 use Rattle.gate_rules.specs.declared.role.Level.{Level}
 use Rattle.gate_rules.specs.declared.role.Level.TheVariants.{Anyone, Member, MemberOrDelegate, ReviewerOrDelegate, Reviewer}
+use Rattle.gate_rules.specs.declared.role.Role.{Role}
+use Rattle.gate_rules.specs.declared.role.Role.TheVariants as role
 use Rattle.gate_rules.specs.declared.rule.Rule.{Rule}
 use Rattle.gate_rules.specs.declared.rule.Rule.TheVariants.{UnknownChange, NotACommand, NotPermitted, NotOpen, NothingToRetry, Landing, NoSettings, NoBase, AlreadyApproved, NotApproved, AlreadyTrying, NotTrying, Blocked, TooFewReviews, AlreadyOpen, ChangeLanded, StaleHead, NotMember, OwnChange, BadSettings, ClockBack, NoSuchBatch, SameAsBase, HeadStatus}
 
@@ -75,3 +77,11 @@ abbrev pub rule_called : List ℕ → Option Rule
 rule_called word = find (λ rule. bytes_eq word (word_of rule)) (
     UnknownChange ∷ NotACommand ∷ NotOpen ∷ NothingToRetry ∷ Landing ∷ NoSettings ∷ NoBase ∷ AlreadyApproved ∷ NotApproved
     ∷ AlreadyTrying ∷ NotTrying ∷ AlreadyOpen ∷ ChangeLanded ∷ StaleHead ∷ NotMember ∷ OwnChange ∷ ClockBack ∷ NoSuchBatch ∷ SameAsBase ∷ [])
+
+abbrev pub role_word_of : Role → List ℕ
+role_word_of role.Nobody = codes "nobody"
+role_word_of role.Member = codes "member"
+role_word_of role.Reviewer = codes "reviewer"
+
+abbrev pub role_called : List ℕ → Option Role
+role_called word = find (λ role. bytes_eq word (role_word_of role)) (role.Nobody ∷ role.Member ∷ role.Reviewer ∷ [])

@@ -1,6 +1,6 @@
 ghost use Rattle.std.specs.Prelude.{◌≡◌};
 ghost use Rattle.gate_rules.specs.Rules as rules;
-ghost use Rattle.gate_rules.specs.Words.{level_called, level_word_of};
+ghost use Rattle.gate_rules.specs.Words.{level_called, level_word_of, role_called};
 
 use gate_text::TryCopy;
 use std::alloc::{AllocError, Global};
@@ -49,6 +49,18 @@ impl Role {
         match self {
             Role::Nobody | Role::Member => false,
             Role::Reviewer => true,
+        }
+    }
+
+    /// The role of this name, if there is one: `nobody`, `member` or `reviewer`.
+    pub fn called(word: &str) -> Option<Role>
+        ensures value { result ≡ role_called word.now }
+    {
+        match word {
+            "nobody" => Some(Role::Nobody),
+            "member" => Some(Role::Member),
+            "reviewer" => Some(Role::Reviewer),
+            _ => None,
         }
     }
 }

@@ -68,12 +68,8 @@ fn context_set(rt: &impl Abort, alloc: Global, list: &str) -> ContextSet {
     set
 }
 
-pub(crate) fn role(word: &str) -> Role {
-    match word {
-        "reviewer" => Role::Reviewer,
-        "member" => Role::Member,
-        _ => Role::Nobody,
-    }
+pub(crate) fn role(rt: &impl Abort, word: &str) -> Role {
+    Role::called(word).expect(rt, "a role")
 }
 
 fn phase(word: &str) -> Phase {

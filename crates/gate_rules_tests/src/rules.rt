@@ -46,7 +46,7 @@ fn set(rt: &impl Abort, alloc: Global, desk: &mut Desk, row: &str) {
         "base" => desk.set_base(commit(rt, alloc, rest)),
         "role" => {
             let (person, role_word) = cut(rest);
-            set_role(rt, alloc, desk, person, role(role_word));
+            set_role(rt, alloc, desk, person, role(rt, role_word));
         }
         number_word => put(rt, alloc, desk, number(rt, number_word), rest),
     }

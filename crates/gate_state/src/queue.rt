@@ -1,12 +1,12 @@
-ghost use Rattle.std.specs.Prelude.{◌≡◌, ◌<◌, ◌+◌, ◌++◌, map, true, is_none, IfOk, IsOk, OnOk};
+ghost use Rattle.std.specs.Prelude.{◌≡◌, ◌+◌, ◌++◌, map, true, is_none, IfOk, IsOk, OnOk};
 ghost use Rattle.std.specs.Option.{option_copied};
 ghost use Rattle.gate_state.specs.Lanes as lanes;
 ghost use Rattle.gate_state.specs.Queue as specs;
+ghost use Rattle.gate_state.specs.Room.{HasRoomFor};
 
 use crate::batch::{Batch, Branch, Report};
 use crate::choice::Choice;
 use crate::lane::Lane;
-use crate::waiting::MAX_NUMBER;
 use gate_text::{ChangeNo, Commit, Context};
 use std::alloc::{AllocError, Global};
 
@@ -96,7 +96,7 @@ impl Queue {
         priority: i32,
         size: Option<u32>,
     ) -> Result<Queue, AllocError>
-        requires { self.next < MAX_NUMBER }
+        requires { HasRoomFor 1 self }
         ensures value { IfOk result (λ queue. queue ≡ specs.enqueued size priority change self) }
     {
         let Queue {
@@ -114,7 +114,7 @@ impl Queue {
 
     /// Queues a change as a batch of its own on `Trying`, of priority 0. `AllocError` if there is no memory for it.
     pub fn enqueue_try(self, alloc: Global, change: ChangeNo) -> Result<Queue, AllocError>
-        requires { self.next < MAX_NUMBER }
+        requires { HasRoomFor 1 self }
         ensures value { IfOk result (λ queue. queue ≡ specs.tried change self) }
     {
         let Queue {
@@ -132,7 +132,7 @@ impl Queue {
 
     /// Lets only the chosen changes stay on a branch. `AllocError` if there is no memory for it.
     pub fn take_out<C: Choice>(self, branch: Branch, choice: &C) -> Result<Queue, AllocError>
-        requires { self.next < MAX_NUMBER }
+        requires { HasRoomFor 1 self }
         ensures value { IfOk result (λ queue. queue ≡ specs.taken_out branch (λ change. C.chooses change choice.now) self) }
     {
         let next = self.next;
@@ -144,7 +144,7 @@ impl Queue {
     /// Lets the running batch of a branch wait again, unless it is landing. `AllocError` if there is no memory for it; if no batch
     /// runs there, it takes none.
     pub fn restart(self, branch: Branch) -> Result<Queue, AllocError>
-        requires { self.next < MAX_NUMBER }
+        requires { HasRoomFor 1 self }
         ensures value { IfOk result (λ queue. queue ≡ specs.restarted branch self) }
         ensures no_memory { is_none (specs.lane_of branch self).running ≡ true → IsOk result }
     {
@@ -157,7 +157,7 @@ impl Queue {
     /// Lets the chosen changes of the running batch of a branch wait again, whatever its stage; the others are no longer
     /// queued. `AllocError` if there is no memory for it; if no batch runs there, it takes none.
     pub fn requeue<C: Choice>(self, branch: Branch, choice: &C) -> Result<Queue, AllocError>
-        requires { self.next < MAX_NUMBER }
+        requires { HasRoomFor 1 self }
         ensures value { IfOk result (λ queue. queue ≡ specs.requeued branch (λ change. C.chooses change choice.now) self) }
         ensures no_memory { is_none (specs.lane_of branch self).running ≡ true → IsOk result }
     {
@@ -170,7 +170,7 @@ impl Queue {
     /// Ends the running batch of a branch: one of several changes is split, another is dropped. `AllocError` if there is no
     /// memory for it.
     pub fn fail(self, alloc: Global, branch: Branch) -> Result<Queue, AllocError>
-        requires { self.next < MAX_NUMBER }
+        requires { HasRoomFor 1 self }
         ensures value { IfOk result (λ queue. queue ≡ specs.failed branch self) }
     {
         let next = self.next;

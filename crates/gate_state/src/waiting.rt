@@ -8,8 +8,8 @@ use crate::choice::Choice;
 use gate_text::ChangeNo;
 use std::alloc::{AllocError, Global};
 
-// More than the numbers of batches ever come to.
-pub(crate) const MAX_NUMBER: u64 = 9_000_000_000_000_000;
+/// The greatest next number. That of each batch is below it.
+pub const MAX_NUMBER: u64 = 9_000_000_000_000_000;
 
 pub(crate) fn goes_before(one: &Batch, other: &Batch) -> bool
     ensures { result ≡ lanes.goes_before one.now other.now }

@@ -7,6 +7,7 @@ use Rattle.gate_text.specs.Limits.{KeepsLimits}
 use Rattle.gate_text.specs.Reading.{comment_says}
 use Rattle.gate_state.specs.declared.state.State.{State}
 use Rattle.gate_state.specs.Acts.{ActKeepsLimits}
+use Rattle.gate_state.specs.Room.{is_full}
 use Rattle.gate_state.specs.declared.act.Act.{Act}
 use Rattle.gate_state.specs.declared.act.Act.TheVariants as act
 use Rattle.gate_state.specs.declared.act.Deed.TheVariants.{Happened}
@@ -14,7 +15,7 @@ use Rattle.gate_queue.specs.History.{Entry, Legal, LawOfEntries}
 use Rattle.gate_queue.specs.Machine.{after}
 use Rattle.gate_store.specs.Acts.{EventKeepsLimits, acts_of_event}
 use Rattle.gate_store.specs.Headline.{Each, KeepLimits, LawOfHeadlines, LawOfTelling, Tells, acts_of_all, entry_for, first_in, firsts, or_same}
-use Rattle.gate_store.specs.Run.{NoneMeetsFull, Records, acts_in, acts_meet_full, after_all, after_deliveries, after_delivery, is_full, is_known, meets_full, new_acts}
+use Rattle.gate_store.specs.Run.{NoneMeetsFull, Records, acts_in, acts_meet_full, after_all, after_deliveries, after_delivery, is_known, meets_full, new_acts}
 use Rattle.gate_store.specs.declared.delivery.Delivery.{Delivery}
 use Rattle.gate_store.specs.declared.delivery.Event.{Event}
 use Rattle.gate_store.specs.declared.delivery.Event.TheVariants.{Comment, On, Other}
@@ -30,7 +31,7 @@ neither true b none = cc none
 still_room : (s : State) (acts others : List Act) → acts_meet_full s acts ≡ false → acts_meet_full (after_all s acts) others ≡ false → acts_meet_full s (acts ++ others) ≡ false
 still_room s [] others room later = later
 still_room s (act ∷ acts) others room later =
-    let rooms = neither (is_full s) (acts_meet_full (after s act) acts) room in
+    let rooms = neither (is_full s.queue) (acts_meet_full (after s act) acts) room in
     ap (λ (b : Bool). b || acts_meet_full (after s act) (acts ++ others)) rooms.0 ∙ still_room (after s act) acts others rooms.1 later
 
 new_room : (records : Records) (delivery : Delivery) → meets_full records delivery ≡ false → acts_meet_full records.state (new_acts records delivery) ≡ false
@@ -77,7 +78,7 @@ module _ (entries : LawOfEntries) where
   each_tells : (history : List Entry) (s : State) (acts : List Act) → Legal history s → acts_meet_full s acts ≡ false → All ActKeepsLimits acts → Each Tells history s acts
   each_tells history s [] legal room keep = tt
   each_tells history s (act ∷ acts) legal room keep =
-      let rooms = neither (is_full s) (acts_meet_full (after s act) acts) room in
+      let rooms = neither (is_full s.queue) (acts_meet_full (after s act) acts) room in
       let now : Tells history s act = entries history s act legal (room_for s.queue.next rooms.0) (All-head ActKeepsLimits act acts keep) in
       (now, each_tells (entry_for s act ∷ history) (after s act) acts now.legal rooms.1 (All-tail ActKeepsLimits act acts keep))
 

@@ -4,12 +4,13 @@ use Rattle.gate_state.specs.declared.act.Act.{Act}
 use Rattle.gate_state.specs.declared.reply.Reply.{Reply}
 use Rattle.gate_queue.specs.History.{Entry, EntryTells, Legal, entry_of}
 use Rattle.gate_queue.specs.Machine.{reply_to, after}
+use Rattle.gate_state.specs.Room.{is_full}
 use Rattle.gate_state.specs.declared.state.State.{State}
 use Rattle.gate_store.specs.Headline.{Each, Tells, entry_for, history_after}
-use Rattle.gate_store.specs.Run.{replies_to, after_all, is_full, acts_meet_full}
+use Rattle.gate_store.specs.Run.{replies_to, after_all, acts_meet_full}
 use Rattle.gate_answers.proofs.Places.{here, up_to}
 
-pub full_met : (s : State) (acts : List Act) → is_full s ≡ true → 0 < length acts → acts_meet_full s acts ≡ true
+pub full_met : (s : State) (acts : List Act) → is_full s.queue ≡ true → 0 < length acts → acts_meet_full s acts ≡ true
 full_met s [] full some = absurd (omega (arith, some))
 full_met s (act ∷ acts) full some = ap (λ (b : Bool). b || acts_meet_full (after s act) acts) full
 
@@ -35,7 +36,7 @@ module _ (acts : List Act) (place : ℕ) (act : Act) (at : act ≡ get_or acts p
   told_next old s t replies reply is told =
       append_assoc replies (reply ∷ []) (replies_to t (drop (place + 1) acts)) ∙ rw (is.0, is.1) (ap (λ (rest : List Act). replies ++ replies_to s rest) (sym (here acts place act at within)) ∙ told)
 
-  pub full_next : (old s t : State) → t ≡ after s act → is_full s ≡ false → acts_meet_full s (drop place acts) ≡ acts_meet_full old acts → acts_meet_full t (drop (place + 1) acts) ≡ acts_meet_full old acts
+  pub full_next : (old s t : State) → t ≡ after s act → is_full s.queue ≡ false → acts_meet_full s (drop place acts) ≡ acts_meet_full old acts → acts_meet_full t (drop (place + 1) acts) ≡ acts_meet_full old acts
   full_next old s t is room full = rw is (sym (ap (acts_meet_full s) (here acts place act at within) ∙ ap (λ (b : Bool). b || acts_meet_full (after s act) (drop (place + 1) acts)) room) ∙ full)
 
   pub led_next : (old s t : State) → t ≡ after s act → after_all s (drop place acts) ≡ after_all old acts → after_all t (drop (place + 1) acts) ≡ after_all old acts

@@ -1,5 +1,5 @@
 -- THE RUN: what deliveries are answered, one after the other, and the records after them.
-use Rattle.std.specs.Prelude.{◌+◌, ◌≡◌, ◌⊎◌, ℕ, nat_lt, not, Bool, true, false, ◌||◌, ◌&&◌, ⊤, List, [], ◌∷◌, Option, None, Some, is_some, Result, Ok, Err, if◌then◌else◌}
+use Rattle.std.specs.Prelude.{◌≡◌, ◌⊎◌, ℕ, not, Bool, true, false, ◌||◌, ◌&&◌, ⊤, List, [], ◌∷◌, Option, None, Some, is_some, Result, Ok, Err, if◌then◌else◌}
 use Rattle.std.specs.Cmp.Lexicographic.{slice_cmp}
 use Rattle.std.specs.FinMap as finite
 use Rattle.std.specs.FinMap.{FinMap}
@@ -7,6 +7,7 @@ use Rattle.std.specs.Option.{unwrap_or}
 use Rattle.std.specs.Ordering.{nat_cmp}
 use Rattle.gate_state.specs.declared.act.Act.{Act}
 use Rattle.gate_state.specs.declared.reply.Reply.{Reply}
+use Rattle.gate_state.specs.Room.{is_full}
 use Rattle.gate_queue.specs.Machine.{reply_to, after}
 use Rattle.gate_queue.specs.declared.fault.Fault.{Fault}
 use Rattle.gate_queue.specs.declared.fault.Fault.TheVariants.{Memory, Store, Full, Foreign}
@@ -66,14 +67,10 @@ abbrev pub after_deliveries : Records → List Delivery → Records
 after_deliveries records [] = records
 after_deliveries records (delivery ∷ deliveries) = after_deliveries (after_delivery records delivery) deliveries
 
--- FAULTS. No act steps on a full gate. It has no room for the four numbers that an act may use.
-abbrev pub is_full : State → Bool
-is_full s = nat_lt 9_000_000_000_000_000 (s.queue.next + 4)
-
--- whether one of the acts meets a full gate, after those before it
+-- FAULTS. No act steps on a full gate: whether one of the acts meets it, after those before it
 abbrev pub acts_meet_full : State → List Act → Bool
 acts_meet_full s [] = false
-acts_meet_full s (act ∷ acts) = is_full s || acts_meet_full (after s act) acts
+acts_meet_full s (act ∷ acts) = is_full s.queue || acts_meet_full (after s act) acts
 
 -- A repeated delivery, and one without acts, never meets it.
 abbrev pub meets_full : Records → Delivery → Bool

@@ -1,10 +1,11 @@
 ghost use Rattle.std.specs.Prelude.{◌≡◌, ◌<◌, List, length, Err, IsTrue, IfOk, IfErr};
 ghost use Rattle.std.specs.List.{All};
 ghost use Rattle.gate_state.specs.Acts.{ActKeepsLimits};
+ghost use Rattle.gate_state.specs.Room.{is_full};
 ghost use Rattle.gate_queue.specs.Before.{IsBefore};
 ghost use Rattle.gate_queue.specs.History.{Entry, Legal};
 ghost use Rattle.gate_store.specs.Headline.{Each, Tells};
-ghost use Rattle.gate_store.specs.Run.{AgreesOnFull, IsOfActs, acts_meet_full, is_full, replies_to, after_all};
+ghost use Rattle.gate_store.specs.Run.{AgreesOnFull, IsOfActs, acts_meet_full, replies_to, after_all};
 
 use gate_answers::Answer;
 use gate_queue::{Act, Before, Fault, Gate};
@@ -24,7 +25,7 @@ pub fn step_all(gate: Gate, alloc: Global, acts: &[Act]) -> Result<(Gate, Before
 
     // The faults.
     ensures full { AgreesOnFull result (acts_meet_full gate acts.now) }
-    ensures at_once { IsTrue (is_full gate) → 0 < length acts.now → result ≡ Err Fault.Full }
+    ensures at_once { IsTrue (is_full gate.queue) → 0 < length acts.now → result ≡ Err Fault.Full }
     ensures cause { IfErr result IsOfActs }
 {
     let mut before = Before::of(alloc, &gate);

@@ -25,10 +25,6 @@ pub(crate) fn commit(rt: &impl Abort, alloc: Global, digit: &str) -> Commit {
     Commit::read(text.as_str()).expect(rt, "a commit")
 }
 
-pub(crate) fn role(word: &str) -> Role {
-    match word {
-        "reviewer" => Role::Reviewer,
-        "member" => Role::Member,
-        _ => Role::Nobody,
-    }
+pub(crate) fn role(rt: &impl Abort, word: &str) -> Role {
+    Role::called(word).expect(rt, "a role")
 }

@@ -38,7 +38,7 @@ fn read_role(rt: &impl Abort, alloc: Global, person: &str, role_word: &str) -> A
 {
     Act::Other(Fact::Role {
         person: name(rt, alloc, person),
-        role: role(role_word),
+        role: role(rt, role_word),
     })
 }
 
@@ -142,15 +142,6 @@ fn read_review(rt: &impl Abort, alloc: Global, person: &str, rest: &str) -> Chan
     }
 }
 
-fn state(word: &str) -> StatusState {
-    match word {
-        "success" => StatusState::Success,
-        "failure" => StatusState::Failure,
-        "error" => StatusState::Error,
-        _ => StatusState::Pending,
-    }
-}
-
 fn read_status(rt: &impl Abort, alloc: Global, digit: &str, rest: &str) -> Act
     ensures { ActKeepsLimits result }
 {
@@ -158,7 +149,7 @@ fn read_status(rt: &impl Abort, alloc: Global, digit: &str, rest: &str) -> Act
     Act::Other(Fact::Status {
         commit: commit(rt, alloc, digit),
         name: context(rt, alloc, name),
-        state: state(state_word),
+        state: StatusState::called(state_word).expect(rt, "what a status says"),
     })
 }
 

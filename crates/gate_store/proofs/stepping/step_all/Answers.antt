@@ -1,14 +1,12 @@
-use Rattle.std.proofs.Common.{◌+◌, rules, inl, refl, sym, ◌∙◌, ap, ◌≡◌, ◌<◌, ℕ, false, ltb, ◌++◌, [], ◌∷◌, arith}
-use Rattle.std.proofs.lemmas.Bool.Decides.{nat_tests}
+use Rattle.std.proofs.Common.{rules, inl, refl, sym, ◌∙◌, ap, ◌≡◌, false, ◌++◌, [], ◌∷◌}
 use Rattle.std.proofs.lemmas.Bool.{true≢false}
 use Rattle.std.proofs.lemmas.List.{drop_all}
 use Rattle.std.proofs.lemmas.Result.{err_from_is_err_and}
-use Rattle.gate_store.specs.Run.{is_full, acts_meet_full}
+use Rattle.gate_state.specs.Room.{is_full}
+use Rattle.gate_state.specs.declared.state.State.{State}
+use Rattle.gate_store.specs.Run.{acts_meet_full}
 use Rattle.gate_store.proofs.Telling.{full_met, told_next, full_next, led_next, led_more, tells_next}
 use Rattle.gate_store.proofs.stepping.step_all.Goals as goal
-
-not_past : (limit n : ℕ) → (limit < n → ⊥) → ltb limit n ≡ false
-not_past limit n within = grind (arith, nat_tests)
 
 pub loop-act-preserved : goal.loop-act-preserved
 loop-act-preserved c =
@@ -23,11 +21,11 @@ loop-act-preserved c =
     let reply = c.in_ok-next.reply in
     let step = c.in_ok-next.ensures.step in
     let pushed : c.push.new.self ≡ replies ++ reply ∷ [] = search rules in
-    let room : is_full s ≡ false = not_past 9_000_000_000_000_000 (s.queue.next + 4) (λ past. cc (c.in_ok-next.ensures.full.1 past)) in
+    let room : is_full s.queue ≡ false = search rules in
     record {
       told = rw pushed (told_next acts place act c.act-item.is within old s t replies reply step c.loop-act.invariant.told);
       full = full_next acts place act c.act-item.is within old s t step.1 room c.loop-act.invariant.full;
-      first = λ full. absurd (true≢false (sym full ∙ ap is_full (sym (c.loop-act.invariant.first full)) ∙ room));
+      first = λ full. absurd (true≢false (sym full ∙ ap (λ (s : State). is_full s.queue) (sym (c.loop-act.invariant.first full)) ∙ room));
       led = led_next acts place act c.act-item.is within old s t step.1 c.loop-act.invariant.led;
       history = λ history legal.
           tells_next acts place act c.act-item.is within old s t reply (step.0, step.1) c.loop-act.invariant.so_far c.in_ok-next.ensures.history history legal (c.loop-act.invariant.history history legal);

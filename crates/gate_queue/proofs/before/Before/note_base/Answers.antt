@@ -1,5 +1,6 @@
 use Rattle.std.proofs.Common.{◌<◌, ◌||◌, inl, inr, subst, ap, ◌∙◌}
-use Rattle.gate_queue.proofs.Collecting.{either, lists-so}
+use Rattle.std.proofs.lemmas.Bool.{or_cases}
+use Rattle.gate_queue.proofs.Collecting.{lists-so}
 use Rattle.gate_queue.proofs.Noting.{still_noted}
 use Rattle.gate_queue.proofs.before.Before.note_base.Goals as goal
 use Rattle.gate_queue.specs.MayChange.{is_in_front, one_numbered, stays_tried}
@@ -16,7 +17,7 @@ returns-clause-has c =
       changes = λ number so. still_noted _ _ _ (more.changes number) (front.changes number so);
       batches = λ number below so.
           let within = subst (λ next. number < next) more.next below in
-          elim (either (is_in_front s.queue.staging number || is_in_front s.queue.trying number) (one_numbered (loses (stays_tried s)) (batches_of s.queue.trying) number) so) [
+          elim (or_cases (is_in_front s.queue.staging number || is_in_front s.queue.trying number) (one_numbered (loses (stays_tried s)) (batches_of s.queue.trying) number) so) [
             | inl ahead ↦ still_noted _ _ _ (more.batches number within) (front.batches number within ahead)
             | inr tries ↦ c.in_ok-note_batches.ensures.has number within
                 (ap (lists number) (c.as_slice.ensures.value ∙ c.in_ok-tries.ensures) ∙ lists-so (loses (stays_tried s)) number (batches_of s.queue.trying) ∙ tries)

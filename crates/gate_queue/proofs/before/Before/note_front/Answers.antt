@@ -1,5 +1,6 @@
 use Rattle.std.proofs.Common.{◌<◌, inl, inr, subst, ap, ◌∙◌}
-use Rattle.gate_queue.proofs.Collecting.{either, fronts-lists}
+use Rattle.std.proofs.lemmas.Bool.{or_cases}
+use Rattle.gate_queue.proofs.Collecting.{fronts-lists}
 use Rattle.gate_queue.proofs.Noting.{still_noted}
 use Rattle.gate_queue.proofs.before.Before.note_front.Goals as goal
 use Rattle.gate_queue.specs.MayChange.{is_run}
@@ -13,7 +14,7 @@ returns-clause-has c =
     let third = c.in_ok-note_batches.ensures in
     record {
       people = λ name so. cc so;
-      changes = λ number so. elim (either (is_run number s.queue.staging) (is_run number s.queue.trying) so) [
+      changes = λ number so. elim (or_cases (is_run number s.queue.staging) (is_run number s.queue.trying) so) [
         | inl one ↦ still_noted _ _ _ (third.more.changes number) (still_noted _ _ _ (second.more.changes number) (first.has number one))
         | inr other ↦ still_noted _ _ _ (third.more.changes number) (second.has number other)
       ];

@@ -1,8 +1,9 @@
 use Rattle.std.proofs.Common.{◌≡◌, ◌||◌, Bool, true, false, if◌then◌else◌, inl, inr, sym, subst, ap, ◌∙◌}
 use Rattle.std.specs.FinMap as finite
 use Rattle.std.specs.Option.{option_map_or}
+use Rattle.std.proofs.lemmas.Bool.{or_cases}
 use Rattle.gate_queue.specs.Vocabulary.{is_open_at}
-use Rattle.gate_queue.proofs.Collecting.{either, listed-other}
+use Rattle.gate_queue.proofs.Collecting.{listed-other}
 use Rattle.gate_queue.proofs.Noting.{still_noted}
 use Rattle.gate_queue.proofs.before.Before.note_status.Goals as goal
 use Rattle.gate_queue.specs.Before.{HasNoted}
@@ -29,7 +30,7 @@ returns-clause-has c =
     let front = c.in_ok-note_front.ensures in
     subst (λ (tested : Bool). HasNoted (with_heads s c.args.commit (if tested then in_front s else no_parts)) c.note_front.new.self) (sym staged) (record {
       people = λ name so. cc so;
-      changes = λ number so. elim (either (is_run number s.queue.staging || is_run number s.queue.trying) (option_map_or (is_open_at c.args.commit) (finite.get s.desk.changes number) false) so) [
+      changes = λ number so. elim (or_cases (is_run number s.queue.staging || is_run number s.queue.trying) (option_map_or (is_open_at c.args.commit) (finite.get s.desk.changes number) false) so) [
         | inl runs ↦ front.has.changes number runs
         | inr is_there ↦
             still_noted _ _ _ (front.more.changes number)
