@@ -23,10 +23,12 @@ pub mod Next
 pub mod Noting
 pub mod Only
 pub mod Premises
+pub mod Progress
 pub mod Sets
 pub mod States
 pub mod Steps
 pub mod Telling
+pub mod TestGoesOn
 pub mod Tested
 pub mod Testing
 pub mod Told

@@ -1,6 +1,7 @@
 ghost use Rattle.gate_queue.specs.Following.{LawOfTheQueue};
 ghost use Rattle.gate_queue.specs.History.{LawOfEntries, LawOfHistories};
 ghost use Rattle.gate_queue.specs.MayChange.{LawOfUntouched};
+ghost use Rattle.gate_queue.specs.Progress.{LawOfFirsts, LawOfLandings, LawOfPassing, LawOfStagings, LawOfTesting, LawOfTheTested, LawOfTimeOuts};
 ghost use Rattle.gate_queue.specs.States.{LawOfStates};
 ghost use Rattle.gate_queue.specs.Words.{LawOfSince, LawOfTheLast, LawOfSets, LawOfTests};
 
@@ -58,4 +59,44 @@ pub fn law_of_entries()
 /// next one, and the settings are as they were, unless `may_change` names them; and the next number hasn't become smaller.
 pub fn law_of_untouched()
     ensures { LawOfUntouched }
+{}
+
+/// The law of the first in service: if no batch runs on a branch, the next tick orders its first batch to be staged on the base.
+pub fn law_of_firsts()
+    ensures { LawOfFirsts }
+{}
+
+/// The law of stagings: a batch that the host was ordered to stage on `Staging` is tested from the moment on at which the host tells of its
+/// staging commit. No rule denies that news, unless the commit is the base.
+pub fn law_of_stagings()
+    ensures { LawOfStagings }
+{}
+
+/// The law of testing: a batch that is tested is tested on, over all that may come meanwhile, until all required names have succeeded.
+pub fn law_of_testing()
+    ensures { LawOfTesting }
+{}
+
+/// The law of passing: the success of a required name after which all required names have succeeded orders the host to land the commit
+/// that was tested, on the base, and no rule denies it.
+pub fn law_of_passing()
+    ensures { LawOfPassing }
+{}
+
+/// The law of the tested: over whatever may come while a batch is tested, the success after which all required names have succeeded orders
+/// the host to land the commit that was tested, on the base.
+pub fn law_of_the_tested()
+    ensures { LawOfTheTested }
+{}
+
+/// The law of landings: when the commit of a batch that is to land is reported as the base, its changes have landed, none of them is
+/// approved any longer, and `Staging` is free. No rule denies that report, unless the commit is the base already.
+pub fn law_of_landings()
+    ensures { LawOfLandings }
+{}
+
+/// The law of time-outs: a batch that the host stages or tests runs no longer after the first tick that comes when the time of the
+/// settings is over, and no rule denies that tick. What is to land has no such time.
+pub fn law_of_time_outs()
+    ensures { LawOfTimeOuts }
 {}
