@@ -8,6 +8,7 @@ pub mod Cuts
 pub mod Desks
 pub mod Doing
 pub mod Facts
+pub mod Failing
 pub mod Fitness
 pub mod Following
 pub mod Growing
@@ -15,6 +16,7 @@ pub mod Held
 pub mod Keeping
 pub mod Landing
 pub mod Lanes
+pub mod Lasting
 pub mod Law
 pub mod Limits
 pub mod Meaning
@@ -28,7 +30,6 @@ pub mod Sets
 pub mod States
 pub mod Steps
 pub mod Telling
-pub mod TestGoesOn
 pub mod Tested
 pub mod Testing
 pub mod Told

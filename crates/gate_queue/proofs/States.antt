@@ -22,6 +22,7 @@ use Rattle.gate_queue.specs.Machine.{empty_state, heads_told, broken, denial, me
 use Rattle.gate_state.specs.Queue as specs
 use Rattle.gate_state.specs.Service.{IsInOrder, QueueIsInOrder, IsAlone, AreAlone}
 use Rattle.gate_state.specs.declared.batch.Stage.TheVariants.{Staged, Landing}
+use Rattle.gate_queue.specs.Progress.{CanCome, after_all}
 use Rattle.gate_queue.proofs.Choosing.{either_way, by_option}
 use Rattle.gate_queue.proofs.Changes.{all_look, lone_rest, lone_same, lone_ends}
 use Rattle.gate_queue.proofs.Fitness.{passed}
@@ -470,6 +471,11 @@ still_state s is room act limits = by (denial s act) refl where
       let next = done_holds s means (record { desk = is.desk; queue = is.queue }) (meaning_limits s is act limits) both.0 both.1 in
       record { desk = next.desk; low = omega (arith, (queue_grows s means).next, is.low); high = omega (arith, (queue_grows s means).few, room); queue = next.queue }
   by (Some rule) denied = is
+
+-- and acts that may come, one after the other, lead to a state
+pub still_states : (s : State) (acts : List Act) → IsState s → CanCome s acts → IsState (after_all s acts)
+still_states s [] is can = is
+still_states s (act ∷ acts) is (room, limits, can) = still_states (after s act) acts (still_state s is room act limits) can
 
 -- AN EMPTY STATE
 empty_in_order : (next : ℕ) → IsInOrder next empty_lane

@@ -15,7 +15,7 @@ use crate::fault::Fault;
 use crate::judging::rule_of;
 use crate::stepping::step;
 use gate_rules::{Change, Desk, Rule};
-use gate_state::{Act, Batch, MAX_NUMBER, Queue, Reply, State};
+use gate_state::{Act, Batch, MAX_NEXT, Queue, Reply, State};
 use gate_text::ChangeNo;
 use std::alloc::{AllocError, Global};
 use std::marker::Model;
@@ -95,7 +95,7 @@ impl Gate {
     pub fn is_full(&self) -> bool
         ensures value { result ≡ is_full self.now.queue }
     {
-        MAX_NUMBER < self.state.queue.next + NEEDED
+        MAX_NEXT < self.state.queue.next + NEEDED
     }
 
     /// Lets an act that keeps its limits step, and answers the gate after it and the reply. `Full` if the next number is

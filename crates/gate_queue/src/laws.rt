@@ -1,7 +1,7 @@
 ghost use Rattle.gate_queue.specs.Following.{LawOfTheQueue};
 ghost use Rattle.gate_queue.specs.History.{LawOfEntries, LawOfHistories};
 ghost use Rattle.gate_queue.specs.MayChange.{LawOfUntouched};
-ghost use Rattle.gate_queue.specs.Progress.{LawOfFirsts, LawOfLandings, LawOfPassing, LawOfStagings, LawOfTesting, LawOfTheTested, LawOfTimeOuts};
+ghost use Rattle.gate_queue.specs.Progress.{LawOfFirsts, LawOfFreeing, LawOfLandings, LawOfPassing, LawOfStagings, LawOfTimeOuts, LawOfWaiting};
 ghost use Rattle.gate_queue.specs.States.{LawOfStates};
 ghost use Rattle.gate_queue.specs.Words.{LawOfSince, LawOfTheLast, LawOfSets, LawOfTests};
 
@@ -72,9 +72,12 @@ pub fn law_of_stagings()
     ensures { LawOfStagings }
 {}
 
-/// The law of testing: a batch that is tested is tested on, over all that may come meanwhile, until all required names have succeeded.
-pub fn law_of_testing()
-    ensures { LawOfTesting }
+/// The law of waiting: the batch that runs on `Staging` runs on over all that lets it run, until it passes, and the base stays. What does
+/// (`lets_run`): whatever a rule denies, roles, settings that equal those of now, news of tries, statuses that aren't a failure of it,
+/// ticks before its time is over, and deeds that leave approval and priority of its changes. What is to land waits for a base or a refusal
+/// alone.
+pub fn law_of_waiting()
+    ensures { LawOfWaiting }
 {}
 
 /// The law of passing: the success of a required name after which all required names have succeeded orders the host to land the commit
@@ -83,16 +86,16 @@ pub fn law_of_passing()
     ensures { LawOfPassing }
 {}
 
-/// The law of the tested: over whatever may come while a batch is tested, the success after which all required names have succeeded orders
-/// the host to land the commit that was tested, on the base.
-pub fn law_of_the_tested()
-    ensures { LawOfTheTested }
-{}
-
 /// The law of landings: when the commit of a batch that is to land is reported as the base, its changes have landed, none of them is
 /// approved any longer, and `Staging` is free. No rule denies that report, unless the commit is the base already.
 pub fn law_of_landings()
     ensures { LawOfLandings }
+{}
+
+/// The law of freeing: the batch that runs on `Staging` runs no longer after a failure of it, and a tick then orders the next one. None runs
+/// after another base or a refusal to land it. No rule denies these.
+pub fn law_of_freeing()
+    ensures { LawOfFreeing }
 {}
 
 /// The law of time-outs: a batch that the host stages or tests runs no longer after the first tick that comes when the time of the

@@ -21,9 +21,9 @@ pub use before::Before;
 pub use fault::Fault;
 pub use gate::{Gate, empty_history_is_legal};
 pub use laws::{
-    law_of_entries, law_of_firsts, law_of_histories, law_of_landings, law_of_passing, law_of_sets,
-    law_of_since, law_of_stagings, law_of_states, law_of_testing, law_of_tests, law_of_the_last,
-    law_of_the_queue, law_of_the_tested, law_of_time_outs, law_of_untouched,
+    law_of_entries, law_of_firsts, law_of_freeing, law_of_histories, law_of_landings,
+    law_of_passing, law_of_sets, law_of_since, law_of_stagings, law_of_states, law_of_tests,
+    law_of_the_last, law_of_the_queue, law_of_time_outs, law_of_untouched, law_of_waiting,
 };
 pub use settings::LosesApproval;
 

@@ -136,13 +136,18 @@ fn heads_on(desk: &Desk, alloc: Global, changes: &[ChangeNo]) -> Result<Heads, A
     ensures { IfOk result (λ heads. heads ≡ filter_map (machine.head_on desk.now) changes.now) }
 {
     let mut heads = Vec::new(alloc);
-    for number in changes {
-        if let Some(change) = desk.change(*number) {
-            heads.push(Head {
-                change: *number,
-                head: change.head,
-            })?;
+    for change in changes {
+        if let Some(head) = head_on(desk, *change) {
+            heads.push(head)?;
         }
     }
     Ok(Heads::from(heads))
+}
+
+// A change with its head, if it is known.
+fn head_on(desk: &Desk, change: ChangeNo) -> Option<Head>
+    ensures { result ≡ machine.head_on desk.now change }
+{
+    let head = desk.change(change)?.head;
+    Some(Head { change, head })
 }

@@ -10,7 +10,7 @@ use crate::batch::Branch;
 use crate::lane::Lane;
 use crate::queue::Queue;
 use crate::state::State;
-use crate::waiting::MAX_NUMBER;
+use crate::waiting::MAX_NEXT;
 use changes::fits_desk;
 use gate_rules::Desk;
 use numbers::fits_order;
@@ -27,7 +27,7 @@ pub(crate) fn fits(state: &State) -> bool
 fn fits_next(next: u64) -> bool
     ensures { result ≡ checks.fits_next next }
 {
-    next >= 1 && next <= MAX_NUMBER
+    next >= 1 && next <= MAX_NEXT
 }
 
 fn fits_queue(desk: &Desk, queue: &Queue) -> bool

@@ -6,7 +6,7 @@ ghost use Rattle.gate_state.specs.Lanes as lanes;
 use crate::batch::{Batch, Report, Reports, Stage};
 use crate::choice::Choice;
 use crate::waiting::{
-    MAX_NUMBER, enter, enter_alone, has_all, keep, last_fresh, last_fresh_beside, leave, put_back,
+    MAX_NEXT, enter, enter_alone, has_all, keep, last_fresh, last_fresh_beside, leave, put_back,
     split_into,
 };
 use gate_text::{ChangeNo, Commit, Context, List, TryCopy};
@@ -171,7 +171,7 @@ impl Lane {
     /// Ends the running batch: one of several changes is split, and its halves wait again, under `number` and the next one;
     /// another is dropped. With it comes how many numbers were used. `AllocError` if there is no memory for it.
     pub fn fail(self, alloc: Global, number: u64) -> Result<(Lane, u64), AllocError>
-        requires { number < MAX_NUMBER }
+        requires { number < MAX_NEXT }
         ensures lane { IfOk result (λ done. done.0 ≡ lanes.failed number self) }
         ensures uses { IfOk result (λ done. done.1 ≡ lanes.failed_uses self) }
     {

@@ -23,4 +23,4 @@ pub use moment::Moment;
 pub use queue::Queue;
 pub use reply::{Head, Heads, Order, Orders, Reply, Why};
 pub use state::State;
-pub use waiting::MAX_NUMBER;
+pub use waiting::MAX_NEXT;

@@ -9,7 +9,7 @@ use gate_text::ChangeNo;
 use std::alloc::{AllocError, Global};
 
 /// The greatest next number. That of each batch is below it.
-pub const MAX_NUMBER: u64 = 9_000_000_000_000_000;
+pub const MAX_NEXT: u64 = 9_000_000_000_000_000;
 
 pub(crate) fn goes_before(one: &Batch, other: &Batch) -> bool
     ensures { result ≡ lanes.goes_before one.now other.now }
@@ -278,7 +278,7 @@ pub(crate) fn split_into(
     number: u64,
     batch: &Batch,
 ) -> Result<(), AllocError>
-    requires { number < MAX_NUMBER }
+    requires { number < MAX_NEXT }
     ensures { OnOk result (waiting.new.items ≡ lanes.split_into number batch.now waiting.old.items) }
 {
     let first = first_half(alloc, number, batch)?;

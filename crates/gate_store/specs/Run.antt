@@ -9,6 +9,7 @@ use Rattle.gate_state.specs.declared.act.Act.{Act}
 use Rattle.gate_state.specs.declared.reply.Reply.{Reply}
 use Rattle.gate_state.specs.Room.{is_full}
 use Rattle.gate_queue.specs.Machine.{reply_to, after}
+pub use Rattle.gate_queue.specs.Progress.{after_all}
 use Rattle.gate_queue.specs.declared.fault.Fault.{Fault}
 use Rattle.gate_queue.specs.declared.fault.Fault.TheVariants.{Memory, Store, Full, Foreign}
 use Rattle.gate_state.specs.declared.state.State.{State}
@@ -30,15 +31,11 @@ is_known records id = is_some (kept_under records id)
 abbrev pub with_answer : Records → State → List ℕ → List Reply → Records
 with_answer records state id answer = record { state = state; kept = finite.insert records.kept id answer }
 
--- ACTS IN ORDER: their replies, and the state after all. An act sees what those before it did, and one that is denied doesn't
--- stop those after it.
+-- ACTS IN ORDER: their replies, and the state after all (`after_all`). An act sees what those before it did, and one that is denied
+-- doesn't stop those after it.
 abbrev pub replies_to : State → List Act → List Reply
 replies_to s [] = []
 replies_to s (act ∷ acts) = reply_to s act ∷ replies_to (after s act) acts
-
-abbrev pub after_all : State → List Act → State
-after_all s [] = s
-after_all s (act ∷ acts) = after_all (after s act) acts
 
 -- A DELIVERY whose identifier is known is answered what is kept, and changes nothing. Else its acts step in order, and their
 -- replies are the answer, which is kept.

@@ -1,0 +1,7 @@
+mod Confined
+mod Courses
+mod Enduring
+mod Halving
+mod Sparing
+mod Successes
+mod Turns
