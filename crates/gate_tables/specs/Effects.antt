@@ -17,8 +17,29 @@ use Rattle.gate_tables.specs.Schemas.{HasTables, lacks_wanted, schema_of_version
 use Rattle.sqlite.specs.Effect.{Database, IsDatabase}
 use Rattle.sqlite.specs.Order.{Row}
 use Rattle.sqlite.specs.Schema.{Schema}
-use Rattle.sqlite.specs.State.{State, Executes, IsLive, Shows}
+use Rattle.sqlite.specs.State.{State, Executes, HasCleanDisk, IsLive, IsUnchanged, KeepsCommit, Shows}
 use Rattle.sqlite.specs.Tree.{Trees}
+
+-- A call leaves a connection open only if it was, and forgets no fault.
+pub record Lasts (old new : State) : Type 0 where
+  pub was : HasCleanDisk new → IsTrue new.is_open → IsTrue old.is_open
+  pub clean : HasCleanDisk new → HasCleanDisk old
+  pub shield : old.IsShielded → new.IsShielded
+
+-- so it is of one in a transaction, which commits nothing
+pub record GoesOn (old new : State) : Type 0 where
+  pub lasts : Lasts old new
+  pub kept : HasCleanDisk new → KeepsCommit old new
+
+-- and of one that only asks, if what it asks is understood
+pub record Asks (IsUnderstood : Type 0) (old new : State) : Type 0 where
+  pub lasts : Lasts old new
+  pub kept : HasCleanDisk new → IsUnderstood → KeepsCommit old new
+
+-- What the trees hold was told, and nothing changed.
+pub record Tells {A : Type 0} (Holds : Trees → A → Type 0) (old new : State) (told : A) : Type 0 where
+  pub holds : Holds old.now.trees told
+  pub still : IsUnchanged old new
 
 -- a statement ran in a transaction, and ended nothing; it tells how many rows it wrote
 abbrev pub RanOn : ℕ → List ℕ → Row → State → State → Type 0

@@ -2,11 +2,11 @@ ghost use Rattle.std.specs.Prelude.{◌≡◌, false, map, IsTrue, IfOk, OnOk};
 ghost use Rattle.std.specs.FinMap.{get};
 ghost use Rattle.gate_tables.specs.Contents.{answers_at};
 ghost use Rattle.gate_tables.specs.Database.{all_schema};
-ghost use Rattle.gate_tables.specs.Effects.{Adds, IsInside, IsReady, Leaves, Reads};
+ghost use Rattle.gate_tables.specs.Effects.{Adds, Asks, GoesOn, IsInside, IsReady, Lasts, Leaves, Reads, Tells};
 ghost use Rattle.gate_tables.specs.Forms.{answers};
 ghost use Rattle.gate_tables.specs.Tables.{AreAnswers, answer_of};
 ghost use Rattle.sqlite.specs.Held.{state};
-ghost use Rattle.sqlite.specs.State.{HasCleanDisk, IsUnchanged, KeepsCommit};
+ghost use Rattle.sqlite.specs.State.{HasCleanDisk};
 
 use crate::fault::TablesFault;
 use crate::rowids::check_rowids;
@@ -24,9 +24,7 @@ pub(crate) fn put_answer<S: Alter>(
     ensures same_reference { tx.new.conn.ghost_name ≡ tx.old.conn.ghost_name }
     ensures added { HasCleanDisk (state S.Store tx.new.conn.now) → OnOk result (IsInside all_schema (state S.Store tx.old.conn.now)
         → IsInside all_schema (state S.Store tx.new.conn.now) × Adds answers (id.now, body.now) (state S.Store tx.old.conn.now).now.trees (state S.Store tx.new.conn.now).now.trees) }
-    ensures kept { HasCleanDisk (state S.Store tx.new.conn.now) → KeepsCommit (state S.Store tx.old.conn.now) (state S.Store tx.new.conn.now) }
-    ensures clean { HasCleanDisk (state S.Store tx.new.conn.now) → HasCleanDisk (state S.Store tx.old.conn.now) }
-    ensures shield { (state S.Store tx.old.conn.now).IsShielded → (state S.Store tx.new.conn.now).IsShielded }
+    ensures goes_on { GoesOn (state S.Store tx.old.conn.now) (state S.Store tx.new.conn.now) }
 {
     run(
         tx,
@@ -53,14 +51,8 @@ pub(crate) fn read_answers<S: Alter>(
 ) -> Result<List<(Text, Text)>, TablesFault>
     ensures same_reference { tx.new.conn.ghost_name ≡ tx.old.conn.ghost_name }
     ensures read { HasCleanDisk (state S.Store tx.new.conn.now) → (state S.Store tx.old.conn.now).now.schema ≡ all_schema
-        → IfOk result (Reads answers (state S.Store tx.old.conn.now).now.trees) }
-    ensures still { HasCleanDisk (state S.Store tx.new.conn.now) → (state S.Store tx.old.conn.now).now.schema ≡ all_schema
-        → OnOk result (IsUnchanged (state S.Store tx.old.conn.now) (state S.Store tx.new.conn.now)) }
-    ensures kept { HasCleanDisk (state S.Store tx.new.conn.now) → (state S.Store tx.old.conn.now).now.schema ≡ all_schema
-        → KeepsCommit (state S.Store tx.old.conn.now) (state S.Store tx.new.conn.now) }
-    ensures was { HasCleanDisk (state S.Store tx.new.conn.now) → IsTrue (state S.Store tx.new.conn.now).is_open → IsTrue (state S.Store tx.old.conn.now).is_open }
-    ensures clean { HasCleanDisk (state S.Store tx.new.conn.now) → HasCleanDisk (state S.Store tx.old.conn.now) }
-    ensures shield { (state S.Store tx.old.conn.now).IsShielded → (state S.Store tx.new.conn.now).IsShielded }
+        → IfOk result (Tells (Reads answers) (state S.Store tx.old.conn.now) (state S.Store tx.new.conn.now)) }
+    ensures asks { Asks ((state S.Store tx.old.conn.now).now.schema ≡ all_schema) (state S.Store tx.old.conn.now) (state S.Store tx.new.conn.now) }
 {
     let rows = select_inside(tx, "SELECT id, body, rowid FROM answers")?;
     check_rowids(rows.as_slice(), 2)?;
@@ -73,9 +65,7 @@ fn ask<S: Alter>(conn: &mut Connection<S>, id: &str) -> Result<Vec<Row>, TablesF
     ensures mode { conn.new.in_transaction ≡ false }
     ensures found { HasCleanDisk (state S.Store conn.new) → IsReady (state S.Store conn.old) → AreAnswers (state S.Store conn.old).now.trees → IfOk result (λ rows. answer_of rows.items ≡ get (answers_at (state S.Store conn.old).now.trees) id.now) }
     ensures left { HasCleanDisk (state S.Store conn.new) → IsReady (state S.Store conn.old) → Leaves (state S.Store conn.old) (state S.Store conn.new) }
-    ensures was { HasCleanDisk (state S.Store conn.new) → IsTrue (state S.Store conn.new).is_open → IsTrue (state S.Store conn.old).is_open }
-    ensures clean { HasCleanDisk (state S.Store conn.new) → HasCleanDisk (state S.Store conn.old) }
-    ensures shield { (state S.Store conn.old).IsShielded → (state S.Store conn.new).IsShielded }
+    ensures lasts { Lasts (state S.Store conn.old) (state S.Store conn.new) }
     ensures stays { HasCleanDisk (state S.Store conn.new) → OnOk result (IsTrue (state S.Store conn.new).is_open) }
 {
     select(conn, "SELECT body FROM answers WHERE id = ?1", params![id])
@@ -100,9 +90,7 @@ pub(crate) fn find_answer<S: Alter>(
     ensures mode { conn.new.in_transaction ≡ false }
     ensures found { HasCleanDisk (state S.Store conn.new) → IsReady (state S.Store conn.old) → AreAnswers (state S.Store conn.old).now.trees → IfOk result (λ answer. answer ≡ get (answers_at (state S.Store conn.old).now.trees) id.now) }
     ensures left { HasCleanDisk (state S.Store conn.new) → IsReady (state S.Store conn.old) → Leaves (state S.Store conn.old) (state S.Store conn.new) }
-    ensures was { HasCleanDisk (state S.Store conn.new) → IsTrue (state S.Store conn.new).is_open → IsTrue (state S.Store conn.old).is_open }
-    ensures clean { HasCleanDisk (state S.Store conn.new) → HasCleanDisk (state S.Store conn.old) }
-    ensures shield { (state S.Store conn.old).IsShielded → (state S.Store conn.new).IsShielded }
+    ensures lasts { Lasts (state S.Store conn.old) (state S.Store conn.new) }
     ensures stays { HasCleanDisk (state S.Store conn.new) → OnOk result (IsTrue (state S.Store conn.new).is_open) }
 {
     let rows = ask(conn, id)?;

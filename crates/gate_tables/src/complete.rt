@@ -1,9 +1,9 @@
 ghost use Rattle.std.specs.Prelude.{◌≡◌, IsTrue, OnOk};
 ghost use Rattle.gate_tables.specs.Database.{all_schema};
-ghost use Rattle.gate_tables.specs.Effects.{Completes, IsBegun};
+ghost use Rattle.gate_tables.specs.Effects.{Completes, GoesOn, IsBegun};
 ghost use Rattle.gate_tables.specs.Schemas as spec;
 ghost use Rattle.sqlite.specs.Held.{state};
-ghost use Rattle.sqlite.specs.State.{HasCleanDisk, KeepsCommit};
+ghost use Rattle.sqlite.specs.State.{HasCleanDisk};
 
 use crate::create::create_wanted;
 use crate::fault::TablesFault;
@@ -26,9 +26,7 @@ pub(crate) fn complete<S: Alter>(
     ensures schema { HasCleanDisk (state S.Store tx.new.conn.now) → OnOk result (IsBegun missing (state S.Store tx.old.conn.now) → (state S.Store tx.new.conn.now).now.schema ≡ all_schema) }
     ensures whole { HasCleanDisk (state S.Store tx.new.conn.now) → OnOk result (IsBegun missing (state S.Store tx.old.conn.now) → IsTrue (state S.Store tx.new.conn.now).is_open
         → Completes missing (state S.Store tx.old.conn.now) (state S.Store tx.new.conn.now)) }
-    ensures kept { HasCleanDisk (state S.Store tx.new.conn.now) → KeepsCommit (state S.Store tx.old.conn.now) (state S.Store tx.new.conn.now) }
-    ensures clean { HasCleanDisk (state S.Store tx.new.conn.now) → HasCleanDisk (state S.Store tx.old.conn.now) }
-    ensures shield { (state S.Store tx.old.conn.now).IsShielded → (state S.Store tx.new.conn.now).IsShielded }
+    ensures goes_on { GoesOn (state S.Store tx.old.conn.now) (state S.Store tx.new.conn.now) }
 {
     if missing {
         create_wanted(tx)?;

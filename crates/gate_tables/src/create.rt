@@ -1,10 +1,10 @@
 ghost use Rattle.std.specs.Prelude.{◌≡◌, OnOk};
 ghost use Rattle.gate_tables.specs.Creation.{after_first};
 ghost use Rattle.gate_tables.specs.Database.{all_schema, wanted};
-ghost use Rattle.gate_tables.specs.Effects.{Grows, IsBare};
+ghost use Rattle.gate_tables.specs.Effects.{GoesOn, Grows, IsBare};
 ghost use Rattle.gate_tables.specs.Schemas.{first_schema};
 ghost use Rattle.sqlite.specs.Held.{state};
-ghost use Rattle.sqlite.specs.State.{HasCleanDisk, KeepsCommit};
+ghost use Rattle.sqlite.specs.State.{HasCleanDisk};
 
 use crate::fault::TablesFault;
 use crate::statement::run;
@@ -14,9 +14,7 @@ fn create_first<S: Alter>(tx: &mut Transaction<'_, S>) -> Result<(), TablesFault
     ensures same_reference { tx.new.conn.ghost_name ≡ tx.old.conn.ghost_name }
     ensures made { HasCleanDisk (state S.Store tx.new.conn.now) → OnOk result (IsBare (after_first 0) (state S.Store tx.old.conn.now)
         → IsBare (after_first 4) (state S.Store tx.new.conn.now)) }
-    ensures kept { HasCleanDisk (state S.Store tx.new.conn.now) → KeepsCommit (state S.Store tx.old.conn.now) (state S.Store tx.new.conn.now) }
-    ensures clean { HasCleanDisk (state S.Store tx.new.conn.now) → HasCleanDisk (state S.Store tx.old.conn.now) }
-    ensures shield { (state S.Store tx.old.conn.now).IsShielded → (state S.Store tx.new.conn.now).IsShielded }
+    ensures goes_on { GoesOn (state S.Store tx.old.conn.now) (state S.Store tx.new.conn.now) }
 {
     run(
         tx,
@@ -44,9 +42,7 @@ fn create_last<S: Alter>(tx: &mut Transaction<'_, S>) -> Result<(), TablesFault>
     ensures same_reference { tx.new.conn.ghost_name ≡ tx.old.conn.ghost_name }
     ensures made { HasCleanDisk (state S.Store tx.new.conn.now) → OnOk result (IsBare (after_first 4) (state S.Store tx.old.conn.now)
         → IsBare (after_first 8) (state S.Store tx.new.conn.now)) }
-    ensures kept { HasCleanDisk (state S.Store tx.new.conn.now) → KeepsCommit (state S.Store tx.old.conn.now) (state S.Store tx.new.conn.now) }
-    ensures clean { HasCleanDisk (state S.Store tx.new.conn.now) → HasCleanDisk (state S.Store tx.old.conn.now) }
-    ensures shield { (state S.Store tx.old.conn.now).IsShielded → (state S.Store tx.new.conn.now).IsShielded }
+    ensures goes_on { GoesOn (state S.Store tx.old.conn.now) (state S.Store tx.new.conn.now) }
 {
     run(
         tx,
@@ -75,9 +71,7 @@ pub(crate) fn create_version_1<S: Alter>(tx: &mut Transaction<'_, S>) -> Result<
     ensures same_reference { tx.new.conn.ghost_name ≡ tx.old.conn.ghost_name }
     ensures made { HasCleanDisk (state S.Store tx.new.conn.now) → OnOk result (IsBare (after_first 0) (state S.Store tx.old.conn.now)
         → IsBare (after_first 8) (state S.Store tx.new.conn.now)) }
-    ensures kept { HasCleanDisk (state S.Store tx.new.conn.now) → KeepsCommit (state S.Store tx.old.conn.now) (state S.Store tx.new.conn.now) }
-    ensures clean { HasCleanDisk (state S.Store tx.new.conn.now) → HasCleanDisk (state S.Store tx.old.conn.now) }
-    ensures shield { (state S.Store tx.old.conn.now).IsShielded → (state S.Store tx.new.conn.now).IsShielded }
+    ensures goes_on { GoesOn (state S.Store tx.old.conn.now) (state S.Store tx.new.conn.now) }
 {
     create_first(tx)?;
     create_last(tx)
@@ -90,9 +84,7 @@ pub(crate) fn create_wanted<S: Alter>(tx: &mut Transaction<'_, S>) -> Result<(),
         → Grows first_schema wanted all_schema (state S.Store tx.old.conn.now) (state S.Store tx.new.conn.now)) }
     ensures made { HasCleanDisk (state S.Store tx.new.conn.now) → OnOk result (IsBare (after_first 8) (state S.Store tx.old.conn.now)
         → IsBare (after_first 9) (state S.Store tx.new.conn.now)) }
-    ensures kept { HasCleanDisk (state S.Store tx.new.conn.now) → KeepsCommit (state S.Store tx.old.conn.now) (state S.Store tx.new.conn.now) }
-    ensures clean { HasCleanDisk (state S.Store tx.new.conn.now) → HasCleanDisk (state S.Store tx.old.conn.now) }
-    ensures shield { (state S.Store tx.old.conn.now).IsShielded → (state S.Store tx.new.conn.now).IsShielded }
+    ensures goes_on { GoesOn (state S.Store tx.old.conn.now) (state S.Store tx.new.conn.now) }
 {
     run(
         tx,
@@ -106,9 +98,7 @@ pub(crate) fn create<S: Alter>(tx: &mut Transaction<'_, S>) -> Result<(), Tables
     ensures same_reference { tx.new.conn.ghost_name ≡ tx.old.conn.ghost_name }
     ensures made { HasCleanDisk (state S.Store tx.new.conn.now) → OnOk result (IsBare (after_first 0) (state S.Store tx.old.conn.now)
         → IsBare (after_first 9) (state S.Store tx.new.conn.now)) }
-    ensures kept { HasCleanDisk (state S.Store tx.new.conn.now) → KeepsCommit (state S.Store tx.old.conn.now) (state S.Store tx.new.conn.now) }
-    ensures clean { HasCleanDisk (state S.Store tx.new.conn.now) → HasCleanDisk (state S.Store tx.old.conn.now) }
-    ensures shield { (state S.Store tx.old.conn.now).IsShielded → (state S.Store tx.new.conn.now).IsShielded }
+    ensures goes_on { GoesOn (state S.Store tx.old.conn.now) (state S.Store tx.new.conn.now) }
 {
     create_version_1(tx)?;
     create_wanted(tx)

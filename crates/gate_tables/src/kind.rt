@@ -1,9 +1,9 @@
-ghost use Rattle.std.specs.Prelude.{◌≡◌, length, map, IsTrue, IfOk, OnOk};
+ghost use Rattle.std.specs.Prelude.{◌≡◌, length, map, IfOk, OnOk};
 ghost use Rattle.gate_tables.specs.Database.{all_schema};
-ghost use Rattle.gate_tables.specs.Effects.{RanInside, RanOn, Reads};
+ghost use Rattle.gate_tables.specs.Effects.{Asks, GoesOn, RanInside, RanOn, Reads, Tells};
 ghost use Rattle.gate_tables.specs.Texts.{delete_text, update_text};
 ghost use Rattle.sqlite.specs.Held.{state};
-ghost use Rattle.sqlite.specs.State.{HasCleanDisk, IsUnchanged, KeepsCommit};
+ghost use Rattle.sqlite.specs.State.{HasCleanDisk};
 
 use crate::fault::TablesFault;
 use crate::rowids::check_rowids;
@@ -36,17 +36,13 @@ pub(crate) trait TableRow: Sized + Drop {
     fn update<S: Alter>(&self, tx: &mut Transaction<'_, S>) -> Result<usize, TablesFault>
         ensures same_reference { tx.new.conn.ghost_name ≡ tx.old.conn.ghost_name }
         ensures ran { HasCleanDisk (state S.Store tx.new.conn.now) → IfOk result (λ count. RanOn count (update_text form.layout) (form.values self.now) (state S.Store tx.old.conn.now) (state S.Store tx.new.conn.now)) }
-        ensures kept { HasCleanDisk (state S.Store tx.new.conn.now) → KeepsCommit (state S.Store tx.old.conn.now) (state S.Store tx.new.conn.now) }
-        ensures clean { HasCleanDisk (state S.Store tx.new.conn.now) → HasCleanDisk (state S.Store tx.old.conn.now) }
-        ensures shield { (state S.Store tx.old.conn.now).IsShielded → (state S.Store tx.new.conn.now).IsShielded };
+        ensures goes_on { GoesOn (state S.Store tx.old.conn.now) (state S.Store tx.new.conn.now) };
 
     // Adds the row.
     fn put<S: Alter>(&self, tx: &mut Transaction<'_, S>) -> Result<(), TablesFault>
         ensures same_reference { tx.new.conn.ghost_name ≡ tx.old.conn.ghost_name }
         ensures ran { HasCleanDisk (state S.Store tx.new.conn.now) → OnOk result (RanInside form.insert (form.values self.now) (state S.Store tx.old.conn.now) (state S.Store tx.new.conn.now)) }
-        ensures kept { HasCleanDisk (state S.Store tx.new.conn.now) → KeepsCommit (state S.Store tx.old.conn.now) (state S.Store tx.new.conn.now) }
-        ensures clean { HasCleanDisk (state S.Store tx.new.conn.now) → HasCleanDisk (state S.Store tx.old.conn.now) }
-        ensures shield { (state S.Store tx.old.conn.now).IsShielded → (state S.Store tx.new.conn.now).IsShielded };
+        ensures goes_on { GoesOn (state S.Store tx.old.conn.now) (state S.Store tx.new.conn.now) };
 
     // What a row of the answer says.
     fn read(row: &Row) -> Result<Self, TablesFault>
@@ -73,14 +69,8 @@ pub(crate) fn all<S: Alter, R: TableRow>(
 ) -> Result<List<R>, TablesFault>
     ensures same_reference { tx.new.conn.ghost_name ≡ tx.old.conn.ghost_name }
     ensures rows { HasCleanDisk (state S.Store tx.new.conn.now) → (state S.Store tx.old.conn.now).now.schema ≡ all_schema
-        → IfOk result (Reads R.form (state S.Store tx.old.conn.now).now.trees) }
-    ensures still { HasCleanDisk (state S.Store tx.new.conn.now) → (state S.Store tx.old.conn.now).now.schema ≡ all_schema
-        → OnOk result (IsUnchanged (state S.Store tx.old.conn.now) (state S.Store tx.new.conn.now)) }
-    ensures kept { HasCleanDisk (state S.Store tx.new.conn.now) → (state S.Store tx.old.conn.now).now.schema ≡ all_schema
-        → KeepsCommit (state S.Store tx.old.conn.now) (state S.Store tx.new.conn.now) }
-    ensures was { HasCleanDisk (state S.Store tx.new.conn.now) → IsTrue (state S.Store tx.new.conn.now).is_open → IsTrue (state S.Store tx.old.conn.now).is_open }
-    ensures clean { HasCleanDisk (state S.Store tx.new.conn.now) → HasCleanDisk (state S.Store tx.old.conn.now) }
-    ensures shield { (state S.Store tx.old.conn.now).IsShielded → (state S.Store tx.new.conn.now).IsShielded }
+        → IfOk result (Tells (Reads R.form) (state S.Store tx.old.conn.now) (state S.Store tx.new.conn.now)) }
+    ensures asks { Asks ((state S.Store tx.old.conn.now).now.schema ≡ all_schema) (state S.Store tx.old.conn.now) (state S.Store tx.new.conn.now) }
 {
     let rows = select_inside(tx, R::select_text())?;
     check_rowids(rows.as_slice(), R::rowid_at())?;

@@ -1,10 +1,10 @@
 ghost use Rattle.std.specs.Prelude.{◌≡◌, false, IsTrue, IfOk, OnOk};
 ghost use Rattle.gate_tables.specs.Contents.{AreSame, rows_at};
 ghost use Rattle.gate_tables.specs.Database.{all_schema};
-ghost use Rattle.gate_tables.specs.Effects.{IsReady, Leaves, ReadsContents, ShowsAll};
+ghost use Rattle.gate_tables.specs.Effects.{Asks, IsReady, Lasts, Leaves, ReadsContents, ShowsAll, Tells};
 ghost use Rattle.gate_tables.specs.Schemas.{HasTables};
 ghost use Rattle.sqlite.specs.Held.{state};
-ghost use Rattle.sqlite.specs.State.{HasCleanDisk, IsUnchanged, KeepsCommit};
+ghost use Rattle.sqlite.specs.State.{HasCleanDisk};
 
 use crate::answers::read_answers;
 use crate::complete::{complete, lacks_wanted};
@@ -30,9 +30,7 @@ pub(crate) fn read<S: Alter>(alloc: Global, conn: &mut Connection<S>) -> Result<
     ensures mode { conn.new.in_transaction ≡ false }
     ensures rows { HasCleanDisk (state S.Store conn.new) → IsTrue (state S.Store conn.new).is_open → IsReady (state S.Store conn.old) → IfOk result (AreSame (rows_at (state S.Store conn.old).now.trees)) }
     ensures left { HasCleanDisk (state S.Store conn.new) → IsReady (state S.Store conn.old) → Leaves (state S.Store conn.old) (state S.Store conn.new) }
-    ensures was { HasCleanDisk (state S.Store conn.new) → IsTrue (state S.Store conn.new).is_open → IsTrue (state S.Store conn.old).is_open }
-    ensures clean { HasCleanDisk (state S.Store conn.new) → HasCleanDisk (state S.Store conn.old) }
-    ensures shield { (state S.Store conn.old).IsShielded → (state S.Store conn.new).IsShielded }
+    ensures lasts { Lasts (state S.Store conn.old) (state S.Store conn.new) }
     ensures stays { HasCleanDisk (state S.Store conn.new) → OnOk result (IsTrue (state S.Store conn.new).is_open) }
 {
     let mut tx = conn.transaction();
@@ -49,14 +47,8 @@ fn read_contents<S: Alter>(
 ) -> Result<Contents, TablesFault>
     ensures same_reference { tx.new.conn.ghost_name ≡ tx.old.conn.ghost_name }
     ensures read { HasCleanDisk (state S.Store tx.new.conn.now) → (state S.Store tx.old.conn.now).now.schema ≡ all_schema
-        → IfOk result (ReadsContents (state S.Store tx.old.conn.now).now.trees) }
-    ensures still { HasCleanDisk (state S.Store tx.new.conn.now) → (state S.Store tx.old.conn.now).now.schema ≡ all_schema
-        → OnOk result (IsUnchanged (state S.Store tx.old.conn.now) (state S.Store tx.new.conn.now)) }
-    ensures kept { HasCleanDisk (state S.Store tx.new.conn.now) → (state S.Store tx.old.conn.now).now.schema ≡ all_schema
-        → KeepsCommit (state S.Store tx.old.conn.now) (state S.Store tx.new.conn.now) }
-    ensures was { HasCleanDisk (state S.Store tx.new.conn.now) → IsTrue (state S.Store tx.new.conn.now).is_open → IsTrue (state S.Store tx.old.conn.now).is_open }
-    ensures clean { HasCleanDisk (state S.Store tx.new.conn.now) → HasCleanDisk (state S.Store tx.old.conn.now) }
-    ensures shield { (state S.Store tx.old.conn.now).IsShielded → (state S.Store tx.new.conn.now).IsShielded }
+        → IfOk result (Tells ReadsContents (state S.Store tx.old.conn.now) (state S.Store tx.new.conn.now)) }
+    ensures asks { Asks ((state S.Store tx.old.conn.now).now.schema ≡ all_schema) (state S.Store tx.old.conn.now) (state S.Store tx.new.conn.now) }
 {
     let rows = read_rows(alloc, tx)?;
     let answers = read_answers(alloc, tx)?;
@@ -73,9 +65,7 @@ pub(crate) fn look<S: Alter>(
     ensures mode { conn.new.in_transaction ≡ false }
     ensures shown { HasCleanDisk (state S.Store conn.new) → HasTables (state S.Store conn.old).now → IfOk result (ShowsAll (state S.Store conn.old).now) }
     ensures left { HasCleanDisk (state S.Store conn.new) → HasTables (state S.Store conn.old).now → Leaves (state S.Store conn.old) (state S.Store conn.new) }
-    ensures was { HasCleanDisk (state S.Store conn.new) → HasTables (state S.Store conn.old).now → IsTrue (state S.Store conn.new).is_open → IsTrue (state S.Store conn.old).is_open }
-    ensures clean { HasCleanDisk (state S.Store conn.new) → HasCleanDisk (state S.Store conn.old) }
-    ensures shield { (state S.Store conn.old).IsShielded → (state S.Store conn.new).IsShielded }
+    ensures lasts { Lasts (state S.Store conn.old) (state S.Store conn.new) }
 {
     let missing = lacks_wanted(conn.schema());
     let mut tx = conn.transaction();

@@ -1,10 +1,10 @@
 ghost use Rattle.std.specs.Prelude.{◌≡◌, ◌↔◌, [], false, IsTrue, OnOk, OnErr};
 ghost use Rattle.gate_tables.specs.Database.{all_schema, schema_of};
-ghost use Rattle.gate_tables.specs.Effects.{Brings, IsBegun, MayBeTaken, IsInside, Leaves, Made, Taken};
+ghost use Rattle.gate_tables.specs.Effects.{Brings, GoesOn, IsBegun, IsInside, Lasts, Leaves, Made, MayBeTaken, Taken};
 ghost use Rattle.gate_tables.specs.Kept.{AreKept};
 ghost use Rattle.gate_tables.specs.Schemas as spec;
 ghost use Rattle.sqlite.specs.Held.{state};
-ghost use Rattle.sqlite.specs.State.{HasCleanDisk, IsLive, KeepsCommit};
+ghost use Rattle.sqlite.specs.State.{HasCleanDisk, IsLive};
 
 use crate::apply::change_all;
 use crate::change::RowChange;
@@ -33,9 +33,7 @@ pub(crate) fn make<S: Alter>(
     ensures mode { conn.new.in_transaction ≡ false }
     ensures made { HasCleanDisk (state S.Store conn.new) → OnOk result (Made first.now (state S.Store conn.new)) }
     ensures left { HasCleanDisk (state S.Store conn.new) → OnErr result (Leaves (state S.Store conn.old) (state S.Store conn.new)) }
-    ensures was { HasCleanDisk (state S.Store conn.new) → IsTrue (state S.Store conn.new).is_open → IsTrue (state S.Store conn.old).is_open }
-    ensures clean { HasCleanDisk (state S.Store conn.new) → HasCleanDisk (state S.Store conn.old) }
-    ensures shield { (state S.Store conn.old).IsShielded → (state S.Store conn.new).IsShielded }
+    ensures lasts { Lasts (state S.Store conn.old) (state S.Store conn.new) }
     ensures stays { HasCleanDisk (state S.Store conn.new) → OnOk result (IsTrue (state S.Store conn.new).is_open) }
 {
     let mut tx = conn.transaction();
@@ -54,9 +52,7 @@ fn bring<S: Alter>(
     ensures brought { HasCleanDisk (state S.Store tx.new.conn.now) → OnOk result (IsTrue (state S.Store tx.new.conn.now).is_open → IsBegun missing (state S.Store tx.old.conn.now)
         → AreKept (state S.Store tx.old.conn.now).now.schema (state S.Store tx.old.conn.now).now.trees
         → IsInside all_schema (state S.Store tx.new.conn.now) × Brings changes.now (state S.Store tx.old.conn.now).now (state S.Store tx.new.conn.now).now) }
-    ensures kept { HasCleanDisk (state S.Store tx.new.conn.now) → KeepsCommit (state S.Store tx.old.conn.now) (state S.Store tx.new.conn.now) }
-    ensures clean { HasCleanDisk (state S.Store tx.new.conn.now) → HasCleanDisk (state S.Store tx.old.conn.now) }
-    ensures shield { (state S.Store tx.old.conn.now).IsShielded → (state S.Store tx.new.conn.now).IsShielded }
+    ensures goes_on { GoesOn (state S.Store tx.old.conn.now) (state S.Store tx.new.conn.now) }
 {
     complete(tx, missing)?;
     change_all(tx, changes)
@@ -74,9 +70,7 @@ fn bring_all<S: Alter>(
         → Taken changes.now (state S.Store conn.old) (state S.Store conn.new)) }
     ensures left { HasCleanDisk (state S.Store conn.new) → missing ≡ spec.lacks_wanted (state S.Store conn.old).now.schema → IsLive (state S.Store conn.old) → MayBeTaken (state S.Store conn.old)
         → OnErr result (Leaves (state S.Store conn.old) (state S.Store conn.new)) }
-    ensures was { HasCleanDisk (state S.Store conn.new) → IsTrue (state S.Store conn.new).is_open → IsTrue (state S.Store conn.old).is_open }
-    ensures clean { HasCleanDisk (state S.Store conn.new) → HasCleanDisk (state S.Store conn.old) }
-    ensures shield { (state S.Store conn.old).IsShielded → (state S.Store conn.new).IsShielded }
+    ensures lasts { Lasts (state S.Store conn.old) (state S.Store conn.new) }
     ensures stays { HasCleanDisk (state S.Store conn.new) → OnOk result (IsTrue (state S.Store conn.new).is_open) }
 {
     let mut tx = conn.transaction();
@@ -93,9 +87,7 @@ pub(crate) fn take_over<S: Alter>(
     ensures mode { conn.new.in_transaction ≡ false }
     ensures taken { HasCleanDisk (state S.Store conn.new) → OnOk result (MayBeTaken (state S.Store conn.old) → Taken changes.now (state S.Store conn.old) (state S.Store conn.new)) }
     ensures left { HasCleanDisk (state S.Store conn.new) → MayBeTaken (state S.Store conn.old) → OnErr result (Leaves (state S.Store conn.old) (state S.Store conn.new)) }
-    ensures was { HasCleanDisk (state S.Store conn.new) → IsTrue (state S.Store conn.new).is_open → IsTrue (state S.Store conn.old).is_open }
-    ensures clean { HasCleanDisk (state S.Store conn.new) → HasCleanDisk (state S.Store conn.old) }
-    ensures shield { (state S.Store conn.old).IsShielded → (state S.Store conn.new).IsShielded }
+    ensures lasts { Lasts (state S.Store conn.old) (state S.Store conn.new) }
     ensures stays { HasCleanDisk (state S.Store conn.new) → OnOk result (IsTrue (state S.Store conn.new).is_open) }
 {
     let missing = lacks_wanted(conn.schema());

@@ -1,8 +1,8 @@
-ghost use Rattle.std.specs.Prelude.{◌≡◌, IsTrue, IfOk, OnOk};
+ghost use Rattle.std.specs.Prelude.{◌≡◌, IfOk};
 ghost use Rattle.gate_tables.specs.Database.{all_schema};
-ghost use Rattle.gate_tables.specs.Effects.{ReadsFirst, ReadsLast, ReadsRows};
+ghost use Rattle.gate_tables.specs.Effects.{Asks, ReadsFirst, ReadsLast, ReadsRows, Tells};
 ghost use Rattle.sqlite.specs.Held.{state};
-ghost use Rattle.sqlite.specs.State.{HasCleanDisk, IsUnchanged, KeepsCommit};
+ghost use Rattle.sqlite.specs.State.{HasCleanDisk};
 
 use crate::fault::TablesFault;
 use crate::kind::all;
@@ -34,14 +34,8 @@ struct Last {
 fn read_first<S: Alter>(alloc: Global, tx: &mut Transaction<'_, S>) -> Result<First, TablesFault>
     ensures same_reference { tx.new.conn.ghost_name ≡ tx.old.conn.ghost_name }
     ensures rows { HasCleanDisk (state S.Store tx.new.conn.now) → (state S.Store tx.old.conn.now).now.schema ≡ all_schema
-        → IfOk result (ReadsFirst (state S.Store tx.old.conn.now).now.trees) }
-    ensures still { HasCleanDisk (state S.Store tx.new.conn.now) → (state S.Store tx.old.conn.now).now.schema ≡ all_schema
-        → OnOk result (IsUnchanged (state S.Store tx.old.conn.now) (state S.Store tx.new.conn.now)) }
-    ensures kept { HasCleanDisk (state S.Store tx.new.conn.now) → (state S.Store tx.old.conn.now).now.schema ≡ all_schema
-        → KeepsCommit (state S.Store tx.old.conn.now) (state S.Store tx.new.conn.now) }
-    ensures was { HasCleanDisk (state S.Store tx.new.conn.now) → IsTrue (state S.Store tx.new.conn.now).is_open → IsTrue (state S.Store tx.old.conn.now).is_open }
-    ensures clean { HasCleanDisk (state S.Store tx.new.conn.now) → HasCleanDisk (state S.Store tx.old.conn.now) }
-    ensures shield { (state S.Store tx.old.conn.now).IsShielded → (state S.Store tx.new.conn.now).IsShielded }
+        → IfOk result (Tells ReadsFirst (state S.Store tx.old.conn.now) (state S.Store tx.new.conn.now)) }
+    ensures asks { Asks ((state S.Store tx.old.conn.now).now.schema ≡ all_schema) (state S.Store tx.old.conn.now) (state S.Store tx.new.conn.now) }
 {
     let desk = all(alloc, tx)?;
     let people = all(alloc, tx)?;
@@ -58,14 +52,8 @@ fn read_first<S: Alter>(alloc: Global, tx: &mut Transaction<'_, S>) -> Result<Fi
 fn read_last<S: Alter>(alloc: Global, tx: &mut Transaction<'_, S>) -> Result<Last, TablesFault>
     ensures same_reference { tx.new.conn.ghost_name ≡ tx.old.conn.ghost_name }
     ensures rows { HasCleanDisk (state S.Store tx.new.conn.now) → (state S.Store tx.old.conn.now).now.schema ≡ all_schema
-        → IfOk result (ReadsLast (state S.Store tx.old.conn.now).now.trees) }
-    ensures still { HasCleanDisk (state S.Store tx.new.conn.now) → (state S.Store tx.old.conn.now).now.schema ≡ all_schema
-        → OnOk result (IsUnchanged (state S.Store tx.old.conn.now) (state S.Store tx.new.conn.now)) }
-    ensures kept { HasCleanDisk (state S.Store tx.new.conn.now) → (state S.Store tx.old.conn.now).now.schema ≡ all_schema
-        → KeepsCommit (state S.Store tx.old.conn.now) (state S.Store tx.new.conn.now) }
-    ensures was { HasCleanDisk (state S.Store tx.new.conn.now) → IsTrue (state S.Store tx.new.conn.now).is_open → IsTrue (state S.Store tx.old.conn.now).is_open }
-    ensures clean { HasCleanDisk (state S.Store tx.new.conn.now) → HasCleanDisk (state S.Store tx.old.conn.now) }
-    ensures shield { (state S.Store tx.old.conn.now).IsShielded → (state S.Store tx.new.conn.now).IsShielded }
+        → IfOk result (Tells ReadsLast (state S.Store tx.old.conn.now) (state S.Store tx.new.conn.now)) }
+    ensures asks { Asks ((state S.Store tx.old.conn.now).now.schema ≡ all_schema) (state S.Store tx.old.conn.now) (state S.Store tx.new.conn.now) }
 {
     let batches = all(alloc, tx)?;
     let members = all(alloc, tx)?;
@@ -86,14 +74,8 @@ pub(crate) fn read_rows<S: Alter>(
 ) -> Result<Rows, TablesFault>
     ensures same_reference { tx.new.conn.ghost_name ≡ tx.old.conn.ghost_name }
     ensures rows { HasCleanDisk (state S.Store tx.new.conn.now) → (state S.Store tx.old.conn.now).now.schema ≡ all_schema
-        → IfOk result (ReadsRows (state S.Store tx.old.conn.now).now.trees) }
-    ensures still { HasCleanDisk (state S.Store tx.new.conn.now) → (state S.Store tx.old.conn.now).now.schema ≡ all_schema
-        → OnOk result (IsUnchanged (state S.Store tx.old.conn.now) (state S.Store tx.new.conn.now)) }
-    ensures kept { HasCleanDisk (state S.Store tx.new.conn.now) → (state S.Store tx.old.conn.now).now.schema ≡ all_schema
-        → KeepsCommit (state S.Store tx.old.conn.now) (state S.Store tx.new.conn.now) }
-    ensures was { HasCleanDisk (state S.Store tx.new.conn.now) → IsTrue (state S.Store tx.new.conn.now).is_open → IsTrue (state S.Store tx.old.conn.now).is_open }
-    ensures clean { HasCleanDisk (state S.Store tx.new.conn.now) → HasCleanDisk (state S.Store tx.old.conn.now) }
-    ensures shield { (state S.Store tx.old.conn.now).IsShielded → (state S.Store tx.new.conn.now).IsShielded }
+        → IfOk result (Tells ReadsRows (state S.Store tx.old.conn.now) (state S.Store tx.new.conn.now)) }
+    ensures asks { Asks ((state S.Store tx.old.conn.now).now.schema ≡ all_schema) (state S.Store tx.old.conn.now) (state S.Store tx.new.conn.now) }
 {
     let First {
         desk,

@@ -1,7 +1,7 @@
 use Rattle.std.proofs.Common.{rules, ◌≡◌, ◌+◌, [], ◌∷◌, ◌++◌, take, subst, ◌∙◌}
 use Rattle.std.proofs.lemmas.List.{take_more}
 use Rattle.gate_tables.proofs.Applying.{changes_more}
-use Rattle.gate_tables.proofs.Steps.{keeps_then}
+use Rattle.gate_tables.proofs.Steps.{goes_then}
 use Rattle.gate_tables.specs.Effects.{Changes}
 use Rattle.sqlite.specs.Held.{state}
 use Rattle.gate_tables.proofs.apply.change_all.Goals as goal
@@ -14,11 +14,9 @@ loop-change-preserved g c =
     let at = c.loop-change.change-index in
     let had = c.loop-change.invariant in (
       c.change_one.ensures.same_reference ∙ had.0,
-      (λ clean. had.1 (c.change_one.ensures.clean clean)),
-      (λ shielded. c.change_one.ensures.shield (had.2 shielded)),
-      (λ clean. keeps_then first mid last (had.3 (c.change_one.ensures.clean clean)) (c.change_one.ensures.kept clean)),
+      goes_then had.1 c.change_one.ensures.goes_on,
       (λ clean inside.
-          let so_far = had.4 (c.change_one.ensures.clean clean) inside in
+          let so_far = had.2 (c.change_one.ensures.goes_on.lasts.clean clean) inside in
           let one = c.in_ok-change_one.ensures.changed clean so_far.0 in
           let all = changes_more (take at c.args.changes.now) c.change-item.result first.now.trees mid.now.trees last.now.trees so_far.1 one.1 in
           let more : take at c.args.changes.now ++ c.change-item.result ∷ [] ≡ take (at + 1) c.args.changes.now = search (rules, take_more) in

@@ -17,4 +17,4 @@ returns-clause-put g c clean =
     let mid = state g.S.Store c.update.new.tx.conn.now in
     let new = state g.S.Store c.put.new.tx.conn.now in
     let none : c.in_ok-update.field-0 ≡ 0 = omega (arith, c.if-branch-gt0.false) in
-    on_ok_weaker c.put.result (λ ran inside. puts_new g.R.TableRow.form g.met.R.TableRow.keyed c.args.row.now c.in_ok-update.field-0 old mid new inside (c.in_ok-update.ensures.ran (c.put.ensures.clean clean)) none ran) (c.put.ensures.ran clean)
+    on_ok_weaker c.put.result (λ ran inside. puts_new g.R.TableRow.form g.met.R.TableRow.keyed c.args.row.now c.in_ok-update.field-0 old mid new inside (c.in_ok-update.ensures.ran (c.put.ensures.goes_on.lasts.clean clean)) none ran) (c.put.ensures.ran clean)

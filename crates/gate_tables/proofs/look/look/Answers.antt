@@ -14,14 +14,14 @@ returns-clause-shown g c clean has =
     let begun = state g.S.Store c.transaction-tx.result.conn.now in
     let mid = state g.S.Store c.complete.new.tx.conn.now in
     let after_clean : HasCleanDisk (state g.S.Store c.read_contents.new.tx.conn.now) = search rules in
-    let mid_clean = c.in_ok-contents.ensures.clean after_clean in
+    let mid_clean = c.in_ok-contents.ensures.asks.lasts.clean after_clean in
     let lacks : missing ≡ lacks_wanted old.now.schema = search rules in
     let same = begun_same g.S.Store c.args.conn.now c.transaction-tx.result.conn.now c.transaction-tx.ensures.begun in
     let is_begun = has_begun g.S.Store c.args.conn.now c.transaction-tx.result.conn.now c.transaction-tx.ensures.begun missing lacks has c.schema.ensures.live in
     let all = c.in_ok-complete.ensures.schema mid_clean is_begun in
-    let still = c.in_ok-contents.ensures.still after_clean all in
-    let completes = c.in_ok-complete.ensures.whole mid_clean is_begun still.0.was_open in
-    let was_open = (c.in_ok-complete.ensures.kept mid_clean).was_open still.0.was_open in
+    let told = c.in_ok-contents.ensures.read after_clean all in
+    let completes = c.in_ok-complete.ensures.whole mid_clean is_begun told.still.0.was_open in
+    let was_open = (c.in_ok-complete.ensures.goes_on.kept mid_clean).was_open told.still.0.was_open in
     subst (λ (db : Database). ShowsAll db c.in_ok-contents.contents) same
-    (shows begun.now.trees mid.now.trees c.in_ok-contents.contents (c.in_ok-contents.ensures.read after_clean all) begun.now.schema missing is_begun.lacks
+    (shows begun.now.trees mid.now.trees c.in_ok-contents.contents told.holds begun.now.schema missing is_begun.lacks
     is_begun.schema_is (is_begun.live was_open).0 completes.others completes.none)
