@@ -1,6 +1,7 @@
 -- A database of version 1 that got its ninth table holds what it held.
 use Rattle.std.proofs.Common.{◌≡◌, Bool, true, false, List, [], map, IsTrue, if◌then◌else◌, refl, sym, ap, subst, ◌∙◌}
 use Rattle.std.specs.List.{AllByRecursion}
+use Rattle.gate_tables.proofs.Committing.{ready_then}
 use Rattle.gate_tables.proofs.Creating.{same_kept}
 use Rattle.gate_tables.specs.Applied.{applied}
 use Rattle.gate_tables.specs.Contents.{AreSame, rows_at}
@@ -13,7 +14,6 @@ use Rattle.gate_tables.specs.Kept.{AreKept, IsKept}
 use Rattle.gate_tables.specs.Schemas.{first_schema, lacks_wanted, schema_of_version, stored_rows}
 use Rattle.gate_tables.specs.declared.change.RowChange.{RowChange}
 use Rattle.gate_tables.specs.declared.row.Rows.{Rows}
-use Rattle.sqlite.specs.Effect.{Database}
 use Rattle.sqlite.specs.Order.{Row}
 use Rattle.sqlite.specs.Schema.{Schema}
 use Rattle.sqlite.specs.State.{State}
@@ -93,10 +93,6 @@ brings missing changes old mid new begun completes changed = record {
 -- and what a commit makes of it
 pub taken : (changes : List RowChange) (old done new : State) → IsInside all_schema done → Brings changes old.now done.now → new.now ≡ done.now → new.committed ≡ done.now → Taken changes old new
 taken changes old done new inside brought now committed = record {
-  ready = record {
-    schema_is = ap (λ (db : Database). db.schema) now ∙ inside.schema_is;
-    settled = now ∙ sym committed;
-    kept = subst (λ (db : Database). AreKept all_schema db.trees) (sym now) inside.kept;
-  };
+  ready = ready_then done new inside now committed;
   brought = subst (Brings changes old.now) (sym now) brought;
 }

@@ -1,6 +1,7 @@
 pub mod Answering
 pub mod Applying
 pub mod ByKey
+pub mod Committing
 pub mod Comparing
 pub mod Completing
 pub mod Conforming

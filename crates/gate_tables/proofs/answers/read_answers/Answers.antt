@@ -3,7 +3,7 @@ use Rattle.std.proofs.lemmas.Result.{IfOk-weaker}
 use Rattle.gate_tables.proofs.Selecting.{reads_all}
 use Rattle.gate_tables.proofs.Steps.{asks_known, plain_known}
 use Rattle.gate_tables.specs.Answers.{known}
-use Rattle.gate_tables.specs.Effects.{Reads, Tells}
+use Rattle.gate_tables.specs.Effects.{Reads}
 use Rattle.gate_tables.specs.Forms.{answers}
 use Rattle.gate_tables.specs.Kept.{HaveOwn}
 use Rattle.sqlite.specs.Held.{state}

@@ -2,7 +2,7 @@ use Rattle.std.proofs.Common.{[], map, ap, sym, subst, subst₂, ◌∙◌}
 use Rattle.std.proofs.lemmas.Result.{IfOk-weaker}
 use Rattle.gate_tables.proofs.Selecting.{reads_all}
 use Rattle.gate_tables.proofs.Steps.{asks_known, plain_known}
-use Rattle.gate_tables.specs.Effects.{Reads, Tells}
+use Rattle.gate_tables.specs.Effects.{Reads}
 use Rattle.gate_tables.specs.Kept.{HaveOwn}
 use Rattle.sqlite.specs.Held.{state}
 use Rattle.sqlite.specs.State.{Shown}
