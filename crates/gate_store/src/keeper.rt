@@ -1,19 +1,21 @@
 ghost use Rattle.std.specs.Prelude.{◌≡◌, ◌⊎◌, ◌∷◌, [], List, None, IfOk, IfErr, IfSome, OnOk, OnErr, length, take, drop};
 ghost use Rattle.std.specs.Borrow.{sem};
+ghost use Rattle.std.specs.List.{All};
 ghost use Rattle.std.specs.Io.BufRead.{Rests};
 ghost use Rattle.std.specs.String.{string_bytes};
+ghost use Rattle.gate_state.specs.Acts.{ActKeepsLimits};
 ghost use Rattle.gate_queue.specs.Before.{IsBefore};
 ghost use Rattle.gate_queue.specs.History.{Entry, Legal, StateTells};
 ghost use Rattle.gate_answers.specs.Answers.{answer_text_of};
 ghost use Rattle.gate_answers.specs.Reading.{answer_of};
 ghost use Rattle.gate_store.specs.Headline.{Each, Headline, HistoryTells, Tells, acts_of_all, first_in};
-ghost use Rattle.gate_store.specs.Run.{AgreesOnFull, IsFullBefore, IsOfBooks, IsOfKeepers, IsOpenUnless, NoneMeetsFull, StaysOpen, StopsBefore, acts_in, acts_meet_full, after_deliveries, after_delivery, answer_to, answers_to, kept_under, meets_full, new_acts, replies_to, stepped, with_answer};
+ghost use Rattle.gate_store.specs.Run.{AgreesOnFull, IsFullBefore, IsOfActs, IsOfBooks, IsOfKeepers, IsOpenUnless, NoneMeetsFull, StaysOpen, StopsBefore, acts_in, acts_meet_full, after_all, after_deliveries, after_delivery, answer_to, answers_to, kept_under, meets_full, new_acts, replies_to, stepped, with_answer};
 
 use crate::book::Book;
 use crate::delivery::{Delivery, acts_of};
 use crate::stepping::step_all;
 use gate_answers::{Answer, answer_text};
-use gate_queue::{Before, Fault, Gate, law_of_histories};
+use gate_queue::{Act, Before, Fault, Gate, law_of_histories};
 use gate_text::DeliveryId;
 use std::alloc::Global;
 use std::marker::Model;
@@ -272,9 +274,7 @@ impl<B: Book> Keeper<B> {
     {
         let acts = acts_of(alloc, delivery)?;
         let gate = take_gate(&mut self.gate, &mut self.book, alloc)?;
-        let (gate, before, answer) = step_all(gate, alloc, acts.as_slice())?;
-        let text = answer_text(alloc, &answer)?;
-        let acted = Acted { answer, text };
+        let (gate, before, acted) = act_all(gate, alloc, acts.as_slice())?;
         self.commit(alloc, &before, gate, &delivery.id, &acted)?;
         Ok(acted)
     }
@@ -314,6 +314,23 @@ impl<B: Book> Keeper<B> {
 struct Acted {
     answer: Answer,
     text: String,
+}
+
+// Lets acts step on the gate, and makes the text of their replies.
+fn act_all(gate: Gate, alloc: Global, acts: &[Act]) -> Result<(Gate, Before, Acted), Fault>
+    requires { All ActKeepsLimits acts.now }
+    ensures answer { IfOk result (λ done. done.2.answer ≡ replies_to gate acts.now) }
+    ensures text { IfOk result (λ done. string_bytes done.2.text ≡ answer_text_of done.2.answer) }
+    ensures reads { IfOk result (λ done. answer_of (string_bytes done.2.text) ≡ done.2.answer) }
+    ensures gate { IfOk result (λ done. done.0 ≡ after_all gate acts.now) }
+    ensures before { IfOk result (λ done. IsBefore done.1 gate done.0) }
+    ensures history { IfOk result (λ _. (history : List Entry) → Legal history gate → Each Tells history gate acts.now) }
+    ensures full { AgreesOnFull result (acts_meet_full gate acts.now) }
+    ensures cause { IfErr result IsOfActs }
+{
+    let (gate, before, answer) = step_all(gate, alloc, acts)?;
+    let text = answer_text(alloc, &answer)?;
+    Ok((gate, before, Acted { answer, text }))
 }
 
 // Takes the gate at hand, or loads the book's if there is none.

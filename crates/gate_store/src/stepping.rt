@@ -1,9 +1,11 @@
-ghost use Rattle.std.specs.Prelude.{◌≡◌, ◌<◌, List, length, Err, IsTrue, IfOk, IfErr};
+ghost use Rattle.std.specs.Prelude.{◌≡◌, ◌<◌, ◌++◌, ◌∷◌, [], List, length, Err, IsTrue, IfOk, IfErr, OnOk};
 ghost use Rattle.std.specs.List.{All};
 ghost use Rattle.gate_state.specs.Acts.{ActKeepsLimits};
 ghost use Rattle.gate_state.specs.Room.{is_full};
+ghost use Rattle.gate_state.specs.declared.state.State.{State};
 ghost use Rattle.gate_queue.specs.Before.{IsBefore};
 ghost use Rattle.gate_queue.specs.History.{Entry, Legal};
+ghost use Rattle.gate_queue.specs.Machine.{after, reply_to};
 ghost use Rattle.gate_store.specs.Headline.{Each, Tells};
 ghost use Rattle.gate_store.specs.Run.{AgreesOnFull, IsOfActs, acts_meet_full, replies_to, after_all};
 
@@ -32,13 +34,33 @@ pub fn step_all(gate: Gate, alloc: Global, acts: &[Act]) -> Result<(Gate, Before
     let mut gate = gate;
     let mut replies = Answer::from(Vec::new(alloc));
     for act in acts {
-        if gate.is_full() {
-            return Err(Fault::Full);
-        }
-        before.note(alloc, &gate, act)?;
-        let (next, reply) = gate.act(alloc, act)?;
-        replies.push(reply)?;
-        gate = next;
+        gate = step_one(gate, alloc, act, &mut before, &mut replies)?;
     }
     Ok((gate, before, replies))
+}
+
+// Lets one act step on the gate, and answers the gate after it. Adds what was before it, and its reply.
+fn step_one(
+    gate: Gate,
+    alloc: Global,
+    act: &Act,
+    before: &mut Before,
+    replies: &mut Answer,
+) -> Result<Gate, Fault>
+    requires { ActKeepsLimits act.now }
+    ensures reply { OnOk result (replies.new ≡ replies.old ++ reply_to gate act.now ∷ []) }
+    ensures gate { IfOk result (λ next. next ≡ after gate act.now) }
+    ensures before { OnOk result ((first : State) → IsBefore before.old first gate → IsBefore before.new first (after gate act.now)) }
+    ensures history { OnOk result ((history : List Entry) → Legal history gate → Tells history gate act.now) }
+    ensures full { AgreesOnFull result (is_full gate.queue) }
+    ensures at_once { IsTrue (is_full gate.queue) → result ≡ Err Fault.Full }
+    ensures cause { IfErr result IsOfActs }
+{
+    if gate.is_full() {
+        return Err(Fault::Full);
+    }
+    before.note(alloc, &gate, act)?;
+    let (gate, reply) = gate.act(alloc, act)?;
+    replies.push(reply)?;
+    Ok(gate)
 }
