@@ -377,6 +377,23 @@ pub fn remove_label(desk: &mut Desk, number: ChangeNo, label: &Label)
     desk.alter(number, |change| change.labels.remove(label));
 }
 
+// Adds a person to the reviews of a change, or takes the person from them.
+fn set_review(
+    change: &mut Change,
+    alloc: Global,
+    person: &Name,
+    approves: bool,
+) -> Result<(), AllocError>
+    ensures { OnOk result (change.new ≡ machine.with_review person.now approves change.old) }
+{
+    if approves {
+        change.reviews.insert(person.copy(alloc)?)?;
+    } else {
+        change.reviews.remove(person);
+    }
+    Ok(())
+}
+
 /// Adds a person to the reviews of a change, or takes the person from them. Too few reviews end its approval.
 pub fn review(
     desk: &mut Desk,
@@ -393,11 +410,7 @@ pub fn review(
     };
     let was_approved = change.approved.is_some();
     let mut change = change.copy(alloc)?;
-    if approves {
-        change.reviews.insert(person.copy(alloc)?)?;
-    } else {
-        change.reviews.remove(person);
-    }
+    set_review(&mut change, alloc, person, approves)?;
     if let Some(settings) = desk.settings() {
         if has_too_few_reviews(settings, &change) {
             change.approved = None;

@@ -18,6 +18,11 @@ use Rattle.gate_text.specs.Values.{tied}
 use Rattle.gate_state.specs.Checks.{all_pairs}
 
 -- TESTS
+-- if no element passes a test, each fails it
+pub none_passes : {X : Type 0} (p : X → Bool) → (xs : List X) → not (list_any p xs) ≡ list_all (λ x. not (p x)) xs
+none_passes p [] = refl
+none_passes p (x ∷ xs) = grind (arith, none_passes p xs)
+
 -- what a test says of itself
 pub Decides-itself : (b : Bool) → Decides b (b ≡ true)
 Decides-itself b = (λ is. is, λ is. is)

@@ -36,7 +36,7 @@ impl StatusState {
 }
 
 /// What has happened to one change, as the host hands it in.
-#[derive(Debug, Drop, PartialEq, Eq)]
+#[derive(Drop, PartialEq, Eq)]
 pub enum ChangeFact {
     /// The fact `opened`: it is opened, for the first time or again.
     Opened {
@@ -105,7 +105,7 @@ impl ChangeFact {
 }
 
 /// What has happened apart from any one change, as the host hands it in.
-#[derive(Debug, Drop, PartialEq, Eq)]
+#[derive(Drop, PartialEq, Eq)]
 pub enum Fact {
     /// The fact `role`: a person's role is set.
     Role {
@@ -196,7 +196,7 @@ impl Fact {
 }
 
 /// What is done to one change.
-#[derive(Debug, Drop, PartialEq, Eq)]
+#[derive(Drop, PartialEq, Eq)]
 pub enum Deed {
     /// One thing that a person's comment on it says.
     Said {
@@ -210,7 +210,7 @@ pub enum Deed {
 }
 
 /// One thing that may change the state.
-#[derive(Debug, Drop, PartialEq, Eq)]
+#[derive(Drop, PartialEq, Eq)]
 pub enum Act {
     /// Something that is done to one change.
     On {

@@ -44,7 +44,7 @@ impl Branch {
 }
 
 /// What was last told of a required status.
-#[derive(Clone, Copy, Debug, PartialEq, Eq)]
+#[derive(Clone, Copy, PartialEq, Eq)]
 pub enum Report {
     /// It has succeeded.
     Success,
@@ -59,7 +59,7 @@ impl TryCopy for Report {
 }
 
 /// The last report of each required status that one has come of. A contract sees it as the finite map.
-#[derive(Debug, Drop)]
+#[derive(Drop)]
 pub struct Reports {
     reports: BTreeMap<Context, Report>,
 }
@@ -133,7 +133,7 @@ impl Reports {
 }
 
 /// Where a batch stands. Moments are readings of the clock, in seconds.
-#[derive(Debug, Drop)]
+#[derive(Drop)]
 pub enum Stage {
     /// It waits for its branch.
     Waiting,
@@ -184,7 +184,7 @@ impl Stage {
 pub type Changes = List<ChangeNo>;
 
 /// Changes that are tested together, on one branch.
-#[derive(Debug, Drop)]
+#[derive(Drop)]
 pub struct Batch {
     /// Its number, which no other batch ever has.
     pub number: u64,

@@ -14,7 +14,7 @@ pub trait Choice {
 }
 
 /// All changes but one.
-#[derive(Clone, Copy, Debug)]
+#[derive(Clone, Copy)]
 pub struct AllBut {
     /// The one that isn't chosen.
     pub change: ChangeNo,

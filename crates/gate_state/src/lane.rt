@@ -16,7 +16,7 @@ use std::alloc::{AllocError, Global};
 pub type Batches = List<Batch>;
 
 /// The batches of one branch.
-#[derive(Debug, Drop)]
+#[derive(Drop)]
 pub struct Lane {
     /// The batch that is tested or lands, if there is one.
     pub running: Option<Batch>,

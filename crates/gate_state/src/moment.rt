@@ -4,7 +4,7 @@ ghost use Rattle.gate_state.specs.State.{IsMoment};
 use std::marker::Model;
 
 /// A reading of the clock, in seconds, from 0 to 9,000,000,000,000,000. A contract sees it as that number.
-#[derive(Clone, Copy, Debug, PartialEq, Eq)]
+#[derive(Clone, Copy, PartialEq, Eq)]
 pub struct Moment {
     seconds: u64,
 }

@@ -11,7 +11,7 @@ use gate_text::{ChangeNo, Commit, Context};
 use std::alloc::{AllocError, Global};
 
 /// The batches of both branches, and the number of the next batch.
-#[derive(Debug, Drop)]
+#[derive(Drop)]
 pub struct Queue {
     /// What is to land.
     pub staging: Lane,

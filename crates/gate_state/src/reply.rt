@@ -7,7 +7,7 @@ use gate_text::{ChangeNo, Commit, Context, List, TryCopy};
 use std::alloc::{AllocError, Global};
 
 /// Why a change's approval or try has ended without a command.
-#[derive(Debug, Drop, PartialEq, Eq)]
+#[derive(Drop, PartialEq, Eq)]
 pub enum Why {
     /// Its batch, in which it was alone, can't be merged.
     Conflict,
@@ -88,7 +88,7 @@ impl Why {
 }
 
 /// A change and the head at which it is to be merged.
-#[derive(Clone, Copy, Debug, PartialEq, Eq)]
+#[derive(Clone, Copy, PartialEq, Eq)]
 pub struct Head {
     /// The change.
     pub change: ChangeNo,
@@ -106,7 +106,7 @@ impl TryCopy for Head {
 pub type Heads = List<Head>;
 
 /// What the host is to do.
-#[derive(Debug, Drop, PartialEq, Eq)]
+#[derive(Drop, PartialEq, Eq)]
 pub enum Order {
     /// To merge the heads onto the base, on the branch, and to have the outcome tested.
     Stage {
@@ -172,7 +172,7 @@ impl TryCopy for Order {
 pub type Orders = List<Order>;
 
 /// What one act is answered.
-#[derive(Debug, Drop, PartialEq, Eq)]
+#[derive(Drop, PartialEq, Eq)]
 pub enum Reply {
     /// It acted, and these are the orders.
     Done(Orders),

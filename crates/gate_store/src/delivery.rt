@@ -9,7 +9,7 @@ use gate_text::{ChangeNo, DeliveryId, Name, Spoken, Text, read_comment};
 use std::alloc::{AllocError, Global};
 
 /// What happened, as a host hands it in.
-#[derive(Debug, Drop, PartialEq, Eq)]
+#[derive(Drop, PartialEq, Eq)]
 pub enum Event {
     /// A comment was written on a change.
     Comment {
@@ -32,7 +32,7 @@ pub enum Event {
 }
 
 /// One hand-in of the host, with its identifier.
-#[derive(Debug, Drop, PartialEq, Eq)]
+#[derive(Drop, PartialEq, Eq)]
 pub struct Delivery {
     /// What the host calls the delivery.
     pub id: DeliveryId,

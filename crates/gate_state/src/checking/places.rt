@@ -69,10 +69,11 @@ fn are_different(changes: &[ChangeNo]) -> bool
     true
 }
 
+#[tactic(auto, using(crate::proofs::Deciding::none_passes))]
 fn is_unlike(change: ChangeNo, others: &[ChangeNo]) -> bool
     ensures { result ≡ list_all (checks.is_other_change change) others.now }
 {
-    others.iter().all(|other| change != *other)
+    !is_in(change, others)
 }
 
 fn none_inside(changes: &[ChangeNo], batches: &[Batch]) -> bool
@@ -92,7 +93,7 @@ fn is_inside(change: ChangeNo, batches: &[Batch]) -> bool
 fn is_in(change: ChangeNo, changes: &[ChangeNo]) -> bool
     ensures { result ≡ checks.is_in change changes.now }
 {
-    changes.iter().any(|other| change == *other)
+    changes.contains(&change)
 }
 
 // Whether a branch has to hold a change, unless that is landing.

@@ -202,9 +202,10 @@ fn push_heads(rt: &impl Abort, words: &mut String, heads: &Heads) {
 
 fn push_notice(rt: &impl Abort, words: &mut String, change: ChangeNo, why: &Why) {
     let change = change.number();
+    let word = why.word();
     match why {
-        Why::Failed(name) => write!(words, " {change} Failed {}", name.text()),
-        why => write!(words, " {change} {why:?}"),
+        Why::Failed(name) => write!(words, " {change} {word} {}", name.text()),
+        _ => write!(words, " {change} {word}"),
     }
     .expect(rt, "memory");
 }
