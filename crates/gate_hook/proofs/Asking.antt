@@ -5,13 +5,13 @@ use Rattle.std.proofs.lemmas.Bool.{le-leb}
 use Rattle.std.proofs.lemmas.List.{append-nil, drop-append-le, take-append-le}
 use Rattle.std.specs.Io.KnownBytes.{IsAtEnd}
 use Rattle.httparse.specs.Grammar.{print_request}
-use Rattle.gate_hook.specs.Heads.{BeginsWith, max_head}
-use Rattle.gate_hook.specs.Receiving.{HasReadBody, HasReadHead, IsHeadOf, IsInput}
-use Rattle.gate_hook.specs.Requests.{Asks, asked_by, body_in, needed_by}
-use Rattle.gate_hook.specs.declared.head.Ask.{Ask}
-use Rattle.gate_hook.specs.declared.head.Ask.TheVariants.{Delivery, Report}
-use Rattle.gate_hook.specs.declared.head.Head.{Head}
-use Rattle.gate_hook.specs.declared.refusal.Refusal.{Refusal}
+use Rattle.gate_http.specs.Heads.{BeginsWith, max_head, IsHeadOf, needed_by}
+use Rattle.gate_hook.specs.Receiving.{HasReadBody, HasReadHead, IsInput}
+use Rattle.gate_hook.specs.Requests.{Asks, asked_by, body_in}
+use Rattle.gate_http.specs.declared.head.Ask.{Ask}
+use Rattle.gate_http.specs.declared.head.Ask.TheVariants.{Delivery, Report}
+use Rattle.gate_http.specs.declared.head.Head.{Head}
+use Rattle.gate_http.specs.declared.refusal.Refusal.{Refusal}
 use Rattle.gate_hook.specs.declared.requests.Request.{Request}
 use Rattle.gate_hook.proofs.NoHead.{is-left, left_of}
 

@@ -2,13 +2,13 @@
 use Rattle.std.proofs.Common.{◌≡◌, ℕ, ◌==◌, Bool, true, false, true≢false, inl, inr, List, [], ◌∷◌, length, Some, Result, Ok, Err, codes, refl, sym, arith}
 use Rattle.std.proofs.lemmas.Bool.Decides.{Decides-eqb}
 use Rattle.httparse.specs.Grammar.{RequestHead}
-use Rattle.gate_hook.proofs.Numerals.{both}
-use Rattle.gate_hook.specs.Heads.{values_of}
+use Rattle.gate_http.proofs.Numerals.{both}
+use Rattle.gate_http.specs.Heads.{values_of}
 use Rattle.gate_hook.specs.Requests.{asked}
 use Rattle.gate_hook.specs.Told.{LawOfTokens}
-use Rattle.gate_hook.specs.Tokens.{bears, is_let_in}
-use Rattle.gate_hook.specs.declared.refusal.Refusal.{Refusal}
-use Rattle.gate_hook.specs.declared.refusal.Refusal.TheVariants.{BadRequest, Unauthorized}
+use Rattle.gate_http.specs.Tokens.{bears, is_let_in}
+use Rattle.gate_http.specs.declared.refusal.Refusal.{Refusal}
+use Rattle.gate_http.specs.declared.refusal.Refusal.TheVariants.{BadRequest, Unauthorized}
 use Rattle.gate_hook.specs.declared.requests.Request.{Request}
 
 abbrev Wish : Type 0

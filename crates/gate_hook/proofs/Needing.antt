@@ -5,12 +5,12 @@ use Rattle.std.proofs.lemmas.Bool.Decides.{leb_tells}
 use Rattle.std.proofs.lemmas.List.{append-nil}
 use Rattle.httparse.proofs.GrammarLemmas.{request_unique}
 use Rattle.httparse.specs.Grammar.{HasNoRequest, ReadsRequest, RequestHead, print_request}
-use Rattle.gate_hook.specs.Heads.{BeginsWith, HasNoHead, ask_in, max_head}
-use Rattle.gate_hook.specs.Receiving.{EndsWithin, IsHeadOf}
-use Rattle.gate_hook.specs.Requests.{TakesAsNeeded, needed_by, piece}
-use Rattle.gate_hook.specs.declared.head.Ask.{Ask}
-use Rattle.gate_hook.specs.declared.head.Head.{Head}
-use Rattle.gate_hook.specs.declared.refusal.Refusal.{Refusal}
+use Rattle.gate_http.specs.Heads.{BeginsWith, HasNoHead, ask_in, max_head, IsHeadOf, needed_by}
+use Rattle.gate_hook.specs.Receiving.{EndsWithin}
+use Rattle.gate_hook.specs.Requests.{TakesAsNeeded, piece}
+use Rattle.gate_http.specs.declared.head.Ask.{Ask}
+use Rattle.gate_http.specs.declared.head.Head.{Head}
+use Rattle.gate_http.specs.declared.refusal.Refusal.{Refusal}
 use Rattle.gate_hook.proofs.Asking.{begins}
 use Rattle.gate_hook.proofs.NoHead.{within}
 

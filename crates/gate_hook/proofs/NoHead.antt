@@ -4,7 +4,7 @@ use Rattle.std.proofs.Math.Seq.{take-append_seam}
 use Rattle.std.proofs.lemmas.List.{take-append-drop, take-append-le}
 use Rattle.httparse.specs.Grammar.{HasNoRequest, print_request}
 use Rattle.httparse.specs.Spans.{RequestOverflows}
-use Rattle.gate_hook.specs.Heads.{HasNoHead, max_fields, max_head}
+use Rattle.gate_http.specs.Heads.{HasNoHead, max_fields, max_head}
 use Rattle.gate_hook.specs.Receiving.{IsLeft}
 
 -- with what is left of the input, these bytes have no head

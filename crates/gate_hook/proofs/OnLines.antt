@@ -10,17 +10,17 @@ use Rattle.serde_json.specs.Data.{Data}
 use Rattle.serde_json.specs.Find.{get, as_u64, as_number}
 use Rattle.gate_text.specs.Steps.{◌>>=◌}
 use Rattle.gate_state.specs.State.{IsMoment}
-use Rattle.gate_store.specs.Acts.{EventKeepsLimits}
+use Rattle.gate_deliveries.specs.Acts.{EventKeepsLimits}
 use Rattle.gate_store.specs.Headline.{KeepLimits, Headline, HistoryTells, LawOfHeadlines, LawOfTelling}
 use Rattle.gate_store.specs.Run.{NoneMeetsFull, Records, after_deliveries, after_delivery, answers_to}
-use Rattle.gate_store.specs.declared.delivery.Delivery.{Delivery}
-use Rattle.gate_store.specs.declared.delivery.Event.{Event}
-use Rattle.gate_hook.specs.Deliveries.{between, field_name, change_at, batch_at, now_at, name_at, text_at, commit_at, label_at, context_at, approves_at, role_at, state_at, comment_in, role_in, settings_in, base_in, opened_in, pushed_in, closed_in, labeled_in, unlabeled_in, review_in, staged_in, conflict_in, status_in, refused_in, tick_in, event_called, id_at, delivery_in, object_of, delivery_of}
+use Rattle.gate_deliveries.specs.declared.delivery.Delivery.{Delivery}
+use Rattle.gate_deliveries.specs.declared.delivery.Event.{Event}
+use Rattle.gate_deliveries.specs.Deliveries.{between, field_name, change_at, batch_at, now_at, name_at, text_at, commit_at, label_at, context_at, approves_at, role_at, state_at, comment_in, role_in, settings_in, base_in, opened_in, pushed_in, closed_in, labeled_in, unlabeled_in, review_in, staged_in, conflict_in, status_in, refused_in, tick_in, event_called, id_at, delivery_in, object_of, delivery_of}
 use Rattle.gate_hook.specs.Lines.{is_too_long, after_lines, after_reading, reading_meets_full, NoLineMeetsFull}
 use Rattle.gate_hook.specs.Told.{deliveries_on, LawOfLines, LawOfLineHistories}
-use Rattle.gate_hook.specs.declared.field.Field.TheVariants as field
-use Rattle.gate_hook.specs.declared.reading.DeliveryFault.{DeliveryFault}
-use Rattle.gate_hook.specs.declared.reading.DeliveryFault.TheVariants.{BadField}
+use Rattle.gate_deliveries.specs.declared.field.Field.TheVariants as field
+use Rattle.gate_deliveries.specs.declared.reading.DeliveryFault.{DeliveryFault}
+use Rattle.gate_deliveries.specs.declared.reading.DeliveryFault.TheVariants.{BadField}
 
 -- STEPS: what holds of each value that a step may go on with, or of the values of which something is known
 go_on : {X Y : Type 0} (P : Y → Type 0) (step : Result X DeliveryFault) (next : X → Result Y DeliveryFault) → ((x : X) → IfOk (next x) P) → IfOk (step >>= next) P

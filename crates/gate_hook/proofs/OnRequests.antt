@@ -4,15 +4,15 @@ use Rattle.std.specs.Prelude.{⊤}
 use Rattle.std.proofs.lemmas.List.Elements.{All-nil, All-cons}
 use Rattle.gate_text.specs.Steps.{◌>>=◌}
 use Rattle.gate_store.specs.Headline.{LawOfHeadlines, LawOfTelling}
-use Rattle.gate_store.specs.declared.delivery.Delivery.{Delivery}
-use Rattle.gate_hook.specs.Deliveries.{delivery_of}
-use Rattle.gate_hook.specs.Heads.{ask_in}
+use Rattle.gate_deliveries.specs.declared.delivery.Delivery.{Delivery}
+use Rattle.gate_deliveries.specs.Deliveries.{delivery_of}
+use Rattle.gate_http.specs.Heads.{ask_in}
 use Rattle.gate_hook.specs.Requests.{Asks, asked_by, body_in, delivery_or_refusal}
 use Rattle.gate_hook.specs.Told.{LawOfRequests, LawOfRequestHistories}
-use Rattle.gate_hook.specs.declared.head.Ask.{Ask}
-use Rattle.gate_hook.specs.declared.head.Ask.TheVariants as ask
-use Rattle.gate_hook.specs.declared.reading.DeliveryFault.{DeliveryFault}
-use Rattle.gate_hook.specs.declared.refusal.Refusal.{Refusal}
+use Rattle.gate_http.specs.declared.head.Ask.{Ask}
+use Rattle.gate_http.specs.declared.head.Ask.TheVariants as ask
+use Rattle.gate_deliveries.specs.declared.reading.DeliveryFault.{DeliveryFault}
+use Rattle.gate_http.specs.declared.refusal.Refusal.{Refusal}
 use Rattle.gate_hook.specs.declared.requests.Request.{Request}
 use Rattle.gate_hook.specs.declared.requests.Request.TheVariants as request
 use Rattle.gate_hook.proofs.OnLines.{DeliveryKeeps, read_keeps}

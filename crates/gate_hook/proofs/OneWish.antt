@@ -3,7 +3,7 @@ use Rattle.std.proofs.Common.{◌≡◌, ℕ, inl, inr, List, Option, Result, sy
 use Rattle.httparse.proofs.GrammarLemmas.{request_unique}
 use Rattle.httparse.specs.Grammar.{RequestHead}
 use Rattle.gate_hook.specs.Requests.{Asks, asked}
-use Rattle.gate_hook.specs.declared.refusal.Refusal.{Refusal}
+use Rattle.gate_http.specs.declared.refusal.Refusal.{Refusal}
 use Rattle.gate_hook.specs.declared.requests.Request.{Request}
 
 pub one-wish : (token : Option (List ℕ)) (input : List ℕ) (wish other : Result Request Refusal) → Asks token input wish → Asks token input other → wish ≡ other

@@ -8,18 +8,18 @@ use Rattle.gate_store.specs.Run.{IsOpenAfter, Records}
 use Rattle.gate_hook.specs.Receiving.{IsInput, IsUnread}
 use Rattle.gate_hook.specs.Requests.{Asks}
 use Rattle.gate_hook.specs.Responding.{Answers, HasConsumed, HasSent, IsTranscript, Responds}
-use Rattle.gate_hook.specs.Responses.{Response, fault_response, response_text}
+use Rattle.gate_http.specs.Responses.{Response, fault_response, response_text}
 use Rattle.gate_hook.specs.Sending.{IsCutOff}
 use Rattle.gate_hook.specs.Served.{AnswersOne, AsksNoDelivery, Breaks, IsDue, StaysServing, after_wish, report_in, response_to, response_to_report}
 use Rattle.gate_hook.specs.declared.fault.HookFault.{HookFault}
 use Rattle.gate_hook.specs.declared.fault.HookFault.TheVariants.{Gate, Read, Write, TooMuch}
-use Rattle.gate_hook.specs.declared.refusal.Refusal.{Refusal}
+use Rattle.gate_http.specs.declared.refusal.Refusal.{Refusal}
 use Rattle.gate_hook.specs.declared.requests.Request.{Request}
 use Rattle.gate_hook.specs.declared.requests.Request.TheVariants.{Delivery, Report}
 use Rattle.gate_hook.specs.declared.requests.Served.{Served}
-use Rattle.gate_hook.specs.declared.refusal.Refusal.TheVariants.{BadRequest, Unauthorized, NotFound, MethodNotAllowed, NotImplemented, LengthRequired, ContentTooLarge, NoDelivery}
-use Rattle.gate_hook.specs.declared.reading.DeliveryFault.TheVariants.{NotJson, BadField, UnknownEvent, Memory as NoMemory}
-use Rattle.gate_hook.specs.declared.response.Response.{Response as Made}
+use Rattle.gate_http.specs.declared.refusal.Refusal.TheVariants.{BadRequest, Unauthorized, NotFound, MethodNotAllowed, NotImplemented, LengthRequired, ContentTooLarge, NoDelivery}
+use Rattle.gate_deliveries.specs.declared.reading.DeliveryFault.TheVariants.{NotJson, BadField, UnknownEvent, Memory as NoMemory}
+use Rattle.gate_http.specs.declared.response.Response.{Response as Made}
 use Rattle.gate_hook.proofs.NoHead.{is-left, left_of}
 
 -- A REQUEST THAT WASN'T READ: some input, and nothing has changed

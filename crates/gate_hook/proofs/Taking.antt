@@ -7,7 +7,7 @@ use Rattle.std.specs.Io.KnownBytes.{Appends}
 use Rattle.gate_queue.specs.declared.fault.Fault.{Fault}
 use Rattle.gate_queue.specs.declared.fault.Fault.TheVariants.{Memory, Store, Full, Foreign}
 use Rattle.gate_store.specs.Run.{Records}
-use Rattle.gate_hook.specs.Deliveries.{delivery_of}
+use Rattle.gate_deliveries.specs.Deliveries.{delivery_of}
 use Rattle.gate_hook.specs.Lines.{ended_lines, open_line, line_text, too_long_text, text_answered, after_line, is_delivery, line_meets_full, after_reading, reading_meets_full, text_for, after_lines, NoLineMeetsFull, MayCause, StopsAtLine}
 use Rattle.gate_hook.specs.Serving.{IsAnswered, IsOfGate, IsUpTo, StopsBehind, ToldBehind, kept_of}
 use Rattle.gate_hook.specs.declared.fault.HookFault.{HookFault}

@@ -12,19 +12,12 @@
 --     Served       what is sent for one request, and the records after it
 -- Of the other files Sending (`IsCutOff`) and Receiving (`IsInput`) have one word each of public clauses; the rest is of functions
 -- within the crate.
-pub mod Deliveries
 pub mod Denials
-pub mod Errors
-pub mod Heads
 pub mod Lines
 pub mod Receiving
 pub mod Requests
 pub mod Responding
-pub mod Responses
-pub mod Routes
 pub mod Sending
 pub mod Served
 pub mod Serving
-pub mod Targets
 pub mod Told
-pub mod Tokens

@@ -5,12 +5,12 @@ use Rattle.gate_queue.specs.declared.fault.Fault.{Fault}
 use Rattle.gate_queue.specs.declared.fault.Fault.TheVariants.{Memory, Store, Full, Foreign}
 use Rattle.gate_answers.specs.Answers.{answer_text_of}
 use Rattle.gate_store.specs.Run.{Records, answer_to, after_delivery, meets_full, IsOfKeepers, IsOpenAfter}
-use Rattle.gate_store.specs.declared.delivery.Delivery.{Delivery}
-use Rattle.gate_hook.specs.Errors.{error_text_of}
-use Rattle.gate_hook.specs.Deliveries.{delivery_of}
+use Rattle.gate_deliveries.specs.declared.delivery.Delivery.{Delivery}
+use Rattle.gate_deliveries.specs.Errors.{error_text_of}
+use Rattle.gate_deliveries.specs.Deliveries.{delivery_of}
 use Rattle.gate_hook.specs.declared.fault.HookFault.{HookFault}
 use Rattle.gate_hook.specs.declared.fault.HookFault.TheVariants.{Gate, Read, Write, TooMuch}
-use Rattle.gate_hook.specs.declared.reading.DeliveryFault.{DeliveryFault}
+use Rattle.gate_deliveries.specs.declared.reading.DeliveryFault.{DeliveryFault}
 
 -- THE LINES OF A TEXT
 abbrev pub begin_with : ℕ → List (List ℕ) → List (List ℕ)

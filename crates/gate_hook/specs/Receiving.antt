@@ -1,44 +1,17 @@
 -- What was read of a request, for the contracts of the functions that read it.
-use Rattle.std.specs.Prelude.{◌≡◌, ◌⊎◌, ℕ, ◌+◌, ◌-◌, ◌<◌, ◌≤◌, ⊤, List, [], ◌∷◌, ◌++◌, length, take, drop, Bool, true, false, Option, Some, None, Result, Ok, Err}
+use Rattle.std.specs.Prelude.{◌≡◌, ◌⊎◌, ℕ, ◌+◌, ◌-◌, ◌<◌, ◌≤◌, ⊤, List, [], ◌++◌, length, take, Bool, true, false, Option, Some, None, Result, Ok, Err}
 use Rattle.std.specs.Io.KnownBytes.{Consumes, Keeps, IsAtEnd}
-use Rattle.httparse.specs.Grammar.{RequestHead, ReadsRequest, HasNoRequest, print_request}
+use Rattle.httparse.specs.Grammar.{RequestHead, ReadsRequest, HasNoRequest}
 use Rattle.httparse.specs.Spans.{RequestOverflows}
 use Rattle.gate_queue.specs.declared.fault.Fault.TheVariants.{Memory}
-use Rattle.gate_hook.specs.Requests.{Asks, TakesAsNeeded, needed_by, piece}
-use Rattle.gate_hook.specs.declared.refusal.Refusal.{Refusal}
-use Rattle.gate_hook.specs.Heads.{max_fields, max_head, ask_in, path_of, HasNoHead}
+use Rattle.gate_hook.specs.Requests.{Asks, TakesAsNeeded, piece}
+use Rattle.gate_http.specs.declared.refusal.Refusal.{Refusal}
+use Rattle.gate_http.specs.Heads.{max_fields, max_head, ask_in, needed_by, HasNoHead, IsHeadOf}
 use Rattle.gate_hook.specs.declared.fault.HookFault.{HookFault}
 use Rattle.gate_hook.specs.declared.fault.HookFault.TheVariants.{Gate, Read, Write, TooMuch}
-use Rattle.gate_hook.specs.declared.head.Found.{Found}
-use Rattle.gate_hook.specs.declared.head.Found.TheVariants.{Whole, Unfinished, Never}
-use Rattle.gate_hook.specs.declared.head.Head.{Head}
-use Rattle.gate_hook.specs.declared.head.RequestLine.{RequestLine}
+use Rattle.gate_http.specs.declared.head.Head.{Head}
 use Rattle.gate_hook.specs.declared.requests.Request.{Request}
-use Rattle.gate_hook.specs.Tokens.{token_in}
-
--- the first of some values, if there is one
-abbrev pub first_value : List (List ℕ) → Option (List ℕ)
-first_value [] = None
-first_value (value ∷ others) = Some value
-
--- these bytes begin with a head, of which this is told, if this token is needed, or none
-pub record IsHeadOf (token : Option (List ℕ)) (told : Head) (bytes : List ℕ) : Type 0 where
-  pub head : RequestHead
-  pub reads : ReadsRequest bytes head (drop told.len bytes)
-  pub len : told.len ≡ length (print_request head)
-  pub fields : length head.fields ≤ max_fields
-  pub ask : told.ask ≡ ask_in token head
-
-abbrev pub IsFound : Option (List ℕ) → Found → List ℕ → Type 0
-IsFound token (Whole told) bytes = IsHeadOf token told bytes
-IsFound token Unfinished bytes = HasNoRequest bytes
-IsFound token Never bytes = RequestOverflows max_fields bytes
-
--- the method and the path of the head with which these bytes begin, if they have one
-abbrev pub IsLineOf : Option RequestLine → List ℕ → Type 0
-IsLineOf None bytes = HasNoRequest bytes ⊎ RequestOverflows max_fields bytes
-IsLineOf (Some line) bytes =
-    (head : RequestHead) × (rest : List ℕ) × ReadsRequest bytes head rest × (line.method.now ≡ head.method) × (line.path.now ≡ path_of head.target)
+use Rattle.gate_http.specs.Tokens.{token_in}
 
 -- these bytes are what a reader has left, if that is known
 abbrev pub IsLeft : Option (List ℕ) → List ℕ → Type 0

@@ -2,14 +2,14 @@
 use Rattle.std.specs.Prelude.{◌≡◌, ◌⊎◌, ℕ, ◌<◌, ◌≤◌, nat_le, List, length, take, Option, Result, Ok, Err, if◌then◌else◌}
 use Rattle.httparse.specs.Grammar.{RequestHead}
 use Rattle.gate_text.specs.Steps.{◌>>=◌}
-use Rattle.gate_store.specs.declared.delivery.Delivery.{Delivery}
-use Rattle.gate_hook.specs.Deliveries.{delivery_of}
-use Rattle.gate_hook.specs.Heads.{BeginsWith, HasNoHead, ask_in, max_head}
-use Rattle.gate_hook.specs.declared.head.Ask.{Ask}
-use Rattle.gate_hook.specs.declared.head.Ask.TheVariants.{Delivery as TheDelivery, Report as TheReport}
-use Rattle.gate_hook.specs.declared.reading.DeliveryFault.{DeliveryFault}
-use Rattle.gate_hook.specs.declared.refusal.Refusal.{Refusal}
-use Rattle.gate_hook.specs.declared.refusal.Refusal.TheVariants.{BadRequest, NoDelivery}
+use Rattle.gate_deliveries.specs.declared.delivery.Delivery.{Delivery}
+use Rattle.gate_deliveries.specs.Deliveries.{delivery_of}
+use Rattle.gate_http.specs.Heads.{BeginsWith, HasNoHead, ask_in, max_head, needed_by}
+use Rattle.gate_http.specs.declared.head.Ask.{Ask}
+use Rattle.gate_http.specs.declared.head.Ask.TheVariants.{Delivery as TheDelivery, Report as TheReport}
+use Rattle.gate_deliveries.specs.declared.reading.DeliveryFault.{DeliveryFault}
+use Rattle.gate_http.specs.declared.refusal.Refusal.{Refusal}
+use Rattle.gate_http.specs.declared.refusal.Refusal.TheVariants.{BadRequest, NoDelivery}
 use Rattle.gate_hook.specs.declared.requests.Request.{Request}
 use Rattle.gate_hook.specs.declared.requests.Request.TheVariants.{Delivery as DeliveryOf, Report as ReportOf}
 
@@ -42,12 +42,6 @@ abbrev pub Asks : Option (List ℕ) → List ℕ → Result Request Refusal → 
 Asks token input wish =
     ((head : RequestHead) × (rest : List ℕ) × BeginsWith input head rest × (wish ≡ asked token head rest))
     ⊎ (HasNoHead input × (wish ≡ Err BadRequest))
-
--- how many bytes of a body the answer needs
-abbrev pub needed_by : Result Ask Refusal → ℕ
-needed_by (Ok (TheDelivery size)) = size
-needed_by (Ok (TheReport report)) = 0
-needed_by (Err refusal) = 0
 
 -- so many bytes are read at once
 abbrev pub piece : ℕ

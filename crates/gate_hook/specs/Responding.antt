@@ -5,14 +5,14 @@ use Rattle.gate_queue.specs.declared.fault.Fault.{Fault}
 use Rattle.gate_queue.specs.declared.fault.Fault.TheVariants.{Memory, Store, Full, Foreign}
 use Rattle.gate_store.specs.Run.{Records, IsOfKeepers}
 use Rattle.gate_hook.specs.Requests.{Asks}
-use Rattle.gate_hook.specs.Responses.{IsResponse}
+use Rattle.gate_http.specs.Responses.{IsResponse}
 use Rattle.gate_hook.specs.Served.{Breaks, MeetsNoFull, IsTaken, MeetsFull, after_wish, response_to}
 use Rattle.gate_hook.specs.declared.fault.HookFault.{HookFault}
 use Rattle.gate_hook.specs.declared.fault.HookFault.TheVariants.{Gate, Read, Write, TooMuch}
-use Rattle.gate_hook.specs.declared.refusal.Refusal.{Refusal}
+use Rattle.gate_http.specs.declared.refusal.Refusal.{Refusal}
 use Rattle.gate_hook.specs.declared.requests.Request.{Request}
 use Rattle.gate_hook.specs.declared.requests.Served.{Served}
-use Rattle.gate_hook.specs.declared.response.Response.{Response}
+use Rattle.gate_http.specs.declared.response.Response.{Response}
 
 -- what making the response to this wish leaves
 abbrev pub Responds : Result Response HookFault → Records → Result Request Refusal → Records → Type 0

@@ -8,19 +8,19 @@ use Rattle.gate_report.specs.Change.{change_text_of}
 use Rattle.gate_report.specs.Queue.{queue_text_of}
 use Rattle.gate_answers.specs.Answers.{answer_text_of}
 use Rattle.gate_store.specs.Run.{IsOpenAfter, Records, answer_to, after_delivery, meets_full}
-use Rattle.gate_store.specs.declared.delivery.Delivery.{Delivery}
+use Rattle.gate_deliveries.specs.declared.delivery.Delivery.{Delivery}
 use Rattle.gate_hook.specs.Requests.{Asks}
 use Rattle.gate_hook.specs.Sending.{IsCutOff}
-use Rattle.gate_hook.specs.Responses.{Response, response_text, answer_response, refusal_response, report_response, fault_response}
+use Rattle.gate_http.specs.Responses.{Response, response_text, answer_response, refusal_response, report_response, fault_response}
 use Rattle.gate_hook.specs.declared.fault.HookFault.{HookFault}
 use Rattle.gate_hook.specs.declared.fault.HookFault.TheVariants.{Gate, Read, Write, TooMuch}
-use Rattle.gate_hook.specs.declared.refusal.Refusal.{Refusal}
-use Rattle.gate_hook.specs.declared.refusal.Refusal.TheVariants.{NotFound}
+use Rattle.gate_http.specs.declared.refusal.Refusal.{Refusal}
+use Rattle.gate_http.specs.declared.refusal.Refusal.TheVariants.{NotFound}
 use Rattle.gate_hook.specs.declared.requests.Request.{Request}
 use Rattle.gate_hook.specs.declared.requests.Request.TheVariants.{Delivery as DeliveryOf, Report as ReportOf}
 use Rattle.gate_hook.specs.declared.requests.Served.{Served}
-use Rattle.gate_hook.specs.declared.target.Report.{Report}
-use Rattle.gate_hook.specs.declared.target.Report.TheVariants.{Queue, Change}
+use Rattle.gate_http.specs.declared.target.Report.{Report}
+use Rattle.gate_http.specs.declared.target.Report.TheVariants.{Queue, Change}
 
 -- THE TEXT OF A REPORT, if there is one: there is none of a change that was never opened.
 abbrev pub report_in : State → Report → Option (List ℕ)

@@ -6,12 +6,12 @@ use Rattle.httparse.specs.Grammar.{RequestHead}
 use Rattle.gate_queue.specs.History.{Entry, Legal}
 use Rattle.gate_store.specs.Headline.{Headline, HistoryTells}
 use Rattle.gate_store.specs.Run.{Records, answer_to, answers_to, after_delivery, meets_full}
-use Rattle.gate_store.specs.declared.delivery.Delivery.{Delivery}
-use Rattle.gate_hook.specs.Deliveries.{delivery_of}
+use Rattle.gate_deliveries.specs.declared.delivery.Delivery.{Delivery}
+use Rattle.gate_deliveries.specs.Deliveries.{delivery_of}
 use Rattle.gate_hook.specs.Lines.{is_too_long, after_lines, NoLineMeetsFull}
-use Rattle.gate_hook.specs.Heads.{BeginsWith, values_of}
+use Rattle.gate_http.specs.Heads.{BeginsWith, values_of}
 use Rattle.gate_hook.specs.Requests.{Asks}
-use Rattle.gate_hook.specs.Tokens.{bears}
+use Rattle.gate_http.specs.Tokens.{bears}
 use Rattle.gate_hook.specs.declared.requests.Request.{Request}
 use Rattle.gate_hook.specs.declared.requests.Request.TheVariants.{Delivery as DeliveryOf}
 

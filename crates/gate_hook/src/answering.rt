@@ -3,18 +3,10 @@ ghost use Rattle.std.specs.String.{string_bytes};
 ghost use Rattle.gate_store.specs.Run.{AgreesOnFull, IsOfKeepers, StaysOpen, meets_full};
 ghost use Rattle.gate_hook.specs.Lines.{text_answered, after_reading};
 
+use gate_http::with_line_feed;
 use gate_queue::Fault;
 use gate_store::{Book, Delivery, Keeper};
-use std::alloc::{AllocError, Global};
-
-/// The text with a line feed behind it.
-pub fn with_line_feed(text: String) -> Result<String, AllocError>
-    ensures { IfOk result (λ ended. string_bytes ended ≡ string_bytes text ++ 10 ∷ []) }
-{
-    let mut ended = text;
-    ended.push('\n')?;
-    Ok(ended)
-}
+use std::alloc::Global;
 
 /// The text of the answer to a delivery, with its line feed.
 pub fn delivery_answer<B: Book>(

@@ -1,7 +1,7 @@
 ghost use Rattle.std.specs.Prelude.{◌≡◌, ℕ, List, Option, Result};
 ghost use Rattle.gate_hook.specs.Requests.{Asks};
 ghost use Rattle.gate_hook.specs.Told.{LawOfLineHistories, LawOfLines, LawOfRequestHistories, LawOfRequests, LawOfTokens};
-ghost use Rattle.gate_hook.specs.declared.refusal.Refusal.{Refusal as RefusalOf};
+ghost use Rattle.gate_http.specs.declared.refusal.Refusal.{Refusal as RefusalOf};
 ghost use Rattle.gate_hook.specs.declared.requests.Request.{Request as RequestOf};
 
 use gate_store::law_of_deliveries;

@@ -5,13 +5,13 @@ ghost use Rattle.gate_store.specs.Run.{Records, IsOfKeepers, StaysOpen};
 ghost use Rattle.gate_hook.specs.Lines.{line_text, after_line, line_meets_full, MayEnd, Serves, StopsAtLine, IsServed, IsWithinLimit};
 ghost use Rattle.gate_hook.specs.Serving.{IsAnswered, IsOfGate, IsTold, IsUpTo, MayStop, StaysSound, TakesByte, TakesBytes};
 
-use crate::answering::{delivery_answer, with_line_feed};
-use crate::errors::error_text;
+use crate::answering::delivery_answer;
 use crate::fault::HookFault;
 use crate::line::Line;
-use crate::reading::{DeliveryFault, read_delivery};
 use crate::receiving::read_part;
 use crate::sending::send;
+use gate_deliveries::{DeliveryFault, error_text, read_delivery};
+use gate_http::with_line_feed;
 use gate_queue::Fault;
 use gate_store::{Book, Keeper};
 use std::alloc::Global;

@@ -2,8 +2,7 @@ ghost use Rattle.std.specs.Prelude.{◌≡◌, ◌<◌, ◌≤◌, [], length, I
 ghost use Rattle.gate_hook.specs.Receiving.{IsEnough, IsRead, IsMore, HasReadHead, HasReadBody, HasReadToken};
 
 use crate::fault::HookFault;
-use crate::head::{Found, Head, MAX_HEAD, head_in};
-use crate::token::{MAX_TOKEN, Token};
+use gate_http::{Found, Head, MAX_HEAD, MAX_TOKEN, Token, head_in};
 use gate_queue::Fault;
 use std::alloc::{AllocError, Global};
 use std::io::Read;

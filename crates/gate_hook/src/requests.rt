@@ -2,25 +2,23 @@ ghost use Rattle.std.specs.Prelude.{◌≡◌, ◌≤◌, ◌↔◌, ℕ, List, 
 ghost use Rattle.std.specs.Option.{option_map};
 ghost use Rattle.std.specs.String.{string_bytes};
 ghost use Rattle.gate_store.specs.Run.{AgreesOnFull, IsOfBooks, IsOfKeepers, StaysOpen, after_delivery, meets_full};
-ghost use Rattle.gate_hook.specs.Deliveries.{delivery_of};
+ghost use Rattle.gate_deliveries.specs.Deliveries.{delivery_of};
 ghost use Rattle.gate_hook.specs.Receiving.{HasAsked, HasTaken, IsInput};
 ghost use Rattle.gate_hook.specs.Requests.{asked_by, delivery_or_refusal};
 ghost use Rattle.gate_hook.specs.Responding.{Answers, HasConsumed, HasSent, IsTranscript, MayFail, Responds};
-ghost use Rattle.gate_hook.specs.Responses.{IsResponse};
+ghost use Rattle.gate_http.specs.Responses.{IsResponse};
 ghost use Rattle.gate_hook.specs.declared.requests.Request.TheVariants.{Delivery as DeliveryOf, Report as ReportOf};
 ghost use Rattle.gate_hook.specs.Served.{AnswersOne, AsksNoDelivery, StaysServing, report_in, response_to, response_to_report};
 ghost use Rattle.gate_hook.specs.Serving.{StaysSound};
 
 use crate::answering::delivery_answer;
 use crate::fault::HookFault;
-use crate::head::{Ask, Head};
-use crate::reading::{DeliveryFault, read_delivery};
 use crate::receiving::{read_body, read_head};
-use crate::refusal::Refusal;
-use crate::response::{Response, json_response, refusal_response, report_response};
 use crate::sending::send;
-use crate::target::Report;
-use crate::token::Token;
+use gate_deliveries::{DeliveryFault, read_delivery};
+use gate_http::{
+    Ask, Head, Refusal, Report, Response, Token, json_response, refusal_response, report_response,
+};
 use gate_queue::{Fault, Gate};
 use gate_report::{change_text, queue_text};
 use gate_store::{Book, Delivery, Keeper};

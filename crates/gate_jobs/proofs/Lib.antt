@@ -1,5 +1,3 @@
-mod Numbers
 mod Reports
 mod Turns
 mod Visible
-mod Wrong

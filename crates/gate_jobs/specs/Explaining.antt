@@ -5,8 +5,8 @@ use Rattle.std.specs.String.{string_bytes}
 use Rattle.gate_jobs.specs.declared.fault.JobFault.TheVariants.{Hook}
 use Rattle.gate_jobs.specs.declared.outcome.Ending.{Ending}
 use Rattle.gate_jobs.specs.declared.outcome.Ending.TheVariants as ending
-use Rattle.gate_jobs.specs.declared.words.WordsFault.{WordsFault}
-use Rattle.gate_jobs.specs.declared.words.WordsFault.TheVariants.{Help, Usage, Memory}
+use Rattle.gate_words.specs.declared.words.WordsFault.{WordsFault}
+use Rattle.gate_words.specs.declared.words.WordsFault.TheVariants.{Help, Usage, Memory}
 use Rattle.gate_hook.specs.Sending.{IsCutOff}
 use Rattle.gate_hook.specs.declared.fault.HookFault.TheVariants.{Gate, Write}
 use Rattle.gate_queue.specs.declared.fault.Fault.TheVariants as gate

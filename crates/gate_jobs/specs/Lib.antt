@@ -1,6 +1,5 @@
--- What the contracts of this crate cite. For a reader, in this order:
---     Words        the job that words ask for
---     Explaining   what is told if they ask for none
+-- What the contracts of this crate cite. What words ask for, is told in gate_words. For a reader, in this order:
+--     Explaining   what is told if words ask for no job
 --     Report       the report of an input
 --     Accepting    connections, one after the other, and what is known of them
 --     Serving      what is done with them
@@ -12,4 +11,3 @@ pub mod Log
 pub mod Outcome
 pub mod Report
 pub mod Serving
-pub mod Words

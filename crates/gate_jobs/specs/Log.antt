@@ -6,10 +6,10 @@ use Rattle.std.specs.String.{string_bytes}
 use Rattle.gate_jobs.specs.Outcome.{word_of}
 use Rattle.gate_jobs.specs.declared.fault.JobFault.TheVariants.{Hook}
 use Rattle.gate_hook.specs.Denials.{IsDenialIn}
-use Rattle.gate_hook.specs.Receiving.{IsLineOf}
+use Rattle.gate_http.specs.Heads.{IsLineOf}
 use Rattle.gate_hook.specs.declared.fault.HookFault.{HookFault}
 use Rattle.gate_hook.specs.declared.fault.HookFault.TheVariants.{Gate}
-use Rattle.gate_hook.specs.declared.head.RequestLine.{RequestLine}
+use Rattle.gate_http.specs.declared.head.RequestLine.{RequestLine}
 use Rattle.gate_hook.specs.declared.requests.Served.{Served}
 use Rattle.gate_hook.specs.declared.requests.Transcript.{Transcript}
 use Rattle.gate_queue.specs.declared.fault.Fault.{Fault}

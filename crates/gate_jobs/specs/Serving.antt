@@ -7,7 +7,7 @@ use Rattle.gate_jobs.specs.declared.fault.JobFault.{JobFault}
 use Rattle.gate_jobs.specs.declared.fault.JobFault.TheVariants.{Hook, Token}
 use Rattle.gate_hook.specs.Receiving.{IsInput}
 use Rattle.gate_hook.specs.Served.{AnswersOne, StaysServing}
-use Rattle.gate_hook.specs.Tokens.{token_in}
+use Rattle.gate_http.specs.Tokens.{token_in}
 use Rattle.gate_hook.specs.declared.fault.HookFault.{HookFault}
 use Rattle.gate_hook.specs.declared.fault.HookFault.TheVariants.{Gate}
 use Rattle.gate_hook.specs.declared.requests.Served.{Served}

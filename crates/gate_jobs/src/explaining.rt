@@ -2,9 +2,9 @@ ghost use Rattle.gate_jobs.specs.Explaining.{Explains};
 
 use crate::fault::JobFault;
 use crate::outcome::Ending;
-use crate::words::WordsFault;
 use gate_hook::{HookFault, send};
 use gate_queue::Fault;
+use gate_words::WordsFault;
 use std::io::Write;
 
 /// Tells why words ask for no job: help that was asked for goes to the first writer, and what is wrong with the words to the

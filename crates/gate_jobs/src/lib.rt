@@ -1,9 +1,8 @@
-//! What the program is asked for by its words, its jobs over any book, and how it ends.
+//! The jobs of the program over any book, what is told if its words ask for none, and how it ends.
 #![tactic(auto)]
 
 mod accepting;
 mod closing;
-mod command;
 mod connections;
 mod explaining;
 mod fault;
@@ -11,15 +10,14 @@ mod logging;
 mod outcome;
 mod reporting;
 mod serving;
-mod words;
 
 pub use accepting::Acceptor;
 pub use closing::drop_part;
 pub use connections::{Connections, PatientReader, PatientWriter};
 pub use explaining::explain;
 pub use fault::JobFault;
+pub use gate_words::{Job, WordsFault, no_text, read_words};
 pub use logging::{LineLog, Log, Silence, log_line};
 pub use outcome::{Ending, complaint, ended, status};
 pub use reporting::report;
 pub use serving::{announce, serve, serve_request, token_of};
-pub use words::{Job, WordsFault, no_text, read_words};

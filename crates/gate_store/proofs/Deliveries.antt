@@ -13,13 +13,13 @@ use Rattle.gate_state.specs.declared.act.Act.TheVariants as act
 use Rattle.gate_state.specs.declared.act.Deed.TheVariants.{Happened}
 use Rattle.gate_queue.specs.History.{Entry, Legal, LawOfEntries}
 use Rattle.gate_queue.specs.Machine.{after}
-use Rattle.gate_store.specs.Acts.{EventKeepsLimits, acts_of_event}
+use Rattle.gate_deliveries.specs.Acts.{EventKeepsLimits, acts_of_event}
 use Rattle.gate_store.specs.Headline.{Each, KeepLimits, LawOfHeadlines, LawOfTelling, Tells, acts_of_all, entry_for, first_in, firsts, or_same}
 use Rattle.gate_store.specs.Run.{NoneMeetsFull, Records, acts_in, acts_meet_full, after_all, after_deliveries, after_delivery, is_known, meets_full, new_acts}
-use Rattle.gate_store.specs.declared.delivery.Delivery.{Delivery}
-use Rattle.gate_store.specs.declared.delivery.Event.{Event}
-use Rattle.gate_store.specs.declared.delivery.Event.TheVariants.{Comment, On, Other}
-use Rattle.gate_store.proofs.ActLimits.{all_keep, one_keeps}
+use Rattle.gate_deliveries.specs.declared.delivery.Delivery.{Delivery}
+use Rattle.gate_deliveries.specs.declared.delivery.Event.{Event}
+use Rattle.gate_deliveries.specs.declared.delivery.Event.TheVariants.{Comment, On, Other}
+use Rattle.gate_deliveries.proofs.ActLimits.{all_keep, one_keeps}
 use Rattle.gate_store.proofs.Firsts.{first_step, one_state}
 use Rattle.gate_store.proofs.Runs.{TellAll, headline_so, tells_is}
 

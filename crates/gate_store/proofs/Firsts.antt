@@ -9,7 +9,7 @@ use Rattle.gate_state.specs.declared.act.Act.{Act}
 use Rattle.gate_state.specs.declared.reply.Reply.{Reply}
 use Rattle.gate_store.specs.Headline.{or_same, firsts, first_in, acts_of_all, run_on}
 use Rattle.gate_store.specs.Run.{Records, kept_under, is_known, acts_in, replies_to, after_all, answer_to, stepped, after_delivery, new_acts, answers_to, after_deliveries}
-use Rattle.gate_store.specs.declared.delivery.Delivery.{Delivery}
+use Rattle.gate_deliveries.specs.declared.delivery.Delivery.{Delivery}
 use Rattle.gate_store.proofs.Telling.{after_all-append}
 
 -- AFTER A FIRST DELIVERY its identifier is known, and each that was.

@@ -1,4 +1,3 @@
-pub mod ActLimits
 pub mod Deliveries
 pub mod Firsts
 pub mod Runs

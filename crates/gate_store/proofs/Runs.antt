@@ -14,7 +14,7 @@ use Rattle.gate_queue.specs.declared.fault.Fault.{Fault}
 use Rattle.gate_state.specs.declared.state.State.{State}
 use Rattle.gate_store.specs.Headline.{ActsByRule, Each, Headline, HistoryTells, IsAnswered, IsReady, IsRight, LandsRightly, Tells, acts_of_all, entry_for, failing, first_in, history_after}
 use Rattle.gate_store.specs.Run.{NoneMeetsFull, Records, after_all, after_deliveries, after_delivery, answer_to, answers_to, meets_full, new_acts}
-use Rattle.gate_store.specs.declared.delivery.Delivery.{Delivery}
+use Rattle.gate_deliveries.specs.declared.delivery.Delivery.{Delivery}
 use Rattle.gate_store.proofs.Firsts.{acts_of_one, acts_push, answered_kept, kept_after, run_kept, state_after}
 use Rattle.gate_answers.proofs.Places.{up_to}
 use Rattle.gate_store.proofs.Telling.{still_legal}

@@ -16,9 +16,9 @@ use Rattle.gate_state.specs.declared.reply.Reply.TheVariants.{Done, Denied}
 use Rattle.gate_queue.specs.History.{Entry, EntryTells, Event, Legal, IsTested, entry_of, events_of, fit_back, head_back, heads_back, is_unmoved, orders_in, rule_back, standing_back}
 use Rattle.gate_queue.specs.Machine.{reply_to, after, missing}
 use Rattle.gate_state.specs.declared.state.State.{State}
-use Rattle.gate_store.specs.Acts.{EventKeepsLimits}
+use Rattle.gate_deliveries.specs.Acts.{EventKeepsLimits}
 use Rattle.gate_store.specs.Run.{Records, kept_under, is_known, acts_in, replies_to, after_all, answers_to, after_deliveries, NoneMeetsFull}
-use Rattle.gate_store.specs.declared.delivery.Delivery.{Delivery}
+use Rattle.gate_deliveries.specs.declared.delivery.Delivery.{Delivery}
 
 -- THE FIRST DELIVERY OF EACH IDENTIFIER: none that is known, and none that one before it has
 abbrev pub or_same : List ℕ → (List ℕ → Bool) → List ℕ → Bool

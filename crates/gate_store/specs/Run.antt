@@ -13,8 +13,8 @@ pub use Rattle.gate_queue.specs.Progress.{after_all}
 use Rattle.gate_queue.specs.declared.fault.Fault.{Fault}
 use Rattle.gate_queue.specs.declared.fault.Fault.TheVariants.{Memory, Store, Full, Foreign}
 use Rattle.gate_state.specs.declared.state.State.{State}
-use Rattle.gate_store.specs.Acts.{acts_of_event}
-use Rattle.gate_store.specs.declared.delivery.Delivery.{Delivery}
+use Rattle.gate_deliveries.specs.Acts.{acts_of_event}
+use Rattle.gate_deliveries.specs.declared.delivery.Delivery.{Delivery}
 
 -- RECORDS: the state of the machine, and the answer that is kept under each identifier
 pub record Records : Type 0 where

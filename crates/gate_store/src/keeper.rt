@@ -12,9 +12,9 @@ ghost use Rattle.gate_store.specs.Headline.{Each, Headline, HistoryTells, Tells,
 ghost use Rattle.gate_store.specs.Run.{AgreesOnFull, IsFullBefore, IsOfActs, IsOfBooks, IsOfKeepers, IsOpenUnless, NoneMeetsFull, StaysOpen, StopsBefore, acts_in, acts_meet_full, after_all, after_deliveries, after_delivery, answer_to, answers_to, kept_under, meets_full, new_acts, replies_to, stepped, with_answer};
 
 use crate::book::Book;
-use crate::delivery::{Delivery, acts_of};
 use crate::stepping::step_all;
 use gate_answers::{Answer, answer_text};
+use gate_deliveries::{Delivery, acts_of};
 use gate_queue::{Act, Before, Fault, Gate, law_of_histories};
 use gate_text::DeliveryId;
 use std::alloc::Global;

@@ -3,15 +3,14 @@
 #![tactic(auto)]
 
 mod book;
-mod delivery;
 mod keeper;
 mod laws;
 mod plain_book;
 mod stepping;
 
 pub use book::Book;
-pub use delivery::{Delivery, Event, acts_of};
 pub use gate_answers::{Answer, AnswerFault, answer_text, law_of_texts, read_answer, reread};
+pub use gate_deliveries::{Delivery, Event, acts_of};
 pub use gate_queue::Moment;
 pub use keeper::Keeper;
 pub use laws::law_of_deliveries;

@@ -4,8 +4,7 @@ use Rattle.httparse.specs.Grammar.{HasNoRequest}
 use Rattle.httparse.specs.Spans.{RequestOverflows}
 use Rattle.gate_hook.proofs.Needing.{few-left, len-within, takes-new}
 use Rattle.gate_hook.proofs.NoHead.{none-ever, none-when-full}
-use Rattle.gate_hook.specs.Heads.{max_fields}
-use Rattle.gate_hook.specs.Receiving.{IsHeadOf}
+use Rattle.gate_http.specs.Heads.{max_fields, IsHeadOf}
 use Rattle.gate_hook.proofs.receiving.read_head.Goals as goal
 
 pub returns-in-Ok-Never : goal.returns-in-Ok-Never

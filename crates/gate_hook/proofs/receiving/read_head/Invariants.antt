@@ -1,6 +1,6 @@
 use Rattle.std.proofs.Common.{◌-◌, ◌≤◌, length}
 use Rattle.std.specs.Io.KnownBytes.{Consumes}
-use Rattle.gate_hook.specs.Heads.{max_head}
+use Rattle.gate_http.specs.Heads.{max_head}
 use Rattle.gate_hook.proofs.Needing.{IsNew}
 use Rattle.gate_hook.proofs.receiving.read_head.Given as goal
 

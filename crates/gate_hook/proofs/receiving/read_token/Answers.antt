@@ -1,6 +1,6 @@
-use Rattle.gate_hook.proofs.Tokens.{token-read}
+use Rattle.gate_hook.proofs.ReadTokens.{token-read}
 use Rattle.std.proofs.Common.{ap, ◌∙◌}
-use Rattle.gate_hook.specs.Tokens.{token_in}
+use Rattle.gate_http.specs.Tokens.{token_in}
 use Rattle.gate_hook.proofs.receiving.read_token.Goals as goal
 
 pub returns : goal.returns

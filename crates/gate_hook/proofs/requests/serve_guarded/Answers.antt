@@ -1,6 +1,6 @@
 use Rattle.std.proofs.Common.{Err, Ok, codes, refl, sym}
 use Rattle.std.specs.Fmt.{digits}
-use Rattle.gate_hook.specs.Responses.{response_text}
+use Rattle.gate_http.specs.Responses.{response_text}
 use Rattle.gate_hook.proofs.Responding.{exact-one, not-written-down, sends-fault, sends-response, stays-fault, stays-response, unchanged, written-down}
 use Rattle.gate_hook.proofs.requests.serve_guarded.Goals as goal
 

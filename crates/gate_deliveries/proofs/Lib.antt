@@ -1,0 +1,2 @@
+pub mod ActLimits
+pub mod Whole

@@ -1,5 +1,0 @@
-use Rattle.gate_hook.proofs.Tokens.{Tells}
-use Rattle.gate_hook.proofs.token.is_same.Given as goal
-
-abbrev pub invariant-loop-place : goal.invariant-loop-place
-invariant-loop-place l = Tells l.text l.other l.place l.difference

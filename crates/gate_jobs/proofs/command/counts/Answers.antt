@@ -1,4 +1,0 @@
-use Rattle.gate_jobs.proofs.command.counts.Goals as goal
-
-pub returns : goal.returns
-returns c = rw (c.value_parser.ensures, c.new.ensures.start, c.new.ensures.end, c.from.ensures) at c.range.ensures

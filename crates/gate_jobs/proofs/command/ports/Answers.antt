@@ -1,4 +1,0 @@
-use Rattle.gate_jobs.proofs.command.ports.Goals as goal
-
-pub returns : goal.returns
-returns c = rw c.value_parser.ensures at c.range.ensures

@@ -1,5 +1,0 @@
-use Rattle.gate_jobs.proofs.Wrong.{refused-by}
-use Rattle.gate_jobs.proofs.words.read_words.Goals as goal
-
-pub returns-in-Err-clause-help : goal.returns-in-Err-clause-help
-returns-in-Err-clause-help c = refused-by c.fault_of.result _ _ c.fault_of.ensures c.in-Err.ensures.faults

@@ -1,0 +1,7 @@
+use Rattle.std.proofs.Common.{◌∙◌, ap₂}
+use Rattle.std.proofs.lemmas.Result.{IfOk-weaker}
+use Rattle.clap.specs.Words.{with_rule}
+use Rattle.gate_words.proofs.command.report_command.Goals as goal
+
+pub returns-clause-words : goal.returns-clause-words
+returns-clause-words c = IfOk-weaker c.arg.result _ _ (λ made adds. adds.shape c.file.ensures.local ∙ ap₂ with_rule c.command.ensures.words c.file.ensures.rule) c.arg.ensures
