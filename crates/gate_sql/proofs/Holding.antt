@@ -10,12 +10,12 @@ use Rattle.gate_state.specs.declared.reply.Reply.{Reply}
 use Rattle.gate_state.specs.declared.state.State.{State}
 use Rattle.gate_answers.specs.Answers.{answer_text_of}
 use Rattle.gate_answers.specs.Reading.{answer_of}
-use Rattle.gate_sql.proofs.Alike.{same_back, same_then}
+use Rattle.gate_rows.proofs.Alike.{same_back, same_then}
 use Rattle.gate_sql.proofs.Shown.{none_of_none, one_more}
-use Rattle.gate_sql.specs.Decoding.{state_in}
-use Rattle.gate_sql.specs.Encoding.{rows_of}
+use Rattle.gate_rows.specs.Decoding.{state_in}
+use Rattle.gate_rows.specs.Encoding.{rows_of}
 use Rattle.gate_sql.specs.Shown.{AreTextsOf, Holds, IsHeld, answers_of}
-use Rattle.gate_sql.specs.Standing.{KeepsLimits}
+use Rattle.gate_rows.specs.Standing.{KeepsLimits}
 use Rattle.gate_tables.specs.Applied.{applied}
 use Rattle.gate_tables.specs.Contents.{AreSame}
 use Rattle.gate_tables.specs.declared.change.RowChange.{RowChange}

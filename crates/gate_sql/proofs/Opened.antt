@@ -12,13 +12,13 @@ use Rattle.gate_text.specs.SmallTexts.{delivery_id_of}
 use Rattle.gate_state.specs.declared.state.State.{State}
 use Rattle.gate_answers.specs.Answers.{answer_text_of}
 use Rattle.gate_answers.specs.Reading.{answer_of}
-use Rattle.gate_sql.proofs.Alike.{same_back, same_then}
-use Rattle.gate_sql.proofs.Each.{all_weaker}
+use Rattle.gate_rows.proofs.Alike.{same_back, same_then}
+use Rattle.gate_rows.proofs.Each.{all_weaker}
 use Rattle.gate_sql.proofs.Holding.{AreTexts, is_held}
 use Rattle.gate_sql.proofs.Shown.{get-answers}
-use Rattle.gate_sql.specs.Encoding.{rows_of}
+use Rattle.gate_rows.specs.Encoding.{rows_of}
 use Rattle.gate_sql.specs.Shown.{AreTextsOf, IsHeld, answers_of, shown}
-use Rattle.gate_sql.specs.Standing.{LawOfRows}
+use Rattle.gate_rows.specs.Standing.{LawOfRows}
 use Rattle.gate_sql.specs.Versions.{AreKeptAnswers, IsKeptAnswer, StandsFor, Understands, rows_as}
 use Rattle.gate_tables.specs.Applied.{applied}
 use Rattle.gate_tables.specs.Contents.{AreSame, answers_at}

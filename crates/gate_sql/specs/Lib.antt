@@ -1,18 +1,8 @@
--- What the contracts of this crate cite. What rows and answers tables have, is told in gate_tables. For a reader, in this order:
---     Encoding    the rows of a state of the machine
---     Decoding    the state that rows stand for
---     Standing    the law of both: the rows of a state, in any order, stand for it
---     Changed     the rows that differ between two states, as row changes
---     Parts       the same between a state and one of which parts were noted before
+-- What the contracts of this crate cite. What rows and answers tables have, is told in gate_tables, and of which state they are the
+-- rows, in gate_rows. For a reader, in this order:
 --     Shown       what a book over the tables shows, and that its tables hold nothing besides
---     Versions    the rows of schema version 1, and what a database of either version stands for
--- For the code: Faults; Same, that `==` of rows is equality.
-pub mod Changed
-pub mod Decoding
-pub mod Encoding
+--     Versions    what a database of either schema version stands for
+-- For the code: Faults.
 pub mod Faults
-pub mod Parts
-pub mod Same
 pub mod Shown
-pub mod Standing
 pub mod Versions

@@ -11,9 +11,9 @@ use Rattle.gate_state.specs.declared.reply.Reply.{Reply}
 use Rattle.gate_answers.specs.Answers.{answer_text_of}
 use Rattle.gate_answers.specs.Reading.{answer_of}
 use Rattle.gate_store.specs.Run.{Records}
-use Rattle.gate_sql.specs.Decoding.{state_in}
-use Rattle.gate_sql.specs.Encoding.{rows_of}
-use Rattle.gate_sql.specs.Standing.{KeepsLimits}
+use Rattle.gate_rows.specs.Decoding.{state_in}
+use Rattle.gate_rows.specs.Encoding.{rows_of}
+use Rattle.gate_rows.specs.Standing.{KeepsLimits}
 use Rattle.gate_tables.specs.Contents.{AreSame}
 use Rattle.gate_tables.specs.Tables.{IsBook, is_sound, rows_in, answers_in}
 use Rattle.gate_tables.specs.declared.row.Rows.{Rows}

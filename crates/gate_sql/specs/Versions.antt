@@ -1,8 +1,7 @@
--- THE ROWS OF BOTH SCHEMA VERSIONS. In version 1 the lists of the settings stand among the marks, of no change.
-use Rattle.std.specs.Prelude.{◌≡◌, ◌⊎◌, IsOk, ℕ, ℤ, pos, Bool, List, [], ◌++◌, map, if◌then◌else◌}
+-- DATABASES OF BOTH SCHEMA VERSIONS, and what they stand for.
+use Rattle.std.specs.Prelude.{◌≡◌, ◌⊎◌, IsOk, ℕ, Bool, List, [], if◌then◌else◌}
 use Rattle.std.specs.FinMap.{empty}
 use Rattle.std.specs.List.{AllByRecursion}
-use Rattle.std.specs.Ordering.{int_eq}
 use Rattle.gate_text.specs.SmallTexts.{delivery_id_of}
 use Rattle.gate_queue.specs.Machine.{empty_state}
 use Rattle.gate_state.specs.State.{IsState}
@@ -10,47 +9,18 @@ use Rattle.gate_state.specs.declared.state.State.{State}
 use Rattle.gate_answers.specs.Answers.{answer_text_of}
 use Rattle.gate_answers.specs.Reading.{answer_of}
 use Rattle.gate_store.specs.Run.{Records}
-use Rattle.gate_sql.specs.Encoding.{rows_of}
+use Rattle.gate_rows.specs.Encoding.{rows_of}
+use Rattle.gate_rows.specs.FirstRows.{in_first}
 use Rattle.gate_sql.specs.Shown.{AreTextsOf}
-use Rattle.gate_sql.specs.Standing.{KeepsLimits}
+use Rattle.gate_rows.specs.Standing.{KeepsLimits}
 use Rattle.gate_tables.specs.Applied.{applied}
 use Rattle.gate_tables.specs.Contents.{AreSame, answers_at}
-use Rattle.gate_tables.specs.Differences.{HaveKeys}
 use Rattle.gate_tables.specs.Forms as forms
 use Rattle.gate_tables.specs.Database.{schema_of}
 use Rattle.gate_tables.specs.Schemas.{HasTables, lacks_wanted, stored_rows}
 use Rattle.gate_tables.specs.declared.change.RowChange.{RowChange}
-use Rattle.gate_tables.specs.declared.row.DeskRow.{DeskRow}
-use Rattle.gate_tables.specs.declared.row.MarkRow.{MarkRow}
 use Rattle.gate_tables.specs.declared.row.Rows.{Rows}
-use Rattle.gate_tables.specs.declared.row.WantedRow.{WantedRow}
 use Rattle.sqlite.specs.Effect.{Database}
-
--- required statuses, blocking labels, statuses of the head
-abbrev pub first_kind : ℤ → ℤ
-first_kind kind = if int_eq kind (pos 1) then pos 6 else (if int_eq kind (pos 2) then pos 7 else pos 9)
-
-abbrev pub as_mark : WantedRow → MarkRow
-as_mark row = record { change_no = pos 0; kind = first_kind row.kind; word = row.word; place = row.place }
-
-abbrev pub with_version : ℤ → DeskRow → DeskRow
-with_version version row = record row { version = version }
-
--- the rows of version 1 that stand for what rows of version 2 stand for
-abbrev pub in_first : Rows → Rows
-in_first rows = record rows {
-  desk = map (with_version (pos 1)) rows.desk;
-  marks = rows.marks ++ map as_mark rows.wanted;
-  wanted = [];
-}
-
--- In the rows of a state in version 1 no two rows of a table have one key.
-abbrev pub LawOfFirstKeys : Type 0
-LawOfFirstKeys = (s : State) → IsState s → KeepsLimits s.desk → HaveKeys (in_first (rows_of s))
-
--- Rows of version 1, in any order, stand for one state at the most.
-abbrev pub LawOfFirstRows : Type 0
-LawOfFirstRows = (s t : State) → IsState s → IsState t → KeepsLimits s.desk → KeepsLimits t.desk → AreSame (in_first (rows_of s)) (in_first (rows_of t)) → s ≡ t
 
 -- WHAT A DATABASE OF EITHER VERSION STANDS FOR: a state of the machine, of which it has the rows, and answers under identifiers, of
 -- which it has the texts

@@ -7,7 +7,7 @@ ghost use Rattle.gate_queue.specs.Machine.{empty_state};
 ghost use Rattle.gate_tables.specs.Applied.{applied, no_rows as no_rows_at_all};
 ghost use Rattle.gate_tables.specs.Contents.{AreSame};
 ghost use Rattle.gate_tables.specs.Database.{schema_of};
-ghost use Rattle.gate_sql.specs.Encoding as encoding;
+ghost use Rattle.gate_rows.specs.Encoding as encoding;
 ghost use Rattle.gate_sql.specs.Faults.{MayRefuse};
 ghost use Rattle.gate_sql.specs.Shown.{shown, Holds, IsHeld};
 ghost use Rattle.gate_sql.specs.Versions.{OpensAs, StandsFor};
@@ -18,15 +18,14 @@ ghost use Rattle.gate_answers.specs.Reading.{answer_of};
 ghost use Rattle.gate_store.specs.Run.{IsOfBooks, kept_under, with_answer};
 ghost use Rattle.sqlite.specs.Held.{state};
 
-use crate::changed::{changes_since, row_changes};
 use crate::fault::told;
-use crate::laws::{
-    is_of_machine, law_of_changed_rows, law_of_keys, law_of_keys_of, law_of_rows, law_of_rows_of,
-};
+use crate::gate::gate_of;
 use crate::opening::understood;
-use crate::reading::gate_of;
-use crate::rows::rows_of;
 use gate_queue::{Before, Fault, Gate};
+use gate_rows::{
+    changes_since, is_of_machine, law_of_changed_rows, law_of_keys, law_of_keys_of, law_of_rows,
+    law_of_rows_of, row_changes, rows_of,
+};
 use gate_store::{Answer, AnswerFault, Book, answer_text, law_of_texts, read_answer};
 use gate_tables::{
     Found, FoundTables, RowChange, Rows, Tables, TablesFault, found_in, is_blank,

@@ -1,24 +1,16 @@
 //! The records of the merge bot in a SQLite database: a book over nine tables. One transaction writes the rows that differ and an
-//! answer, or nothing. By a law the rows of a state stand for that state alone.
+//! answer, or nothing.
 #![tactic(auto)]
 
 mod book;
-mod changed;
 mod fault;
-mod first_rows;
-mod laws;
+mod gate;
 mod opening;
-mod reading;
-mod rows;
-mod sorting;
-mod upgrading;
 
 pub use book::{Refused, SqlBook};
-pub use changed::{changed_rows, changes_since};
-pub use gate_tables::{Row, RowChange, RowKey};
-pub use laws::{
-    law_of_changed_rows, law_of_changes_since, law_of_first_keys, law_of_first_rows, law_of_keys,
-    law_of_keys_since, law_of_rows,
+pub use gate::gate_of;
+pub use gate_rows::{
+    changed_rows, changes_since, law_of_changed_rows, law_of_changes_since, law_of_first_keys,
+    law_of_first_rows, law_of_keys, law_of_keys_since, law_of_rows, rows_of,
 };
-pub use reading::gate_of;
-pub use rows::rows_of;
+pub use gate_tables::{Row, RowChange, RowKey};

@@ -1,8 +1,8 @@
 ghost use Rattle.std.specs.Prelude.{◌≡◌, IfOk, IfErr, IsOk, IsTrue, OnOk, true, false};
 ghost use Rattle.gate_text.specs.SmallTexts.{delivery_id_of};
-ghost use Rattle.gate_sql.specs.Encoding as encoding;
+ghost use Rattle.gate_rows.specs.Encoding as encoding;
 ghost use Rattle.gate_sql.specs.Faults.{MayRefuse};
-ghost use Rattle.gate_sql.specs.Versions as versions;
+ghost use Rattle.gate_rows.specs.FirstRows as first_rows;
 ghost use Rattle.gate_sql.specs.Versions.{AreKeptAnswers, IsKeptAnswer, Understands};
 ghost use Rattle.gate_answers.specs.Answers.{answer_text_of};
 ghost use Rattle.gate_answers.specs.Reading.{answer_of};
@@ -11,14 +11,12 @@ ghost use Rattle.gate_tables.specs.Applied.{applied};
 ghost use Rattle.gate_tables.specs.Contents.{AreSame};
 ghost use Rattle.gate_tables.specs.declared.row.Rows.{Rows as RowsOf};
 
-use crate::changed::row_changes;
 use crate::fault::told;
-use crate::first_rows::in_first;
-use crate::laws::{is_of_machine, law_of_first_keys_of, law_of_keys_of};
-use crate::reading::gate_of;
-use crate::rows::rows_of;
-use crate::upgrading::upgraded;
+use crate::gate::gate_of;
 use gate_queue::{Fault, Gate};
+use gate_rows::{
+    in_first, is_of_machine, law_of_first_keys_of, law_of_keys_of, row_changes, rows_of, upgraded,
+};
 use gate_store::{AnswerFault, answer_text, read_answer};
 use gate_tables::{Contents, DeskRow, RowChange, Rows, law_of_differences};
 use gate_text::{DeliveryId, Text, TextFault};
@@ -104,7 +102,7 @@ fn is_of_second(desk: &[DeskRow]) -> bool {
 
 // The gate for whose state rows of version 1 stand.
 fn first_gate(alloc: Global, rows: Rows) -> Result<Gate, Fault>
-    ensures rows { IfOk result (λ gate. AreSame rows (versions.in_first (encoding.rows_of gate))) }
+    ensures rows { IfOk result (λ gate. AreSame rows (first_rows.in_first (encoding.rows_of gate))) }
     ensures fault { IfErr result IsOfBooks }
 {
     match upgraded(alloc, rows) {
@@ -115,7 +113,7 @@ fn first_gate(alloc: Global, rows: Rows) -> Result<Gate, Fault>
 
 // The row changes that lead from the rows of a gate in version 1 to those in version 2.
 fn upgrade(alloc: Global, gate: &Gate) -> Result<Vec<RowChange>, AllocError>
-    ensures { IfOk result (λ changes. (rows : RowsOf) → AreSame rows (versions.in_first (encoding.rows_of gate.now)) → AreSame (applied changes.items rows) (encoding.rows_of gate.now)) }
+    ensures { IfOk result (λ changes. (rows : RowsOf) → AreSame rows (first_rows.in_first (encoding.rows_of gate.now)) → AreSame (applied changes.items rows) (encoding.rows_of gate.now)) }
 {
     law_of_differences();
     law_of_keys_of(gate);

@@ -3,7 +3,7 @@ use Rattle.std.proofs.lemmas.List.{take_more}
 use Rattle.gate_text.specs.SmallTexts.{delivery_id_of}
 use Rattle.gate_answers.specs.Answers.{answer_text_of}
 use Rattle.gate_answers.specs.Reading.{answer_of}
-use Rattle.gate_sql.proofs.Each.{all_joined}
+use Rattle.gate_rows.proofs.Each.{all_joined}
 use Rattle.gate_sql.specs.Versions.{AreKeptAnswers, IsKeptAnswer}
 use Rattle.gate_sql.proofs.opening.check_answers.Goals as goal
 

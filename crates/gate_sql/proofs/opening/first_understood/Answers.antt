@@ -1,6 +1,6 @@
-use Rattle.gate_sql.proofs.Alike.{same_then}
-use Rattle.gate_sql.specs.Encoding.{rows_of}
-use Rattle.gate_sql.specs.Versions.{in_first}
+use Rattle.gate_rows.proofs.Alike.{same_then}
+use Rattle.gate_rows.specs.Encoding.{rows_of}
+use Rattle.gate_rows.specs.FirstRows.{in_first}
 use Rattle.gate_sql.proofs.opening.first_understood.Goals as goal
 
 pub returns-in_ok-changes-in-Ok-clause-rows : goal.returns-in_ok-changes-in-Ok-clause-rows

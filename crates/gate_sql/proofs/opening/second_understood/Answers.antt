@@ -1,6 +1,6 @@
 use Rattle.std.proofs.Common.{List, sym, subst}
-use Rattle.gate_sql.proofs.Alike.{same_back, same_then}
-use Rattle.gate_sql.specs.Encoding.{rows_of}
+use Rattle.gate_rows.proofs.Alike.{same_back, same_then}
+use Rattle.gate_rows.specs.Encoding.{rows_of}
 use Rattle.gate_tables.specs.Applied.{applied}
 use Rattle.gate_tables.specs.Contents.{AreSame}
 use Rattle.gate_tables.specs.declared.change.RowChange.{RowChange}

@@ -1,9 +1,9 @@
 use Rattle.std.proofs.Common.{◌∙◌, sym, ap, subst}
-use Rattle.gate_sql.proofs.Alike.{same_back}
+use Rattle.gate_rows.proofs.Alike.{same_back}
 use Rattle.gate_sql.proofs.Holding.{AreTexts, holds_of, is_held, led_to, no_texts}
 use Rattle.gate_sql.proofs.Shown.{none_of_none}
 use Rattle.gate_sql.proofs.book.SqlBook.new.Goals as goal
-use Rattle.gate_sql.specs.Encoding.{rows_of}
+use Rattle.gate_rows.specs.Encoding.{rows_of}
 use Rattle.gate_sql.specs.Shown.{answers_of}
 use Rattle.gate_tables.specs.Applied.{no_rows}
 use Rattle.gate_tables.specs.Tables.{answers_in, rows_in}

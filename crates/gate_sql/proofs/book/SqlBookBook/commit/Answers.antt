@@ -4,7 +4,7 @@ use Rattle.gate_answers.specs.Reading.{answer_of}
 use Rattle.gate_sql.proofs.Holding.{Leaves, holds_of, leaves, led_to}
 use Rattle.gate_sql.proofs.book.SqlBookBook.commit.Given.{Over}
 use Rattle.gate_sql.proofs.book.SqlBookBook.commit.Goals as goal
-use Rattle.gate_sql.specs.Encoding.{rows_of}
+use Rattle.gate_rows.specs.Encoding.{rows_of}
 use Rattle.gate_sql.specs.Shown.{answers_of}
 use Rattle.gate_tables.specs.Tables.{answers_in, is_sound, rows_in}
 

@@ -4,8 +4,8 @@ use Rattle.gate_queue.specs.Before.{IsBefore}
 use Rattle.gate_sql.proofs.Holding.{Leaves, holds_of, leaves, led_to}
 use Rattle.gate_sql.proofs.book.SqlBookBook.commit_since.Given.{Over}
 use Rattle.gate_sql.proofs.book.SqlBookBook.commit_since.Goals as goal
-use Rattle.gate_sql.specs.Decoding.{state_in}
-use Rattle.gate_sql.specs.Encoding.{rows_of}
+use Rattle.gate_rows.specs.Decoding.{state_in}
+use Rattle.gate_rows.specs.Encoding.{rows_of}
 use Rattle.gate_sql.specs.Shown.{Holds, answers_of}
 use Rattle.gate_tables.specs.Tables.{answers_in, is_sound, rows_in}
 

@@ -1,5 +1,5 @@
 use Rattle.std.proofs.Common.{◌∙◌, ap}
-use Rattle.gate_sql.specs.Decoding.{state_in}
+use Rattle.gate_rows.specs.Decoding.{state_in}
 use Rattle.gate_tables.specs.Tables.{rows_in}
 use Rattle.std.proofs.lemmas.Result.{IfOk-weaker}
 use Rattle.gate_sql.proofs.book.SqlBookBook.load.Goals as goal

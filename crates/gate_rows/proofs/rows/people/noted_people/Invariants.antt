@@ -1,0 +1,8 @@
+use Rattle.std.proofs.Common.{◌≡◌, ◌++◌, map}
+use Rattle.gate_rows.specs.Encoding.{person_row}
+use Rattle.gate_rows.specs.Parts.{were_there}
+use Rattle.gate_rows.proofs.rows.people.noted_people.Given as goal
+
+-- what has a row, and what is left
+abbrev pub invariant-loop-name : goal.invariant-loop-name
+invariant-loop-name l = l.rows.items ++ map person_row (were_there l.name-iterator) ≡ map person_row (were_there l.noted.entries)

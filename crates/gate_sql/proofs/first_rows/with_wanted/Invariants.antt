@@ -1,7 +1,0 @@
-use Rattle.std.proofs.Common.{◌≡◌, ◌++◌, map}
-use Rattle.gate_sql.specs.Versions.{as_mark}
-use Rattle.gate_sql.proofs.first_rows.with_wanted.Given as goal
-
--- the rows so far
-abbrev pub invariant-loop-row : goal.invariant-loop-row
-invariant-loop-row l = l.all.items ≡ l.fn.marks ++ map as_mark l.yielded

@@ -1,5 +1,0 @@
-use Rattle.gate_sql.proofs.FirstKeys.{have_first_keys}
-use Rattle.gate_sql.proofs.laws.law_of_first_keys.Goals as goal
-
-pub returns : goal.returns
-returns c = λ s is limits. have_first_keys s ((c.law_of_checks.ensures s).1 is) limits

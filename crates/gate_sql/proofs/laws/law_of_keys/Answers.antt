@@ -1,5 +1,0 @@
-use Rattle.gate_sql.proofs.Keys.{have_keys}
-use Rattle.gate_sql.proofs.laws.law_of_keys.Goals as goal
-
-pub returns : goal.returns
-returns c = λ s is. have_keys s ((c.law_of_checks.ensures s).1 is)

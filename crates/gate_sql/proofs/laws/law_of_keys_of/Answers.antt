@@ -1,4 +1,0 @@
-use Rattle.gate_sql.proofs.laws.law_of_keys_of.Goals as goal
-
-pub returns : goal.returns
-returns c = c.law_of_keys.ensures c.args.gate.now c.is_of_machine.ensures.state

@@ -1,5 +1,0 @@
-use Rattle.gate_sql.proofs.Since.{keys_since}
-use Rattle.gate_sql.proofs.laws.law_of_keys_since.Goals as goal
-
-pub returns : goal.returns
-returns c = keys_since (λ s is. (c.law_of_checks.ensures s).1 is) c.law_of_keys.ensures

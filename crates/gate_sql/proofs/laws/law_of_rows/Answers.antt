@@ -1,5 +1,0 @@
-use Rattle.gate_sql.proofs.OneState.{one_state}
-use Rattle.gate_sql.proofs.laws.law_of_rows.Goals as goal
-
-pub returns : goal.returns
-returns c = λ s rows is limits same. one_state s rows ((c.law_of_checks.ensures s).1 is) limits same

@@ -1,4 +1,0 @@
-use Rattle.gate_sql.proofs.laws.law_of_rows_of.Goals as goal
-
-pub returns : goal.returns
-returns c rows same = c.law_of_rows.ensures c.args.gate.now rows c.is_of_machine.ensures.state c.is_of_machine.ensures.limits same

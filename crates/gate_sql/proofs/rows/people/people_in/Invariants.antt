@@ -1,7 +1,0 @@
-use Rattle.std.proofs.Common.{◌≡◌, ◌++◌, map}
-use Rattle.gate_sql.specs.Encoding.{person_row}
-use Rattle.gate_sql.proofs.rows.people.people_in.Given as goal
-
--- what has a row, and what is left
-abbrev pub invariant-loop-name : goal.invariant-loop-name
-invariant-loop-name l = l.rows.items ++ map person_row l.name-iterator ≡ map person_row l.roles.entries

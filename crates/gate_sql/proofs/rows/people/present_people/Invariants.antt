@@ -1,8 +1,0 @@
-use Rattle.std.proofs.Common.{◌≡◌, ◌++◌, map}
-use Rattle.gate_sql.specs.Encoding.{person_row}
-use Rattle.gate_sql.specs.Parts.{are_there}
-use Rattle.gate_sql.proofs.rows.people.present_people.Given as goal
-
--- what has a row, and what is left
-abbrev pub invariant-loop-name : goal.invariant-loop-name
-invariant-loop-name l = l.rows.items ++ map person_row (are_there l.desk.roles l.name-iterator) ≡ map person_row (are_there l.desk.roles l.noted.entries)
