@@ -1,17 +1,12 @@
--- What the contracts of this crate cite. For a reader, in this order:
---     Deliveries   the delivery that a text is, or why it is none
---     Errors       the text of an error
+-- What the contracts of this crate cite. Which texts are deliveries is told in gate_deliveries; heads of requests, and responses as bytes,
+-- in gate_http. For a reader, in this order:
 --     Lines        the lines of a text, and what is written for them, by the run and the answers of gate_store
 --     Told         the deliveries that lines and requests are, and the headline of what is written for them
---     Targets      what a path names, and the method that it takes
---     Tokens       which texts are a token, and which requests bear the one that is needed
---     Heads        the checks of the head of a request, in their order
 --     Requests     what a request asks for, or why it is refused
---     Responses    a response as bytes, and which one a refusal has
---     Denials      the rule by which a request was denied, for a log
 --     Served       what is sent for one request, and the records after it
--- Of the other files Sending (`IsCutOff`) and Receiving (`IsInput`) have one word each of public clauses; the rest is of functions
--- within the crate.
+--     Denials      the rule by which a request was denied, for a log
+-- Of the other files public clauses cite `IsCutOff` (Sending), `IsInput`, `HasTaken`, `HasReadToken` and `IsEnough` (Receiving), and
+-- `IsTranscript` (Responding). The rest is of functions within the crate.
 pub mod Denials
 pub mod Lines
 pub mod Receiving

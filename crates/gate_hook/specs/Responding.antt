@@ -1,10 +1,11 @@
--- How a response is made and sent, for the contracts of the functions that `serve_one` is made of.
-use Rattle.std.specs.Prelude.{◌≡◌, ◌⊎◌, ℕ, ◌<◌, ⊤, List, length, take, Option, Some, None, Result, Ok, Err}
+-- How a response is made and sent, for the contracts of the functions that `serve_guarded` is made of; `IsTranscript` is for its own.
+use Rattle.std.specs.Prelude.{◌≡◌, ◌⊎◌, ℕ, ⊤, List, Option, Some, None, Result, Ok, Err}
 use Rattle.std.specs.Io.KnownBytes.{Appends, Consumes}
 use Rattle.gate_queue.specs.declared.fault.Fault.{Fault}
 use Rattle.gate_queue.specs.declared.fault.Fault.TheVariants.{Memory, Store, Full, Foreign}
 use Rattle.gate_store.specs.Run.{Records, IsOfKeepers}
 use Rattle.gate_hook.specs.Requests.{Asks}
+use Rattle.gate_hook.specs.Sending.{IsCutOff}
 use Rattle.gate_http.specs.Responses.{IsResponse}
 use Rattle.gate_hook.specs.Served.{Breaks, MeetsNoFull, IsTaken, MeetsFull, after_wish, response_to}
 use Rattle.gate_hook.specs.declared.fault.HookFault.{HookFault}
@@ -54,7 +55,7 @@ IsTranscript request response (Some fault) before after old new = ⊤
 -- a text was sent whole, or the writer refused it or the rest of it
 abbrev pub HasSent : Result Served HookFault → Served → List ℕ → Option (List ℕ) → Option (List ℕ) → Type 0
 HasSent (Ok done) served text before after = (done ≡ served) × Appends before after text
-HasSent (Err Write) served text before after = (taken : ℕ) × (taken < length text) × Appends before after (take taken text)
+HasSent (Err Write) served text before after = IsCutOff text before after
 HasSent (Err Read) served text before after = ⊥
 HasSent (Err (Gate fault)) served text before after = ⊥
 HasSent (Err TooMuch) served text before after = ⊥

@@ -1,5 +1,5 @@
 -- ONE REQUEST: what is sent for it, and the records after it.
-use Rattle.std.specs.Prelude.{◌≡◌, ◌⊎◌, ℕ, ◌<◌, true, false, ⊤, List, [], length, take, Option, Some, None, Result, Ok, Err}
+use Rattle.std.specs.Prelude.{◌≡◌, ◌⊎◌, ℕ, true, false, ⊤, List, [], Option, Some, None, Result, Ok, Err}
 use Rattle.std.specs.Io.KnownBytes.{Appends}
 use Rattle.gate_queue.specs.declared.fault.Fault.{Fault}
 use Rattle.gate_queue.specs.declared.fault.Fault.TheVariants.{Memory, Store, Full, Foreign}
@@ -83,7 +83,7 @@ AnswersOne token (Ok served) input old new before after =
     × Appends before after (response_text response)
 AnswersOne token (Err Write) input old new before after =
     (response : Response) × (fault : Option Fault) × IsDue token input old response fault new
-    × ((taken : ℕ) × (taken < length (response_text response)) × Appends before after (take taken (response_text response)))
+    × IsCutOff (response_text response) before after
 AnswersOne token (Err Read) input old new before after = (new ≡ old) × Appends before after []
 AnswersOne token (Err (Gate fault)) input old new before after = ⊥
 AnswersOne token (Err TooMuch) input old new before after = ⊥

@@ -4,6 +4,7 @@ use Rattle.std.specs.Io.KnownBytes.{Appends}
 use Rattle.gate_queue.specs.declared.fault.Fault.{Fault}
 use Rattle.gate_store.specs.Run.{Records, IsOfKeepers, IsOpenAfter}
 use Rattle.gate_hook.specs.Lines.{HasTold, ended_lines, open_line, line_text, after_line, line_meets_full, text_for, after_lines, NoLineMeetsFull, StopsAtLine, max_kept}
+use Rattle.gate_hook.specs.Sending.{IsCutOff}
 use Rattle.gate_hook.specs.declared.fault.HookFault.{HookFault}
 use Rattle.gate_hook.specs.declared.fault.HookFault.TheVariants.{Gate, Read, Write, TooMuch}
 
@@ -20,9 +21,7 @@ IsAnswered (Ok _) old line new before after =
     (new ≡ after_line old line) × Appends before after (line_text old line ++ 10 ∷ []) × (line_meets_full old line ≡ false)
 IsAnswered (Err (Gate fault)) old line new before after = StopsAtLine fault old line new × Appends before after []
 IsAnswered (Err Write) old line new before after =
-    (new ≡ after_line old line)
-    × ((taken : ℕ) × (taken < length (line_text old line ++ 10 ∷ [])) × Appends before after (take taken (line_text old line ++ 10 ∷ [])))
-    × (line_meets_full old line ≡ false)
+    (new ≡ after_line old line) × IsCutOff (line_text old line ++ 10 ∷ []) before after × (line_meets_full old line ≡ false)
 IsAnswered (Err Read) old line new before after = ⊥
 IsAnswered (Err TooMuch) old line new before after = ⊥
 

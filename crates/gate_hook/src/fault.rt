@@ -5,7 +5,8 @@ use thiserror::Error;
 /// Why serving stopped before its end.
 #[derive(Clone, Copy, Debug, PartialEq, Eq, Error)]
 pub enum HookFault {
-    /// A delivery met a fault, or there was no memory to read a line or to write its answer. `serve_one` and `send` never answer it.
+    /// A delivery met a fault, or there was no memory to read a line or a token, or for what was to be written. `serve_one`,
+    /// `serve_guarded` and `send` never answer it.
     #[error(transparent)]
     Gate(Fault),
     /// The reader failed; an interrupted read is a failure too.

@@ -94,7 +94,8 @@ impl<B: Book, W: Write> Session<'_, '_, B, W> {
         requires { self.old.count < 2 ^ 32 }
         ensures taken { (opened : Records) (input : List ℕ) (before : Option (List ℕ))
             → IsUpTo (B.is_sound self.old.keeper.now) opened input (B.shows self.old.keeper.now) self.old.line self.old.count before (W.contents self.old.writer.now)
-            → TakesByte (B.is_sound self.new.keeper.now) ((B.is_honest self.old.keeper.now → B.is_sound self.old.keeper.now) × B.is_honest self.new.keeper.now) result opened input byte (B.shows self.new.keeper.now) self.new.line self.new.count before (W.contents self.new.writer.now) }
+            → TakesByte (B.is_sound self.new.keeper.now) ((B.is_honest self.old.keeper.now → B.is_sound self.old.keeper.now) × B.is_honest self.new.keeper.now)
+            result opened input byte (B.shows self.new.keeper.now) self.new.line self.new.count before (W.contents self.new.writer.now) }
         ensures was { B.is_sound self.new.keeper.now → B.is_sound self.old.keeper.now }
         ensures honest { B.is_honest self.new.keeper.now → B.is_honest self.old.keeper.now }
         ensures shield { B.is_shielded self.old.keeper.now → B.is_shielded self.new.keeper.now }
@@ -123,7 +124,8 @@ impl<B: Book, W: Write> Session<'_, '_, B, W> {
         requires { self.old.count + length bytes.now ≤ 2 ^ 32 }
         ensures taken { (opened : Records) (input : List ℕ) (before : Option (List ℕ))
             → IsUpTo (B.is_sound self.old.keeper.now) opened input (B.shows self.old.keeper.now) self.old.line self.old.count before (W.contents self.old.writer.now)
-            → TakesBytes (B.is_sound self.new.keeper.now) ((B.is_honest self.old.keeper.now → B.is_sound self.old.keeper.now) × B.is_honest self.new.keeper.now) result opened input bytes.now (B.shows self.new.keeper.now) self.new.line self.new.count before (W.contents self.new.writer.now) }
+            → TakesBytes (B.is_sound self.new.keeper.now) ((B.is_honest self.old.keeper.now → B.is_sound self.old.keeper.now) × B.is_honest self.new.keeper.now)
+            result opened input bytes.now (B.shows self.new.keeper.now) self.new.line self.new.count before (W.contents self.new.writer.now) }
         ensures was { B.is_sound self.new.keeper.now → B.is_sound self.old.keeper.now }
         ensures honest { B.is_honest self.new.keeper.now → B.is_honest self.old.keeper.now }
         ensures shield { B.is_shielded self.old.keeper.now → B.is_shielded self.new.keeper.now }

@@ -131,7 +131,8 @@ fn answered<B: Book>(
 ) -> Result<Response, Fault>
     ensures response { B.is_sound keeper.new → IfOk result (λ response. IsResponse response (response_to (B.shows keeper.old) (Ok (DeliveryOf delivery.now)))) }
     ensures records { B.is_sound keeper.new → OnOk result (B.shows keeper.new ≡ after_delivery (B.shows keeper.old) delivery.now) }
-    ensures stops { B.is_sound keeper.new → IfErr result (λ fault. (B.shows keeper.new ≡ B.shows keeper.old) ⊎ ((fault ≡ Fault.Memory) × (B.shows keeper.new ≡ after_delivery (B.shows keeper.old) delivery.now) × (meets_full (B.shows keeper.old) delivery.now ≡ false))) }
+    ensures stops { B.is_sound keeper.new → IfErr result (λ fault. (B.shows keeper.new ≡ B.shows keeper.old)
+        ⊎ ((fault ≡ Fault.Memory) × (B.shows keeper.new ≡ after_delivery (B.shows keeper.old) delivery.now) × (meets_full (B.shows keeper.old) delivery.now ≡ false))) }
     ensures full { B.is_sound keeper.new → AgreesOnFull result (meets_full (B.shows keeper.old) delivery.now) }
     ensures was { B.is_sound keeper.new → B.is_sound keeper.old }
     ensures honest { B.is_honest keeper.new → B.is_honest keeper.old }
@@ -254,7 +255,8 @@ pub fn serve_guarded<B: Book, R: Read, W: Write>(
     writer: &mut W,
 ) -> Result<Served, HookFault>
     // If there is no fault, the transcript has what was taken of the input, and what was written.
-    ensures transcript { IfOk result (λ served. IsTranscript transcript.new.request.items (string_bytes transcript.new.response) served.fault (R.remaining reader.old) (R.remaining reader.new) (W.contents writer.old) (W.contents writer.new)) }
+    ensures transcript { IfOk result (λ served. IsTranscript transcript.new.request.items (string_bytes transcript.new.response) served.fault
+        (R.remaining reader.old) (R.remaining reader.new) (W.contents writer.old) (W.contents writer.new)) }
 
     // What is written, and the records after it, are those that the input asks for.
     ensures served { (input : List ℕ) × IsInput (R.remaining reader.old) (R.remaining reader.new) input
@@ -312,11 +314,10 @@ pub fn serve_guarded<B: Book, R: Read, W: Write>(
 /// head may have been taken with it.
 ///
 /// Deliveries go to `POST /deliveries`; reports are `GET /queue` and `GET /changes/{n}`. A report changes nothing, and neither does a
-/// request that is refused; the checks stand in `specs/Heads.antt` and `specs/Requests.antt`, in their order, and in `specs/Served.antt`
-/// the last one of a report, that its change was opened. After
-/// a fault of the keeper, or if there is no memory for a request or a response, the status is 503, and the response takes no memory.
-/// Nothing has changed then; but after `Memory` the delivery may have acted, with its answer kept. Whatever the fault, an answer that
-/// is kept is sent if the delivery is handed in again.
+/// request that is refused; the checks stand in `specs/Heads.antt` of gate_http and in `specs/Requests.antt`, in their order, and in
+/// `specs/Served.antt` the last one of a report, that its change was opened. After a fault of the keeper, or if there is no memory for a
+/// request or a response, the status is 503, and the response takes no memory. Nothing has changed then; but after `Memory` the delivery
+/// may have acted, with its answer kept. Whatever the fault, an answer that is kept is sent if the delivery is handed in again.
 ///
 /// The two errors are `Read`, after which nothing is written and nothing has changed, and `Write`, after which a part of the
 /// response, but not all, is written, and a delivery that acted stays. The writer isn't flushed.

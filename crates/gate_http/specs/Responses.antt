@@ -1,6 +1,5 @@
 -- RESPONSES as bytes (RFC 9112): a status line, fields, an empty line and a body.
 use Rattle.std.specs.Prelude.{◌≡◌, ℕ, List, [], ◌∷◌, ◌++◌, length, Option, Some, None, decimal, codes}
-use Rattle.std.specs.Borrow.{Bor}
 use Rattle.std.specs.String.{string_bytes}
 use Rattle.http.specs.StatusCode.{status_text}
 use Rattle.gate_deliveries.specs.Errors.{error_text_of}
@@ -95,11 +94,7 @@ report_response text = record { status = 200; kind = Some plain; allow = None; c
 abbrev pub fault_response : Response
 fault_response = bare 503
 
--- WHAT THE CODE HOLDS, as clauses see it: a text that there may be, and a response that is ready to be sent
-abbrev pub now_of : Option (Bor (List ℕ)) → Option (List ℕ)
-now_of (Some text) = Some text.now
-now_of None = None
-
+-- WHAT THE CODE HOLDS, as clauses see it: a response that is ready to be sent
 pub record IsResponse (made : ResponseOf) (response : Response) : Type 0 where
   pub status : made.status ≡ response.status
   pub text : string_bytes made.text ≡ response_text response

@@ -62,7 +62,7 @@ pub enum Found {
     Whole(Head),
     /// No whole head yet. More bytes may make one.
     Unfinished,
-    /// No head with so few fields, whatever follows.
+    /// No head of up to 64 fields, whatever follows.
     Never,
 }
 

@@ -1,7 +1,8 @@
 ghost use Rattle.std.specs.Prelude.{◌≡◌, ◌++◌, ◌∷◌, [], Some, None, IfOk};
+ghost use Rattle.std.specs.Option.{option_copied};
 ghost use Rattle.std.specs.String.{string_bytes};
 ghost use Rattle.gate_http.specs.Responses as responses;
-ghost use Rattle.gate_http.specs.Responses.{IsResponse, now_of};
+ghost use Rattle.gate_http.specs.Responses.{IsResponse};
 
 use crate::refusal::Refusal;
 use gate_deliveries::error_text;
@@ -43,7 +44,7 @@ fn field(alloc: Global, name: &str, value: &str) -> Result<String, AllocError>
 
 // The same, if there is a value.
 fn field_if(alloc: Global, name: &str, value: Option<&str>) -> Result<String, AllocError>
-    ensures { IfOk result (λ text. string_bytes text ≡ responses.field_if name.now (now_of value.entry)) }
+    ensures { IfOk result (λ text. string_bytes text ≡ responses.field_if name.now (option_copied value.entry)) }
 {
     match value {
         Some(value) => field(alloc, name, value),
@@ -78,7 +79,7 @@ fn response_of(
     challenge: Option<&str>,
     body: &str,
 ) -> Result<Response, AllocError>
-    ensures { IfOk result (λ response. IsResponse response (record { status = status; kind = now_of kind.entry; allow = now_of allow.entry; challenge = now_of challenge.entry; body = body.now })) }
+    ensures { IfOk result (λ response. IsResponse response (record { status = status; kind = option_copied kind.entry; allow = option_copied allow.entry; challenge = option_copied challenge.entry; body = body.now })) }
 {
     let kind = field_if(alloc, "Content-Type", kind)?;
     let allow = field_if(alloc, "Allow", allow)?;

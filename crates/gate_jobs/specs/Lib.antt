@@ -1,4 +1,4 @@
--- What the contracts of this crate cite. What words ask for, is told in gate_words. For a reader, in this order:
+-- What the contracts of this crate cite. What words ask for is told in gate_words. For a reader, in this order:
 --     Explaining   what is told if words ask for no job
 --     Report       the report of an input
 --     Accepting    connections, one after the other, and what is known of them

@@ -47,9 +47,9 @@ with_remark status (Some fault) denial = status ++ (codes " " ++ word_of (Hook (
 with_remark status None (Some rule) = status ++ (codes " denied " ++ rule)
 with_remark status None None = status
 
-abbrev pub ending_of : Result Served HookFault → Option (List ℕ) → List ℕ
-ending_of (Ok served) denial = with_remark (decimal served.status) served.fault denial
-ending_of (Err fault) denial = codes "- " ++ word_of (Hook fault)
+abbrev pub how_it_ended : Result Served HookFault → Option (List ℕ) → List ℕ
+how_it_ended (Ok served) denial = with_remark (decimal served.status) served.fault denial
+how_it_ended (Err fault) denial = codes "- " ++ word_of (Hook fault)
 
 -- THE LINE, of what came in and went out, and of how serving it ended. It has no more of them than this.
 abbrev pub line_text : List ℕ → List ℕ → List ℕ → List ℕ → List ℕ
@@ -58,4 +58,4 @@ line_text time method path ending = time ++ (codes " " ++ (method ++ (codes " " 
 abbrev pub IsLogLine : ℕ → Transcript → Result Served HookFault → List ℕ → Type 0
 IsLogLine seconds transcript served line =
     (method : List ℕ) × (path : List ℕ) × (denial : Option (List ℕ)) × IsShownOf transcript.request.items method path
-    × IsDenialIn (string_bytes transcript.response) denial × (line ≡ line_text (time_of seconds) method path (ending_of served denial))
+    × IsDenialIn (string_bytes transcript.response) denial × (line ≡ line_text (time_of seconds) method path (how_it_ended served denial))

@@ -208,8 +208,8 @@ pub struct Connections<'a, C: Clock> {
 
 impl<'a, C: Clock> Connections<'a, C> {
     /// Those of this listener, with a patience in seconds, from 1 on. A request that doesn't bear the token, if there is one, is whole with
-    /// its head. `AllocError` if there is no memory for a list of them. Later
-    /// none is needed to go on: a connection for whose bytes there is no memory is served at once.
+    /// its head. `AllocError` if there is no memory for a list of them. Later none is needed to go on: a connection for whose bytes there is
+    /// no memory is served at once.
     pub fn new(
         alloc: Global,
         clock: &'a C,

@@ -3,7 +3,7 @@ ghost use Rattle.std.specs.Char.{is_ascii_graphic};
 ghost use Rattle.std.specs.List.{list_all};
 ghost use Rattle.std.specs.String.{string_bytes};
 ghost use Rattle.gate_jobs.specs.Log as log;
-ghost use Rattle.gate_jobs.specs.Log.{IsLogLine, IsShownOf, ending_of, shown, time_of};
+ghost use Rattle.gate_jobs.specs.Log.{IsLogLine, IsShownOf, how_it_ended, shown, time_of};
 ghost use Rattle.gate_jobs.specs.Outcome.{word_of};
 ghost use Rattle.gate_jobs.specs.declared.fault.JobFault.TheVariants.{Hook};
 
@@ -150,7 +150,7 @@ fn ending_text(
     served: &Result<Served, HookFault>,
     denial: Option<&str>,
 ) -> Result<String, AllocError>
-    ensures { IfOk result (λ text. string_bytes text ≡ ending_of served.now (option_copied denial.entry)) }
+    ensures { IfOk result (λ text. string_bytes text ≡ how_it_ended served.now (option_copied denial.entry)) }
 {
     match served {
         Ok(served) => {

@@ -2,6 +2,8 @@ ghost use Rattle.std.specs.Prelude.{◌≡◌, ◌⊎◌, List, length, option_c
 ghost use Rattle.std.specs.Io.KnownBytes.{Appends};
 ghost use Rattle.gate_jobs.specs.Accepting.{AddsText, AreAcceptedInTurn, AreEndedInTurn, ComesFirst, Connection};
 ghost use Rattle.gate_jobs.specs.Serving.{AreAccepted, AreServedInTurn, IsServed, IsServedOnce, IsTokenOf, greeting};
+ghost use Rattle.std.specs.String.{string_bytes};
+ghost use Rattle.gate_hook.specs.Responding.{IsTranscript};
 ghost use Rattle.gate_hook.specs.Sending.{IsCutOff};
 
 use crate::accepting::Acceptor;
@@ -47,6 +49,10 @@ pub fn serve_request<B: Book, R: Read, W: Write>(
     writer: &mut W,
 ) -> Result<Served, HookFault>
     ensures served { IsServedOnce result (B.is_sound keeper.new) (B.is_sound keeper.old × B.is_honest keeper.new) (option_copied token.entry) (B.shows keeper.old) (B.shows keeper.new) (R.remaining reader.old) (R.remaining reader.new) (W.contents writer.old) (W.contents writer.new) }
+
+    // If there is no fault, the transcript has what was taken of the input, and what was written.
+    ensures transcript { IfOk result (λ served. IsTranscript transcript.new.request.items (string_bytes transcript.new.response) served.fault
+        (R.remaining reader.old) (R.remaining reader.new) (W.contents writer.old) (W.contents writer.new)) }
 
     // A book that is sound in the end was sound before, one that is honest was so, and one that was shielded still is.
     ensures was { B.is_sound keeper.new → B.is_sound keeper.old }

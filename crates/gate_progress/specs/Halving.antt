@@ -2,9 +2,10 @@
 use Rattle.std.specs.Prelude.{◌≡◌, ◌≤◌, ◌+◌, ◌-◌, ◌^◌, ◌==◌, ◌&&◌, ◌||◌, not, ℕ, Bool, true, false, List, [], ◌∷◌, length, Some, IfSome, Result, Ok, Err, if◌then◌else◌}
 use Rattle.std.proofs.Math.Bool.{beq}
 use Rattle.std.specs.FinMap as finite
-use Rattle.std.specs.List.{All, list_any}
+use Rattle.std.specs.List.{All}
 use Rattle.std.specs.Option.{option_map_or}
 use Rattle.gate_rules.specs.Rules.{is_landed}
+use Rattle.gate_state.specs.Checks as checks
 use Rattle.gate_state.specs.State.{IsState, approved_on}
 use Rattle.gate_state.specs.declared.act.Act.TheVariants.{On, Other}
 use Rattle.gate_state.specs.declared.act.Act.{Act}
@@ -17,7 +18,7 @@ use Rattle.gate_queue.specs.Progress.{CanCome, after_all, each_of, fails, keeps_
 use Rattle.gate_queue.specs.Vocabulary.{DeskView, SettingsFault, SettingsView, look, settings_of}
 
 abbrev pub is_in : ℕ → Batch → Bool
-is_in change batch = list_any (λ other. change == other) batch.changes
+is_in change batch = checks.is_in change batch.changes
 
 -- a failure of a batch that has the change, and how many of these acts are one
 abbrev pub fails_with : ℕ → State → Act → Bool

@@ -13,9 +13,9 @@ use Rattle.gate_queue.specs.Vocabulary.{SettingsView, Command, Ping, Approve, Ap
 use Rattle.gate_rules.specs.Rules.{begins_with_rules, approval_rules, try_rules}
 use Rattle.gate_rules.specs.declared.change.Repeat.TheVariants as repeat
 use Rattle.gate_state.specs.Counts.{occurs, inside, in_landing, held, held_by, of_any_priority}
-use Rattle.gate_queue.specs.Following.{with, without, without_any, has_head, is_ended, Leaves, ActByAct, LawOfTheQueue}
+use Rattle.gate_queue.specs.Following.{with, without, without_any, is_ended, Leaves, ActByAct, LawOfTheQueue}
 use Rattle.gate_state.specs.Lanes.{left, taken_out, taken_out_uses}
-use Rattle.gate_queue.specs.Machine.{broken, denial, meaning, done, unless_denied, missing, effect, altered, approved_by, with_try, without_try, with_priority, pushed, closed, unless_against, with_label, without_label, with_review, size_on, all_but, tried_by, approval_followed, followed_on, ends_approval, with_delegates, with_author_as_delegate, without_delegates}
+use Rattle.gate_queue.specs.Machine.{broken, denial, is_head, meaning, done, unless_denied, missing, effect, altered, approved_by, with_try, without_try, with_priority, pushed, closed, unless_against, with_label, without_label, with_review, size_on, all_but, tried_by, approval_followed, followed_on, ends_approval, with_delegates, with_author_as_delegate, without_delegates}
 use Rattle.gate_state.specs.State.{approved_on, priority_on, trying_on, IsWaiting, Marks, marks_on, IsBranch, IsState}
 use Rattle.gate_state.specs.Queue as specs
 use Rattle.gate_state.specs.Lemmas.Counts.{held_is}
@@ -122,10 +122,10 @@ module _ (s : State) (change : ℕ) (is : IsState s) where
       ≡ (if approved_on s.desk change && not (int_eq (priority_on s.desk change) priority) then specs.enqueued (size_on s.desk) priority change (without s change) else s.queue)
   priority_by priority = grind (arith, altered_here s.desk change (with_priority priority), same_size (with_priority priority))
 
-  moved_by : (head : List ℕ) → approval_followed s.desk (altered s.desk change (pushed head)) change s.queue ≡ (if has_head s change head then s.queue else without s change)
+  moved_by : (head : List ℕ) → approval_followed s.desk (altered s.desk change (pushed head)) change s.queue ≡ (if is_head (look s.desk) change head then s.queue else without s change)
   moved_by head = grind (arith, altered_here s.desk change (pushed head), same_int, unapproved)
 
-  pushed_by : (head : List ℕ) → followed_on s.desk (altered s.desk change (pushed head)) change s.queue ≡ (if has_head s change head then s.queue else without_any s change)
+  pushed_by : (head : List ℕ) → followed_on s.desk (altered s.desk change (pushed head)) change s.queue ≡ (if is_head (look s.desk) change head then s.queue else without_any s change)
   pushed_by head =
       ap (tried_by (trying_on s.desk change) (trying_on (altered s.desk change (pushed head)) change) change) (moved_by head)
       ∙ grind (arith, altered_here s.desk change (pushed head), untried (without s change) is.queue.trying)

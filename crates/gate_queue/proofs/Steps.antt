@@ -13,7 +13,7 @@ use Rattle.gate_state.specs.Counts.{held, held_by, of_any_priority, uses}
 use Rattle.gate_state.specs.declared.reply.Why.TheVariants as why
 use Rattle.gate_queue.specs.History.{Event, did, gave, given, author_back, change_of, names_change, batches_back, landing_with, is_stage_of, is_land_of, stages, landings, ends_why, look_back}
 use Rattle.gate_state.specs.Lanes as lanes
-use Rattle.gate_state.specs.Lanes.{batches_of, is_landing, ordered_at, back, only, left, loses, stops_running, with_report, reported_on, staged_at, to_landing, to_land as lanes_to_land, taken_out, restarted, failed}
+use Rattle.gate_state.specs.Lanes.{batches_of, is_landing, ordered_at, with_report, reported_on, staged_at, to_land as lanes_to_land}
 use Rattle.gate_queue.specs.Machine.{broken, followed_on, then_next, accepted, lone_notices, failing, has_passed, to_land, land_order, tries_left, head_on, first_order, starting, with_queue, ending, on_both, lone_on}
 use Rattle.gate_state.specs.State.{IsWaiting}
 use Rattle.gate_state.specs.Queue as specs

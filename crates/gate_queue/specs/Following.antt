@@ -4,9 +4,8 @@ use Rattle.std.specs.Prelude.{◌≡◌, ℕ, ℤ, not, Bool, false, ◌&&◌, L
 use Rattle.std.specs.FinMap as finite
 use Rattle.std.specs.Option.{option_map_or}
 use Rattle.std.specs.Ordering.{int_eq}
-use Rattle.std.specs.Str.{bytes_eq}
 use Rattle.gate_queue.specs.Vocabulary.{Ping, Approve, ApproveFor, Withdraw, Priority, Try, TryCancel, DelegateAuthor, DelegateTo, DelegateNone, Retry, last_command, look, Known, Change, State, Act, On, Said, Happened, Opened, Pushed, Closed, Labeled, Unlabeled, Review}
-use Rattle.gate_queue.specs.Machine.{denial, repeated, after, size_on, all_but, ends_approval, labeled, reviewed}
+use Rattle.gate_queue.specs.Machine.{denial, is_head, repeated, after, size_on, all_but, ends_approval, labeled, reviewed}
 use Rattle.gate_state.specs.State.{approved_on, priority_on, IsState}
 use Rattle.gate_state.specs.Queue.{enqueued, tried, taken_out}
 use Rattle.gate_state.specs.declared.batch.Branch.TheVariants.{Staging, Trying}
@@ -22,10 +21,7 @@ without s change = taken_out Staging (all_but change) s.queue
 abbrev pub without_any : State → ℕ → Queue
 without_any s change = taken_out Trying (all_but change) (without s change)
 
--- whether the change has this head; whether it is altered so that its approval ends
-abbrev pub has_head : State → ℕ → List ℕ → Bool
-has_head s change head = option_map_or (λ (c : Change). bytes_eq c.head head) (finite.get s.desk.changes change) false
-
+-- whether the change is altered so that its approval ends
 abbrev pub is_ended : State → ℕ → (Change → Change) → Bool
 is_ended s change alter = option_map_or (ends_approval alter) (finite.get s.desk.changes change) false
 
@@ -44,7 +40,7 @@ pub record ActByAct (s : State) (change : ℕ) : Type 0 where
   pub try : (person : List ℕ) → Leaves s (On change (Said person (Known Try))) (tried change s.queue)
   pub try_cancel : (person : List ℕ) → Leaves s (On change (Said person (Known TryCancel))) (taken_out Trying (all_but change) s.queue)
   -- another head takes it out on both, and so does a closing
-  pub pushed : (head : List ℕ) → Leaves s (On change (Happened (Pushed head))) (if has_head s change head then s.queue else without_any s change)
+  pub pushed : (head : List ℕ) → Leaves s (On change (Happened (Pushed head))) (if is_head (look s.desk) change head then s.queue else without_any s change)
   pub closed : Leaves s (On change (Happened Closed)) (without_any s change)
   -- a label or a review takes it out if it ends the approval
   pub labeled : (label : List ℕ) → Leaves s (On change (Happened (Labeled label))) (if is_ended s change (labeled s.desk.settings label) then without s change else s.queue)

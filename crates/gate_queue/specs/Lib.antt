@@ -8,6 +8,7 @@
 --     Before     what is noted of a state before acts change it
 --     History    the events of a history, what they say of people and changes, and what one more entry tells
 --     Words      what the words of the history come to over a whole list
+-- For private clauses: Touching, the numbers of the batches that an act may change, as lists.
 pub mod Before
 pub mod Following
 pub mod History

@@ -1,4 +1,4 @@
-ghost use Rattle.std.specs.Prelude.{◌≡◌, IfOk};
+ghost use Rattle.std.specs.Prelude.{◌≡◌};
 ghost use Rattle.std.specs.FinMap.{from_entries};
 ghost use Rattle.std.specs.Option.{option_copied};
 ghost use Rattle.gate_queue.specs.Before.{IsBefore, nothing_of};

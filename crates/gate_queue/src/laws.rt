@@ -17,8 +17,8 @@ pub fn law_of_the_last<X>()
     ensures { LawOfTheLast X }
 {}
 
-/// The law of the sets of a change: a label is among its labels, a person among its reviews or its delegates, exactly if
-/// the words of the history say so.
+/// The law of the sets of a change: a label is among its labels, a status among those that succeeded on its head, a person
+/// among its reviews or its delegates, exactly if the words of the history say so.
 pub fn law_of_sets()
     ensures { LawOfSets }
 {}

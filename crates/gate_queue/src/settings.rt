@@ -43,7 +43,7 @@ pub fn accept_settings(state: State, alloc: Global, text: &Text) -> Result<Outco
     }
 }
 
-// Whether these are the settings of a desk.
+/// Whether these are the settings of a desk.
 pub fn are_present(desk: &Desk, settings: &Settings) -> bool
     ensures { result ≡ machine.are_present desk.now settings.now }
 {

@@ -1,13 +1,10 @@
 -- THE TEXT OF A CHANGE: ten lines, each a word and a value.
-use Rattle.std.specs.Prelude.{ℕ, Bool, true, false, List, [], ◌∷◌, ◌++◌, map, Option, Some, None, decimal, codes}
-use Rattle.std.specs.Cmp.Lexicographic.{slice_cmp}
+use Rattle.std.specs.Prelude.{ℕ, Bool, true, false, List, [], ◌∷◌, ◌++◌, Option, Some, None, decimal, codes}
 use Rattle.std.specs.FinMap as finite
-use Rattle.std.specs.FinSet as set
-use Rattle.std.specs.FinSet.{FinSet}
 use Rattle.std.specs.Fmt.{signed_decimal}
 use Rattle.std.specs.List.{join_by}
 use Rattle.std.specs.Option.{option_map}
-use Rattle.std.specs.Ordering.{nat_cmp}
+use Rattle.gate_text.specs.Finite.{words_of}
 use Rattle.gate_rules.specs.declared.change.Change.{Change}
 use Rattle.gate_rules.specs.declared.change.Phase.{Phase}
 use Rattle.gate_rules.specs.declared.change.Phase.TheVariants.{Opened, Closed, Landed}
@@ -31,12 +28,6 @@ yes_or_no false = codes "no"
 abbrev pub listed : List (List ℕ) → List ℕ
 listed [] = codes "-"
 listed (word ∷ words) = join_by (λ text. text) (codes ", ") (word ∷ words)
-
--- the words of a set, in the order of their bytes: the keys of the map that has them
-abbrev pub words_of : FinSet (slice_cmp nat_cmp) → List (List ℕ)
-words_of words = finite.keys {R = slice_cmp nat_cmp} (finite.from_entries (each_there (set.items words))) where
-  each_there : List (List ℕ) → List (List ℕ × Unit {0})
-  each_there items = map (λ word. (word, tt)) items
 
 abbrev pub approvers : Option (List (List ℕ)) → List ℕ
 approvers None = codes "-"

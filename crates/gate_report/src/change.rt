@@ -2,7 +2,8 @@ ghost use Rattle.std.specs.Prelude.{◌≡◌, ◌++◌, IfOk, OnOk, codes, deci
 ghost use Rattle.std.specs.Fmt.{signed_decimal};
 ghost use Rattle.std.specs.Option.{option_map};
 ghost use Rattle.std.specs.String.{string_bytes};
-ghost use Rattle.gate_report.specs.Change.{approvers, change_text_of, entry, lines_of, listed, phase_word, words_of, yes_or_no};
+ghost use Rattle.gate_text.specs.Finite.{words_of};
+ghost use Rattle.gate_report.specs.Change.{approvers, change_text_of, entry, lines_of, listed, phase_word, yes_or_no};
 
 use crate::columns::left;
 use crate::lists::{NONE, name_list, word_list};
@@ -84,7 +85,8 @@ fn push_standing(text: &mut String, alloc: Global, change: &Change) -> Result<()
 
 // The lines of its sets.
 fn push_sets(text: &mut String, alloc: Global, change: &Change) -> Result<(), AllocError>
-    ensures { OnOk result (string_bytes text.new ≡ string_bytes text.old ++ entry (codes "labels") (listed (words_of change.now.labels)) ++ entry (codes "reviews") (listed (words_of change.now.reviews)) ++ entry (codes "delegates") (listed (words_of change.now.delegates))) }
+    ensures { OnOk result (string_bytes text.new ≡ string_bytes text.old ++ entry (codes "labels") (listed (words_of change.now.labels))
+        ++ entry (codes "reviews") (listed (words_of change.now.reviews)) ++ entry (codes "delegates") (listed (words_of change.now.delegates))) }
 {
     push_set(text, alloc, "labels", &change.labels)?;
     push_set(text, alloc, "reviews", &change.reviews)?;

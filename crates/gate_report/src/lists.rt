@@ -3,7 +3,8 @@ ghost use Rattle.std.specs.Cmp.Lexicographic.{slice_cmp};
 ghost use Rattle.std.specs.List.Sorted.{IsStrictlySortedBy};
 ghost use Rattle.std.specs.Ordering.{nat_cmp};
 ghost use Rattle.std.specs.String.{string_bytes};
-ghost use Rattle.gate_report.specs.Change as change;
+ghost use Rattle.gate_text.specs.Finite.{words_of};
+ghost use Rattle.gate_report.specs.Change.{listed};
 
 use gate_text::{Name, Set, Text};
 use std::alloc::{AllocError, Global};
@@ -14,7 +15,7 @@ pub const NONE: &str = "-";
 
 /// Names in their order, or `-`. `AllocError` if there is no memory for them.
 pub fn name_list(alloc: Global, names: &[Name]) -> Result<String, AllocError>
-    ensures { IfOk result (λ text. string_bytes text ≡ change.listed names.now) }
+    ensures { IfOk result (λ text. string_bytes text ≡ listed names.now) }
 {
     let Some((first, others)) = names.split_first() else {
         return String::from_str(alloc, NONE);
@@ -28,13 +29,13 @@ pub fn name_list(alloc: Global, names: &[Name]) -> Result<String, AllocError>
 
 /// The words of a set in the order of their bytes, or `-`. `AllocError` if there is no memory for them.
 pub fn word_list<T>(alloc: Global, words: &Set<T>) -> Result<String, AllocError>
-    ensures { IfOk result (λ text. string_bytes text ≡ change.listed (change.words_of words.now)) }
+    ensures { IfOk result (λ text. string_bytes text ≡ listed (words_of words.now)) }
 {
     text_list(alloc, words.texts())
 }
 
 fn text_list(alloc: Global, texts: &BTreeSet<Text>) -> Result<String, AllocError>
-    ensures value { IfOk result (λ text. string_bytes text ≡ change.listed texts.now.keys) }
+    ensures value { IfOk result (λ text. string_bytes text ≡ listed texts.now.keys) }
     ensures ordered { IsStrictlySortedBy (slice_cmp nat_cmp) texts.now.keys }
 {
     let mut words = texts.iter();

@@ -14,6 +14,7 @@ use Rattle.std.specs.Option.{unwrap_or}
 use Rattle.std.specs.Ordering.{nat_cmp, is_eq, is_lt, eq_by_cmp}
 use Rattle.std.specs.declared.cmp.Ordering.{Ordering}
 use Rattle.std.specs.declared.cmp.Ordering.TheVariants.{Less, Equal, Greater}
+use Rattle.gate_text.specs.Finite.{words_of}
 use Rattle.gate_text.specs.Settings.{SettingsView}
 use Rattle.gate_state.specs.Checks.{all_pairs, fit_changes, fit_names, fits, fits_approval, fits_change, fits_desk, fits_next, fits_priority, fits_queue, fits_repeat, fits_try, has_other_number, have_other_numbers, is_other_name, is_ready}
 use Rattle.gate_state.specs.declared.batch.Batch.{Batch}
@@ -25,7 +26,7 @@ use Rattle.gate_rules.specs.declared.role.Role.{Role}
 use Rattle.gate_rows.proofs.Canonical.{both}
 use Rattle.gate_rows.proofs.Each.{all_joined, all_mapped, all_of, all_pass, all_weaker}
 use Rattle.gate_rows.proofs.OneState.{Fits, facts}
-use Rattle.gate_rows.specs.Encoding.{batch_row, change_row, from_place, list_marks, list_wanted, mark, marks_of, member_row, members_of, names_of, person_row, placed, reports_of, rows_of, set_marks, status_row, statuses_of, wanted_of, wanted_row, words_of}
+use Rattle.gate_rows.specs.Encoding.{batch_row, change_row, from_place, list_marks, list_wanted, mark, marks_of, member_row, members_of, names_of, person_row, placed, reports_of, rows_of, set_marks, status_row, statuses_of, wanted_of, wanted_row}
 use Rattle.gate_state.specs.Lanes as lane
 use Rattle.gate_state.specs.Queue.{batches_of}
 use Rattle.gate_state.specs.declared.batch.Report.{Report}

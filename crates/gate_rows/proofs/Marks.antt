@@ -10,9 +10,10 @@ use Rattle.std.specs.FinSet.{FinSet}
 use Rattle.std.specs.List.{filter, flat_map}
 use Rattle.std.specs.Option.{unwrap_or}
 use Rattle.std.specs.Ordering.{int_eq, nat_cmp}
+use Rattle.gate_text.specs.Finite.{words_of}
 use Rattle.gate_rules.specs.declared.change.Change.{Change}
 use Rattle.gate_rows.specs.Decoding.{is_mark, set_in, list_in}
-use Rattle.gate_rows.specs.Encoding.{list_marks, mark, marks_of, names_of, placed, set_marks, words_of}
+use Rattle.gate_rows.specs.Encoding.{list_marks, mark, marks_of, names_of, placed, set_marks}
 use Rattle.gate_tables.specs.declared.row.MarkRow.{MarkRow}
 use Rattle.gate_rows.proofs.Canonical.{one_of_key, same-keys}
 use Rattle.gate_rows.proofs.Elements.{Among, HaveSame, among-append, map-among, same-filter, same-map, same-trans}

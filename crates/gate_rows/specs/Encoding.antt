@@ -2,11 +2,11 @@
 use Rattle.std.specs.Prelude.{ℕ, suc, ℤ, pos, Bool, true, false, List, [], ◌∷◌, ◌++◌, map as list_map, Option, Some, None}
 use Rattle.std.specs.Cmp.Lexicographic.{slice_cmp}
 use Rattle.std.specs.FinMap as finite
-use Rattle.std.specs.FinSet as set
 use Rattle.std.specs.FinSet.{FinSet}
 use Rattle.std.specs.List.{flat_map}
 use Rattle.std.specs.Option.{is_some, unwrap_or}
 use Rattle.std.specs.Ordering.{nat_cmp}
+use Rattle.gate_text.specs.Finite.{words_of}
 use Rattle.gate_text.specs.Settings.{SettingsView}
 use Rattle.gate_rules.specs.declared.change.Change.{Change}
 use Rattle.gate_rules.specs.declared.change.Phase.{Phase}
@@ -126,12 +126,6 @@ change_row entry = record {
 -- MARKS of a change: sets of words, all at place 0, and lists, whose words have places
 abbrev pub mark : ℕ → ℤ → ℤ × List ℕ → MarkRow
 mark change kind entry = record { change_no = pos change; kind = kind; word = entry.1; place = entry.0 }
-
--- the words of a set, in the order of their bytes: the keys of the map that has them
-abbrev pub words_of : FinSet (slice_cmp nat_cmp) → List (List ℕ)
-words_of words = finite.keys {R = slice_cmp nat_cmp} (finite.from_entries (each_there (set.items words))) where
-  each_there : List (List ℕ) → List (List ℕ × Unit {0})
-  each_there items = list_map (λ word. (word, tt)) items
 
 abbrev pub set_marks : ℕ → ℤ → FinSet (slice_cmp nat_cmp) → List MarkRow
 set_marks change kind words = list_map (λ word. mark change kind (pos 0, word)) (words_of words)

@@ -1,4 +1,4 @@
--- What the contracts of this crate cite. What rows tables have, is told in gate_tables. For a reader, in this order:
+-- What the contracts of this crate cite. What rows tables have is told in gate_tables. For a reader, in this order:
 --     Encoding    the rows of a state of the machine
 --     Decoding    the state that rows stand for
 --     Standing    the law of both: the rows of a state, in any order, stand for it

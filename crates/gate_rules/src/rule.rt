@@ -60,7 +60,7 @@ pub enum Rule {
 }
 
 impl Rule {
-    /// The number of the rule, which hosts and tools compare.
+    /// The number of the rule, 1 to 21, which hosts and tools compare.
     pub fn number(&self) -> u8
         ensures value { result ≡ number_of self.now }
     {

@@ -1,4 +1,4 @@
--- What the contracts of this crate cite. What rows and answers tables have, is told in gate_tables, and of which state they are the
+-- What the contracts of this crate cite. What rows and answers tables have is told in gate_tables, and of which state they are the
 -- rows, in gate_rows. For a reader, in this order:
 --     Shown       what a book over the tables shows, and that its tables hold nothing besides
 --     Versions    what a database of either schema version stands for

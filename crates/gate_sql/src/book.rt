@@ -1,7 +1,6 @@
 ghost use Rattle.std.specs.Prelude.{◌≡◌, ◌≢◌, ◌⊎◌, [], None, false, IfOk, IfErr, IsErrAnd, OnOk, OnErr};
 ghost use Rattle.std.specs.FinMap.{empty};
 ghost use Rattle.std.specs.Option.{option_map};
-ghost use Rattle.std.specs.String.{string_bytes};
 ghost use Rattle.gate_queue.specs.Before.{IsBefore};
 ghost use Rattle.gate_queue.specs.Machine.{empty_state};
 ghost use Rattle.gate_tables.specs.Applied.{applied, no_rows as no_rows_at_all};

@@ -1,4 +1,4 @@
-ghost use Rattle.std.specs.Prelude.{◌≡◌, IfOk, OnOk};
+ghost use Rattle.std.specs.Prelude.{◌≡◌, IfOk, OnErr, OnOk};
 ghost use Rattle.std.specs.FinMap.{empty, from_entries, get, insert};
 ghost use Rattle.gate_state.specs.Lanes as lanes;
 ghost use Rattle.gate_state.specs.Lanes.{has_succeeded};
@@ -90,9 +90,11 @@ impl Reports {
         }
     }
 
-    /// Keeps a report, in place of the one of this name, if there is one. `AllocError` if there is no memory for it.
+    /// Keeps a report, in place of the one of this name, if there is one. `AllocError` if there is no memory for it, and the reports stay
+    /// as they were.
     pub fn keep(&mut self, name: Context, report: Report) -> Result<(), AllocError>
-        ensures value { OnOk result (self.new ≡ insert self.old name report) }
+        ensures ok { OnOk result (self.new ≡ insert self.old name report) }
+        ensures err { OnErr result (self.new ≡ self.old) }
     {
         self.reports.insert(name, report)?;
         Ok(())

@@ -171,7 +171,8 @@ impl<B: Book> Keeper<B> {
 
         // The headline for these, and all that the history tells.
         ensures headline { B.is_honest self.new → Headline (B.shows self.old) (take (length result.0.items) deliveries.now) result.0.items (after_deliveries (B.shows self.old) (take (length result.0.items) deliveries.now)) }
-        ensures history { B.is_honest self.new → (history : List Entry) → Legal history (B.shows self.old).state → HistoryTells (B.shows self.old) (take (length result.0.items) deliveries.now) (after_deliveries (B.shows self.old) (take (length result.0.items) deliveries.now)) history }
+        ensures history { B.is_honest self.new → (history : List Entry) → Legal history (B.shows self.old).state
+            → HistoryTells (B.shows self.old) (take (length result.0.items) deliveries.now) (after_deliveries (B.shows self.old) (take (length result.0.items) deliveries.now)) history }
 
         // All are answered, or the fault came at the next one. No delivery that is answered met a full gate, and at `Full` the next
         // one does.

@@ -6,7 +6,7 @@ use Rattle.gate_tables.specs.Apart.{AreApartBy}
 use Rattle.gate_tables.specs.Differences.{HaveKeys}
 use Rattle.gate_tables.specs.declared.row.Rows.{Rows}
 use Rattle.sqlite_trees.proofs.ListLemmas.{along_permutation}
-pub use Rattle.sqlite_trees.proofs.ListLemmas.{IsPermutation-flat_map, map-map, flat_map-map}
+pub use Rattle.sqlite_trees.proofs.ListLemmas.{IsPermutation-flat_map}
 
 module _ {X K : Type 0} (key : X → K) where
   -- items of which none has a key

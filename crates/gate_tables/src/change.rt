@@ -24,7 +24,8 @@ pub enum Row {
     Wanted(WantedRow),
 }
 
-/// The key of a row of one of the tables but `answers`: its first columns, by their names.
+/// The key of a row of one of the tables but `answers`: its first columns. They have the names and the values that the row's type
+/// tells.
 #[derive(Debug, Drop, PartialEq, Eq)]
 pub enum RowKey {
     /// Of a row of `desk`: always 1.

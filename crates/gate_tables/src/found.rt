@@ -1,4 +1,4 @@
-ghost use Rattle.std.specs.Prelude.{◌≡◌, false, IsTrue, IfOk, OnOk};
+ghost use Rattle.std.specs.Prelude.{◌≡◌, false, IfOk, OnOk};
 ghost use Rattle.gate_tables.specs.Creation.{after_first};
 ghost use Rattle.gate_tables.specs.Effects.{IsUnused};
 ghost use Rattle.gate_tables.specs.Schemas.{IsFound};

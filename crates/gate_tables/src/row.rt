@@ -5,7 +5,7 @@ use gate_text::{List, Text};
 pub struct DeskRow {
     /// 1: the key of the one row.
     pub one: i64,
-    /// The version of the schema, 2.
+    /// The version of the schema: 2, or 1 in a row of version 1.
     pub version: i64,
     /// The number of the next batch.
     pub next_batch: i64,
@@ -52,9 +52,10 @@ pub struct ChangeRow {
 /// A row of the table `marks`.
 #[derive(Debug, Drop, PartialEq, Eq, PartialOrd, Ord)]
 pub struct MarkRow {
-    /// The number of the change.
+    /// The number of the change. In version 1 it is 0 for a word of the settings.
     pub change_no: i64,
-    /// 1 a label, 2 a review, 3 a delegate, 4 an approver, 5 a name of the last `r=`, 8 a status that has succeeded on the head.
+    /// 1 a label, 2 a review, 3 a delegate, 4 an approver, 5 a name of the last `r=`, 8 a status that has succeeded on the head. In version
+    /// 1 also, of the settings, 6 a required status, 7 a blocking label, 9 a name of `pr_status`.
     pub kind: i64,
     /// The label, the name of the person or that of the status.
     pub word: Text,

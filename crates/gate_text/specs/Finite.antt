@@ -1,7 +1,7 @@
 -- Maps and sets of the code as finite maps and sets: what the clauses of `BTreeMap` and `BTreeSet` say in the words of
--- `FinMap` and `FinSet`. For proofs of this crate and of those above it.
+-- `FinMap` and `FinSet`. For proofs of this crate and of those above it. The specs above cite `words_of`.
 use Rattle.std.specs.Prelude.{map as list_map, ◌≡◌, ℕ, ◌+◌, Bool, true, false, cond, not, ◌&&◌, ◌||◌, List, [], ◌∷◌, length, Option, Some, None}
-use Rattle.std.proofs.Common.{refl, sym, ◌∙◌, ap, add-one, Less}
+use Rattle.std.proofs.Common.{refl, sym, ◌∙◌, ap, subst, add-one, Less}
 use Rattle.std.specs.List.Sorted.{IsStrictlySortedBy}
 use Rattle.std.specs.Ordering.{eq_by_cmp, is_eq, nat_cmp}
 use Rattle.std.specs.declared.cmp.Ordering.{Ordering}
@@ -193,3 +193,42 @@ is_same_words-equiv = is_same-equiv nat_list_cmp_total (slice_cmp-IsAntisymmetri
 pub known_by_order : (name : List ℕ) (names : List (List ℕ)) → list_any (eq_by_cmp (slice_cmp nat_cmp) name) names ≡ list_any (bytes_eq name) names
 known_by_order name [] = refl
 known_by_order name (other ∷ names) = λ i. is_eq-slice_cmp name other i || known_by_order name names i
+
+-- a set is a map to nothing
+abbrev pub marked : {K : Type 0} → List K → List (K × Unit {0})
+marked keys = list_map (λ key. (key, tt)) keys
+
+-- THE WORDS OF A SET, in the order of their bytes: the keys of the map that has them
+abbrev pub words_of : set.FinSet (slice_cmp nat_cmp) → List (List ℕ)
+words_of words = map.keys {R = slice_cmp nat_cmp} (from_entries (marked (set.items words)))
+
+keys_marked : {K : Type 0} (ks : List K) → keys_of (marked ks) ≡ ks
+keys_marked [] = refl
+keys_marked (k ∷ ks) = ap (λ others. k ∷ others) (keys_marked ks)
+
+abbrev found_if : Bool → Option (Unit {0})
+found_if b = cond b (Some tt) None
+
+or_found : (b c : Bool) → cond b (Some tt) (found_if c) ≡ found_if (b || c)
+or_found true c = refl
+or_found false c = refl
+
+module _ {K : Type 0} {R : K → K → Ordering} (total : IsTotalOrder R) (same : IsAntisymmetric R) where
+  find-marked : (q : K) (ks : List K) → find R q (marked ks) ≡ found_if (list_any (eq_by_cmp R q) ks)
+  find-marked q [] = refl
+  find-marked q (k ∷ ks) = ap (λ (rest : Option (Unit {0})). cond (eq_by_cmp R q k) (Some tt) rest) (find-marked q ks) ∙ or_found (eq_by_cmp R q k) _
+
+  -- the keys of a set of the code are those of the map that has the keys of its finite set
+  keys_are : (ks : List K) (s : set.FinSet R) → IsStrictlySortedBy R ks → set.from_list ks ≡ s → ks ≡ map.keys {R = R} (from_entries (marked (set.items s)))
+  keys_are ks s sorted is =
+      let rising = subst (λ those. IsStrictlySortedBy R those) (sym (keys_marked ks)) sorted in
+      let had : (q : K) → list_any (eq_by_cmp R q) ks ≡ list_any (eq_by_cmp R q) (set.items s) =
+      λ q. sym (set.contains-from_list total ks q) ∙ ap (λ (t : set.FinSet R). set.contains t q) is ∙ set.contains-items s q in
+      let one : from_entries {R = R} (marked ks) ≡ from_entries (marked (set.items s)) =
+      same_map total same _ _ (λ q.
+      get-from_entries total (marked ks) q ∙ find-marked q ks ∙ ap found_if (had q)
+      ∙ sym (get-from_entries total (marked (set.items s)) q ∙ find-marked q (set.items s))) in
+      sym (keys_marked ks) ∙ ap keys_of (sym (entries-from_entries R total same (marked ks) rising) ∙ ap map.entries one)
+
+pub words_are : (ks : List (List ℕ)) (s : set.FinSet (slice_cmp nat_cmp)) → IsStrictlySortedBy (slice_cmp nat_cmp) ks → set.from_list ks ≡ s → ks ≡ words_of s
+words_are = keys_are nat_list_cmp_total (slice_cmp-IsAntisymmetric nat_cmp-IsAntisymmetric)

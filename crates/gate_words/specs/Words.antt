@@ -16,10 +16,11 @@ use Rattle.gate_words.specs.declared.words.Job.TheVariants.{Run, Serve, Report}
 use Rattle.gate_words.specs.declared.words.WordsFault.{WordsFault}
 use Rattle.gate_words.specs.declared.words.WordsFault.TheVariants.{Help, Usage, Memory}
 
--- a job whose port, whose count of connections and whose patience, in seconds, keep their limits
+-- the limits of a port and of a count of connections
 abbrev pub AreWithinLimits : ℕ → ℕ → Type 0
 AreWithinLimits port count = (1 ≤ port) × (port ≤ 65535) × (1 ≤ count) × (count ≤ 1000000)
 
+-- those of a patience, in seconds
 abbrev pub IsPatient : ℕ → Type 0
 IsPatient patience = (1 ≤ patience) × (patience ≤ 3600)
 

@@ -220,7 +220,8 @@ pub fn no_text(alloc: Global, error: &io::Error) -> WordsFault
     misuse(alloc, NO_TEXT)
 }
 
-/// The job that words ask for, which stand behind the program's name.
+/// The job that words ask for, which stand behind the program's name. The fault is `Help` if they ask for help, `Usage` if they have a
+/// mistake or a number past its limits, and `Memory` if there is no memory to read them.
 pub fn read_words(alloc: Global, words: &[&str]) -> Result<Job, WordsFault>
     // The port, the count and the patience keep their limits.
     ensures limits { IfOk result IsWithinLimits }

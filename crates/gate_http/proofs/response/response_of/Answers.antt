@@ -1,5 +1,6 @@
 use Rattle.std.proofs.Common.{List, ℕ, ap, codes, refl, ◌∙◌}
-use Rattle.gate_http.specs.Responses.{field_if, message, now_of, response_text}
+use Rattle.std.specs.Option.{option_copied}
+use Rattle.gate_http.specs.Responses.{field_if, message, response_text}
 use Rattle.gate_http.proofs.response.response_of.Goals as goal
 
 pub returns : goal.returns
@@ -13,6 +14,6 @@ returns c =
       status = refl;
       text = c.in_ok-text.ensures
           ∙ ap (λ (bytes : List ℕ). message c.args.status bytes c.as_str-2.result.now c.as_str-3.result.now body) kind
-          ∙ ap (λ (bytes : List ℕ). message c.args.status (field_if (codes "Content-Type") (now_of c.args.kind)) bytes c.as_str-3.result.now body) allow
-          ∙ ap (λ (bytes : List ℕ). message c.args.status (field_if (codes "Content-Type") (now_of c.args.kind)) (field_if (codes "Allow") (now_of c.args.allow)) bytes body) challenge;
+          ∙ ap (λ (bytes : List ℕ). message c.args.status (field_if (codes "Content-Type") (option_copied c.args.kind)) bytes c.as_str-3.result.now body) allow
+          ∙ ap (λ (bytes : List ℕ). message c.args.status (field_if (codes "Content-Type") (option_copied c.args.kind)) (field_if (codes "Allow") (option_copied c.args.allow)) bytes body) challenge;
     }

@@ -1,7 +1,7 @@
 use Rattle.std.proofs.Common.{◌≡◌, IfOk, List, ℕ, subst}
 use Rattle.std.specs.String.{string_bytes}
 use Rattle.gate_report.specs.Change.{listed}
-use Rattle.gate_report.proofs.Words.{words_are}
+use Rattle.gate_text.specs.Finite.{words_are}
 use Rattle.gate_report.proofs.lists.word_list.Goals as goal
 
 pub returns : goal.returns

@@ -1,6 +1,6 @@
 use Rattle.std.proofs.Common.{◌≡◌, ◌++◌, List, ℕ, pos, OnOk, map, subst, to_z-of_z}
 use Rattle.gate_rows.specs.Encoding.{mark}
-use Rattle.gate_rows.proofs.Entries.{words_are}
+use Rattle.gate_text.specs.Finite.{words_are}
 use Rattle.gate_rows.proofs.rows.marks.words.push_set.Goals as goal
 
 pub returns : goal.returns
