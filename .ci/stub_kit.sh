@@ -2,8 +2,9 @@
 
 # Writes the stub of a kit into the folder $1. `rt` tries a program, `rattle` proves a crate, and `rattle-link` gives a program that
 # prints its arguments and its input. Files beside them say how they act: `hangs` that a proof waits, `meets` that gate_rules and
-# gate_tables each wait for the other to be begun, `fails` that gate_rules isn't proved, `hides` that it is proved with a reserve, and
-# `breaks` that the program can't be linked. What they do stands in `calls`, and `proved` has the crates in their order.
+# gate_tables each wait for the other to be begun, `fails` that gate_rules isn't proved, `forgets` that its proof ends well without a
+# verdict, `hides` that it is proved with a reserve, and `breaks` that the program can't be linked. What they do stands in `calls`, and
+# `proved` has the crates in their order.
 write_kit() {
     cat >"$1/rt" <<'STUB'
 #!/usr/bin/env bash
@@ -52,6 +53,9 @@ echo "fn $name::list::List::len: proved"
 if [[ -e $bin/fails && $name == gate_rules ]]; then
     echo "logic=not-proved functions=1"
     exit 1
+fi
+if [[ -e $bin/forgets && $name == gate_rules ]]; then
+    exit
 fi
 reserve=
 [[ ! -e $bin/hides || $name != gate_rules ]] || reserve=' hides=1'
