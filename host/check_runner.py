@@ -83,6 +83,9 @@ def read(pipe: int, output: Output) -> bool:
 
 def main() -> None:
     seconds, path, verdict, command = sys.argv[1:]
+    # A check begins with none of these ignored, however the host was started.
+    for number in (signal.SIGTERM, signal.SIGINT, signal.SIGHUP):
+        signal.signal(number, signal.SIG_DFL)
     output = Output(path)
     try:
         state, said = run(float(seconds), output, command)

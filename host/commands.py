@@ -105,6 +105,7 @@ def main(words: List[str]) -> int:
 def init(arguments: argparse.Namespace) -> int:
     os.umask(0o022)
     repository = Path(arguments.repository).resolve()
+    must_read_tables()
     must_be_bare(repository)
     places = Places(repository)
     settings, roles = first_settings(arguments, repository), first_roles(arguments)
@@ -138,6 +139,12 @@ def add_settings_of_bot(repository: Repository, settings: Settings) -> None:
 def quoted(name: str) -> str:
     """A name of a check as a text of TOML."""
     return '"' + name.replace("\\", "\\\\").replace('"', '\\"') + '"'
+
+
+def must_read_tables() -> None:
+    """The tables of the bot are strict, and SQLite reads such tables from 3.37 on."""
+    if sqlite3.sqlite_version_info < (3, 37):
+        raise Trouble(f"SQLite 3.37 or later is needed, and this Python has {sqlite3.sqlite_version}")
 
 
 def must_be_bare(repository: Path) -> None:
@@ -202,6 +209,7 @@ def run(arguments: argparse.Namespace) -> int:
     os.umask(0o022)
     places = Places(Path(arguments.repository).resolve())
     must_be_safe(places)
+    must_read_tables()
     must_be_bare(places.repository)
     if os.geteuid() == 0:
         complain("this runs as root, and so does each check; better let a user of its own own the repository")

@@ -55,9 +55,15 @@ def tell_of(updates: List[Update], places: Places) -> None:
         leave(places.spool, {"kind": "push", "person": person_here(places.owner), "heads": heads[start:start + MOST_IN_NOTE]})
 
 
+def updates_in(given: bytes) -> List[Update]:
+    """The updates that git tells, one on each line. A name of a branch may have any character but a few, also one that ends lines elsewhere."""
+    lines = given.decode(errors="replace").split("\n")
+    return [tuple(line.split(" ", 2)) for line in lines if line]
+
+
 def before_push(places: Places) -> int:
     """Looks at a push. The status says whether git goes on with it."""
-    updates: List[Update] = [tuple(line.split(" ", 2)) for line in sys.stdin.read().splitlines()]
+    updates = updates_in(sys.stdin.buffer.read())
     try:
         refusals = complaints(updates, places)
         if not refusals:

@@ -72,7 +72,9 @@ class Host:
     def run(self) -> None:
         """Goes on until a signal ends it."""
         for number in (signal.SIGTERM, signal.SIGINT, signal.SIGHUP):
-            signal.signal(number, self.end)
+            # What is ignored from the start stays so, as under `nohup`.
+            if signal.getsignal(number) is not signal.SIG_IGN:
+                signal.signal(number, self.end)
         self.must_belong_together()
         self.checks.clear()
         (self.places.reports / "process").write_text(f"{os.getpid()}\n", encoding="utf-8")
@@ -416,6 +418,9 @@ class Host:
 
     def check(self) -> None:
         """Hands in how checks have ended, and starts the next ones."""
+        # Whoever ends the host may end its checks as well. They have no result then, and begin anew at the next start.
+        if self.ending:
+            return
         for result in self.checks.ended(self.journal.tests()):
             self.hand_in_result(result)
         for test in self.journal.tests():

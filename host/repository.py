@@ -74,8 +74,8 @@ class Repository:
 
     def branches(self) -> Dict[str, str]:
         """The commit of each branch, all of one moment as nearly as git can tell."""
-        lines = self.ask("for-each-ref", "--format=%(objectname) %(refname)", "refs/heads/").splitlines()
-        return {name: commit for commit, name in (line.split(" ", 1) for line in lines)}
+        lines = self.ask("for-each-ref", "--format=%(objectname) %(refname)", "refs/heads/").split("\n")
+        return {name: commit for commit, name in (line.split(" ", 1) for line in lines if line)}
 
     def text_at(self, commit: str, name: str, most: int) -> Optional[str]:
         """The text of a file of a commit, or none if it has no such file, or one with more bytes."""

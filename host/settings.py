@@ -12,10 +12,11 @@ FIRST_SETTINGS = """\
 # The settings of gate-host. Nobody but the owner of the repository may write this file. The host reads it again when it has changed.
 
 [host]
-# The branch that is guarded. Its bors.toml says which checks have to succeed. This and the program are read at a start alone.
+# The branch that is guarded. Its bors.toml says which checks have to succeed. If it becomes another one, start the host again: the hook
+# guards that one from then on, and the host lands on this one until it is started.
 main = {main}
 
-# The built program of the bot.
+# The built program of the bot. Another one counts when the bot is started.
 program = {program}
 
 # How often the bot is told the time while something waits. Changes that are approved meanwhile are tested together.

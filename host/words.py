@@ -38,7 +38,7 @@ def notice(order: dict) -> str:
     why = order["why"]
     if why in TRIES:
         return f"{TRIES[why]} ({why})."
-    return f"The approval or the try has ended ({why}): {NOTICES[why].format(name=order.get('name', ''))}."
+    return f"The approval or the try has ended ({why}): {NOTICES.get(why, 'it says no more').format(name=order.get('name', ''))}."
 
 
 def replies(answer: Sequence[dict]) -> List[str]:

@@ -3,6 +3,7 @@ import json
 import os
 import pwd
 import signal
+import sqlite3
 import subprocess
 import sys
 import tempfile
@@ -10,6 +11,7 @@ import time
 import unittest
 from contextlib import closing
 from pathlib import Path
+from types import SimpleNamespace
 from unittest import mock
 
 sys.path.insert(0, str(Path(__file__).resolve().parent.parent))
@@ -19,8 +21,9 @@ import spool  # noqa: E402
 import words  # noqa: E402
 from checks import remove_tree  # noqa: E402
 from client import Bot, BotEnded  # noqa: E402
+from commands import must_read_tables  # noqa: E402
 from journal import Journal  # noqa: E402
-from loop import is_claim, is_commit  # noqa: E402
+from loop import Host, is_claim, is_commit  # noqa: E402
 from places import Places, Trouble, must_be_safe, name_of_user, person, person_here, trusted_text  # noqa: E402
 from reports import log_text  # noqa: E402
 from repository import GitFailed, Repository  # noqa: E402
@@ -242,6 +245,15 @@ class SettingsTests(unittest.TestCase):
                 roles_in(text)
 
 
+class CommandTests(unittest.TestCase):
+    def test_a_sqlite_that_reads_no_strict_table_is_refused(self):
+        for version in ((3, 36, 0), (3, 9, 2)):
+            with mock.patch.object(sqlite3, "sqlite_version_info", version), self.assertRaisesRegex(Trouble, "3.37"):
+                must_read_tables()
+        with mock.patch.object(sqlite3, "sqlite_version_info", (3, 37, 0)):
+            must_read_tables()
+
+
 class JournalTests(InFolder):
     def test_a_step_is_written_whole_or_not_at_all(self):
         path = self.room / "journal.db"
@@ -341,6 +353,11 @@ class CheckRunnerTests(InFolder):
             self.assertEqual(found[0], state)
             self.assertIn(said, found[1])
 
+    def test_no_signal_is_ignored_within(self):
+        for number in (signal.SIGTERM, signal.SIGINT, signal.SIGHUP):
+            self.addCleanup(signal.signal, number, signal.signal(number, signal.SIG_IGN))
+            self.assertIn(f"ended by signal {number.value} ", self.verdict_of(f"kill -{number.value} $$")[1])
+
     def test_a_long_output_keeps_its_beginning_and_its_end(self):
         state, _, output = self.verdict_of("echo begins; head -c 3000000 /dev/zero | tr '\\0' x; echo ends")
         self.assertEqual(state, "success")
@@ -434,6 +451,11 @@ class RepositoryTests(InFolder):
     def test_what_the_base_has_already_becomes_a_commit_too(self):
         self.assertNotIn(self.repository.stage(self.order(self.base), 5).commit, (None, self.base))
 
+    def test_branches_have_any_name_that_git_takes(self):
+        for name in ("refs/heads/a\u2028b", "refs/heads/a\u0085b"):
+            self.repository.ask("update-ref", name, self.one)
+            self.assertEqual(self.repository.branches()[name], self.one)
+
     def test_conflicts(self):
         found = self.repository.stage(self.order(self.one, self.clash), 5)
         self.assertEqual((found.commit, found.conflicting, found.why), (None, 2, "both change b"))
@@ -491,6 +513,24 @@ class RepositoryTests(InFolder):
         self.assertIsNone(self.repository.text_at(folder, "bors.toml", 9))
 
 
+class EndingTests(unittest.TestCase):
+    def test_what_ends_with_the_host_has_no_result(self):
+        # It has no checks, so whoever asks for one fails.
+        Host.check(SimpleNamespace(ending=True))
+
+    def test_a_signal_that_is_ignored_stays_so(self):
+        for number in (signal.SIGTERM, signal.SIGINT, signal.SIGHUP):
+            self.addCleanup(signal.signal, number, signal.getsignal(number))
+        found = []
+        # It has nothing else, so it fails right behind.
+        host = SimpleNamespace(must_belong_together=lambda: found.append(signal.getsignal(signal.SIGHUP)), end=lambda *_: None)
+        for was in (signal.SIG_IGN, signal.SIG_DFL):
+            signal.signal(signal.SIGHUP, was)
+            with self.assertRaises(AttributeError):
+                Host.run(host)
+        self.assertEqual(found, [signal.SIG_IGN, host.end])
+
+
 class WordsTests(unittest.TestCase):
     def test_what_is_a_change(self):
         for branch, due in (
@@ -499,6 +539,16 @@ class WordsTests(unittest.TestCase):
             ("refs/heads/change/7\n", 0),
         ):
             self.assertEqual(hook.change_in(branch), due, branch)
+
+    def test_what_git_tells_of_a_push(self):
+        old, new = "0" * 40, "a" * 40
+        for branch, due in (
+            (b"refs/heads/change/7", "refs/heads/change/7"), ("refs/heads/a\u2028b".encode(), "refs/heads/a\u2028b"),
+            (b"refs/heads/\xff", "refs/heads/\ufffd"),
+        ):
+            line = f"{old} {new} ".encode() + branch + b"\n"
+            self.assertEqual(hook.updates_in(line + line), [(old, new, due)] * 2)
+        self.assertEqual(hook.updates_in(b""), [])
 
     def test_what_is_a_claim(self):
         self.assertTrue(is_claim([7, "a" * 40]))
@@ -512,6 +562,9 @@ class WordsTests(unittest.TestCase):
         told = words.quoted("eve", "gate: done\noutput: 1-0-x\r\x1b[2J\u2028x")
         self.assertEqual(told.split("\n"), ["eve wrote:", "> gate: done", "> output: 1-0-x", "> ?[2J", "> x"])
         self.assertEqual(log_text([(0, told)]).count("\n    output"), 0)
+
+    def test_a_reason_without_words_is_told_by_its_name(self):
+        self.assertEqual(words.notice({"why": "Eclipse"}), "The approval or the try has ended (Eclipse): it says no more.")
 
     def test_denials(self):
         for reply, due in (
