@@ -56,7 +56,7 @@ def tell_of(updates: List[Update], places: Places) -> None:
 
 
 def updates_in(given: bytes) -> List[Update]:
-    """The updates that git tells, one on each line. A name of a branch may have any character but a few, also one that ends lines elsewhere."""
+    """The updates that git tells, one on each line. A name of a branch may have characters that end lines elsewhere."""
     lines = given.decode(errors="replace").split("\n")
     return [tuple(line.split(" ", 2)) for line in lines if line]
 
