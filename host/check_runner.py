@@ -1,7 +1,8 @@
-"""Runs one check, as a process of its own beside the host: SECONDS OUTPUT VERDICT COMMAND, in the folder of the worktree.
+"""Runs one check, as a process of its own beside the host: SECONDS OUTPUT WORD.., in the folder of the clone.
 
 It leads a process group with the command and all that it starts. Its input is a pipe from the host. When the pipe ends, the host has
-died, and the group is killed. In the end the verdict is written down, and whatever is left of the group is killed, with this process.
+died, and the group is killed. In the end the verdict goes to the host by another pipe, which the command doesn't have, and whatever is
+left of the group is killed, with this process.
 """
 import json
 import os
@@ -10,6 +11,7 @@ import signal
 import subprocess
 import sys
 import time
+from typing import List, Tuple
 
 # Of a longer output the beginning and the end are kept.
 MOST_AT_FRONT = 65536
@@ -44,10 +46,10 @@ class Output:
         self.file.close()
 
 
-def run(seconds: float, output: Output, command: str) -> tuple:
+def run(seconds: float, output: Output, words: List[str]) -> Tuple[str, str]:
     """Runs the command to its end, and gives the state of its status and how it ended."""
     start = time.monotonic()
-    child = subprocess.Popen(["/bin/sh", "-c", command], stdin=subprocess.DEVNULL, stdout=subprocess.PIPE, stderr=subprocess.STDOUT)
+    child = subprocess.Popen(words, stdin=subprocess.DEVNULL, stdout=subprocess.PIPE, stderr=subprocess.STDOUT)
     pipe = child.stdout.fileno()
     os.set_blocking(pipe, False)
     watched = [pipe, sys.stdin.fileno()]
@@ -82,19 +84,17 @@ def read(pipe: int, output: Output) -> bool:
 
 
 def main() -> None:
-    seconds, path, verdict, command = sys.argv[1:]
+    seconds, path, *words = sys.argv[1:]
     # A check begins with none of these ignored, however the host was started.
     for number in (signal.SIGTERM, signal.SIGINT, signal.SIGHUP):
         signal.signal(number, signal.SIG_DFL)
     output = Output(path)
     try:
-        state, said = run(float(seconds), output, command)
+        state, said = run(float(seconds), output, words)
     except OSError as fault:
         state, said = "error", f"it couldn't be run: {fault}"
     output.close(said)
-    with open(f"{verdict}.part", "w", encoding="utf-8") as file:
-        json.dump({"state": state, "said": said}, file)
-    os.rename(f"{verdict}.part", verdict)
+    print(json.dumps({"state": state, "said": said}), flush=True)
     os.killpg(0, signal.SIGKILL)
 
 

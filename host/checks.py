@@ -1,4 +1,8 @@
-"""The checks: commands that are run in a worktree of a staged commit, one after the other, and those of two branches side by side."""
+"""The checks: commands that are run in a clone of a staged commit, one after the other, and those of two branches side by side.
+
+The clone is made for the commit and thrown away after. It has no branches and no way into the guarded repository.
+"""
+import errno
 import json
 import os
 import re
@@ -13,15 +17,17 @@ from dataclasses import dataclass, field
 from pathlib import Path
 from typing import Callable, Dict, List, Optional
 
+from git import GitFailed, clean_environment
 from journal import Test
-from places import Places, clean_environment
-from repository import GitFailed, Repository
+from places import Places, Trouble
+from repository import Repository
+from sandbox import Sandbox, sandbox_of, words_before
 from settings import Settings
 
 RUNNER = Path(__file__).resolve().with_name("check_runner.py")
 # The outputs of so many checks are kept.
 MOST_OUTPUTS = 500
-SECONDS_FOR_WORKTREE = 600
+SECONDS_FOR_CLONE = 600
 RETRY_SECONDS = 5
 
 
@@ -38,17 +44,24 @@ class Result:
 
 @dataclass
 class Running:
-    """A commit that is tested: its worktree, and the check that runs there, if one does."""
+    """A commit that is tested: the folder of its clone, and the check that runs there, if one does."""
 
     test: Test
-    worktree: Path
+    folder: Path
     name: str = ""
     output: str = ""
     process: Optional[subprocess.Popen] = field(default=None)
+    # Why the commit can't be checked out, if it can't.
+    why_not: Optional[str] = None
 
     @property
-    def verdict(self) -> Path:
-        return self.worktree.with_suffix(".verdict")
+    def clone(self) -> Path:
+        return self.folder / "clone"
+
+    @property
+    def scratch(self) -> Path:
+        """What is /tmp in the sandbox."""
+        return self.folder / "tmp"
 
 
 class Checks:
@@ -63,23 +76,27 @@ class Checks:
         self.next_start = 0.0
 
     def clear(self) -> None:
-        """Removes the worktrees that an earlier host has left. What ran there ends by itself."""
-        remove_tree(self.places.worktrees)
-        self.places.worktrees.mkdir(mode=0o700, exist_ok=True)
-        self.repository.forget_worktrees(self.places.worktrees)
+        """Removes the clones that an earlier host has left. What ran there ends by itself."""
+        remove_tree(self.places.clones)
+        # So they were called by the first version.
+        remove_tree(self.places.records / "worktrees")
+        self.places.clones.mkdir(mode=0o700, exist_ok=True)
+
+    def sandbox_of(self, settings: Settings) -> Sandbox:
+        return sandbox_of(settings)
 
     def ended(self, wanted: List[Test]) -> List[Result]:
         """The checks that have ended since the last look. What is tested and isn't wanted any more is stopped."""
         for branch in list(self.running):
             if self.running[branch].test not in wanted:
                 self.stop(branch)
-        results = [self.result_of(running) for running in self.running.values() if running.process]
+        results = [self.result_of(running) for running in self.running.values() if running.name]
         return [result for result in results if result]
 
     def begin(self, test: Test, settings: Settings, done: Dict[str, str]) -> None:
         """Starts the next check of a commit, if none runs and one is left."""
         running = self.running.get(test.branch)
-        if running and running.process or time.monotonic() < self.next_start:
+        if (running and running.name) or time.monotonic() < self.next_start:
             return
         name = next((name for name in settings.checks if name not in done), None)
         if name is None:
@@ -87,15 +104,19 @@ class Checks:
             return
         try:
             self.start(running or self.check_out(test), name, settings)
-        except (GitFailed, OSError) as fault:
+        except (GitFailed, OSError, Trouble) as fault:
             self.complain(f"the check {name} of batch {test.batch} can't be started: {fault}")
             self.stop(test.branch)
             self.next_start = time.monotonic() + RETRY_SECONDS
 
     def check_out(self, test: Test) -> Running:
-        worktree = self.places.worktrees / f"{test.branch}-{secrets.token_hex(4)}"
-        running = self.running[test.branch] = Running(test, worktree)
-        self.repository.add_worktree(worktree, test.commit, SECONDS_FOR_WORKTREE)
+        """Makes the clone of a commit. If git can't check it out, its checks fail at once, unless it is the disk that is full."""
+        running = self.running[test.branch] = Running(test, self.places.clones / f"{test.branch}-{secrets.token_hex(4)}")
+        for folder in (running.folder, running.scratch):
+            folder.mkdir(mode=0o700)
+        running.why_not = self.repository.check_out(test.commit, running.clone, SECONDS_FOR_CLONE)
+        if running.why_not and os.strerror(errno.ENOSPC) in running.why_not:
+            raise GitFailed(running.why_not)
         return running
 
     def start(self, running: Running, name: str, settings: Settings) -> None:
@@ -103,41 +124,41 @@ class Checks:
         place = list(settings.checks).index(name)
         running.name = name
         running.output = f"{running.test.batch}-{place}-{re.sub(r'[^A-Za-z0-9._-]', '_', name)[:80]}"
-        environment = {**clean_environment(), "GATE_CHECK": name, "GATE_COMMIT": running.test.commit, "GATE_BRANCH": running.test.branch}
-        command = [
-            sys.executable, str(RUNNER), f"{settings.check_seconds:g}", str(self.places.outputs / running.output),
-            str(running.verdict), settings.checks[name],
-        ]
+        if running.why_not:
+            (self.places.outputs / running.output).write_text(f"{running.why_not}\n", encoding="utf-8")
+            return
+        is_within = sandbox_of(settings).is_on
+        before = words_before(self.places, settings, running.clone, running.scratch) if is_within else []
+        command = [sys.executable, str(RUNNER), f"{settings.check_seconds:g}", str(self.places.outputs / running.output)]
         running.process = subprocess.Popen(
-            command, cwd=running.worktree, env=environment, stdin=subprocess.PIPE, stdout=subprocess.DEVNULL, start_new_session=True,
+            [*command, *before, "/bin/sh", "-c", settings.checks[name]], cwd=running.clone, env=environment_of(running),
+            stdin=subprocess.PIPE, stdout=subprocess.PIPE, start_new_session=True,
         )
 
     def result_of(self, running: Running) -> Optional[Result]:
         """How the check has ended, if it has."""
-        if not has_ended(running.process):
+        name, running.name = running.name, ""
+        if running.why_not:
+            return Result(running.test, name, "error", f"the commit can't be checked out: {running.why_not}", running.output)
+        process = running.process
+        if process is None or not has_ended(process):
+            running.name = name
             return None
-        end_group(running.process)
         running.process = None
         try:
-            verdict = json.loads(running.verdict.read_text(encoding="utf-8"))
-            running.verdict.unlink()
-        except (OSError, ValueError):
+            verdict = json.loads(end_group(process))
+        except ValueError:
             verdict = {"state": "error", "said": "it was killed"}
-        return Result(running.test, running.name, verdict["state"], verdict["said"], running.output)
+        return Result(running.test, name, verdict["state"], verdict["said"], running.output)
 
     def stop(self, branch: str) -> None:
-        """Ends what runs for a branch, and removes its worktree."""
+        """Ends what runs for a branch, and removes its clone."""
         running = self.running.pop(branch, None)
         if not running:
             return
         if running.process:
             end_group(running.process)
-        remove_tree(running.worktree)
-        running.verdict.unlink(missing_ok=True)
-        try:
-            self.repository.forget_worktrees(self.places.worktrees)
-        except GitFailed as fault:
-            self.complain(str(fault))
+        remove_tree(running.folder)
 
     def close(self) -> None:
         for branch in list(self.running):
@@ -162,9 +183,22 @@ def has_ended(process: subprocess.Popen) -> bool:
     return os.waitid(os.P_PID, process.pid, os.WEXITED | os.WNOHANG | os.WNOWAIT) is not None
 
 
-def end_group(process: subprocess.Popen) -> None:
-    """Kills a process with its group, and takes it off the system."""
+def end_group(process: subprocess.Popen) -> bytes:
+    """Kills a process with its group, and takes it off the system. Gives what it has written, which is short."""
     with suppress(ProcessLookupError):
         os.killpg(process.pid, signal.SIGKILL)
     process.wait()
+    if process.stdin is None or process.stdout is None:
+        return b""
     process.stdin.close()
+    os.set_blocking(process.stdout.fileno(), False)
+    with process.stdout:
+        return process.stdout.read() or b""
+
+
+def environment_of(running: Running) -> Dict[str, str]:
+    """What a check is told. Git in it sees no object in the place of another."""
+    return {
+        **clean_environment(), "GIT_NO_REPLACE_OBJECTS": "1", "GATE_CHECK": running.name, "GATE_COMMIT": running.test.commit,
+        "GATE_BRANCH": running.test.branch,
+    }

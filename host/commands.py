@@ -2,25 +2,25 @@
 import argparse
 import os
 import re
-import shlex
 import sqlite3
 import sys
-import tempfile
 from pathlib import Path
 from typing import List, Optional
 
-import hook
-from loop import MOST_IN_COMMENT, MOST_IN_SETTINGS, Host, complain
-from places import Places, Trouble, asked_of_git, find_places, must_be_safe, name_of_user, person, person_here
-from repository import GitFailed, Repository
-from settings import FIRST_ROLES, FIRST_SETTINGS, Settings, read_settings, roles_in, settings_in
+import ssh_command
+from doctor import checks_of
+from git import GitFailed
+from hook import before_push
+from loop import COMMAND_LINE, MOST_IN_COMMENT, Host, complain
+from places import Places, Trouble, asked_of_git, find_places, must_be_safe, name_of_user, person_here, pointed_to
+from settings import read_settings
+from setting_up import PROGRAM, must_be_own, set_up
 from spool import leave
 from words import plain
 
-SCRIPT = Path(__file__).resolve().with_name("gate-host")
-PROGRAM = SCRIPT.parent.parent / "crates/gate_bot/out/gate_bot"
-MARK = "# Made by gate-host init."
 OUTPUT = re.compile(r"    output: ([0-9]+-[0-9]+-[A-Za-z0-9._-]+)")
+# A shorter beginning of the name of a commit says too little.
+SHORTEST_NAME = 7
 
 EXPLAINED = """\
 Guards the main branch of a bare git repository on this machine: nothing lands on it that wasn't approved and tested as it lands.
@@ -47,19 +47,35 @@ def arguments_of(words: List[str]) -> argparse.Namespace:
 
 def add_jobs_of_owner(jobs) -> None:
     job = jobs.add_parser("init", help="set a bare repository up: settings, roles, hook", description=(
-        "Makes the folder gate in a bare repository that is yours, and its hook. Settings and roles that are there stay as they are. If "
-        "the main branch has no bors.toml, a commit adds one that names the checks."))
+        "Makes the folder gate in a bare repository that is yours, and its hook. If they are there, it adds the checks and people that are "
+        "named, and leaves the rest as it is. If the main branch has no bors.toml, a commit adds one that names the checks."))
     job.add_argument("repository", metavar="REPOSITORY")
-    job.add_argument("--program", default=str(PROGRAM), help="the built program of the bot (usually %(default)s)")
+    job.add_argument("--program", help=f"the built program of the bot (usually {PROGRAM})")
     job.add_argument("--check", action="append", default=[], metavar="NAME=COMMAND", help="a check; may be given several times")
     job.add_argument("--reviewer", action="append", default=[], metavar="NAME", help="a reviewer; without any, you are the one")
     job.add_argument("--member", action="append", default=[], metavar="NAME", help="who may have changes tried")
     job.add_argument("--may-push", action="append", default=[], metavar="NAME", help="who may push to the main branch past the queue")
+    job.add_argument("--main", metavar="BRANCH", help="the branch to guard (usually that of HEAD)")
+    job.add_argument("--staging", metavar="BRANCH", help="where the host puts what is tested for landings (usually staging)")
+    job.add_argument("--trying", metavar="BRANCH", help="where the host puts what is tested for tries (usually trying)")
+    job.add_argument("--take", action="store_true", help="take the branches staging and trying, and give those that are there other names")
 
     job = jobs.add_parser("run", help="guard a repository until a signal ends it", description=(
         "Starts the bot and guards the repository. SIGTERM ends it in order; killed in any other way, it goes on at the next start."))
     job.add_argument("repository", metavar="REPOSITORY")
     job.add_argument("--again", action="store_true", help="hand the whole journal in again: an older copy of the bot's file was put back")
+
+
+    job = jobs.add_parser("doctor", help="say what is right with a repository and its host, and what to do", description=(
+        "Looks at all that the promise of the host rests on: the hook, the branches, what git reads, the records, the sandbox. The status "
+        "is 1 if something isn't right."))
+    job.add_argument("repository", metavar="REPOSITORY")
+    job.add_argument("--accept", metavar="COMMIT", help="a move of the main branch to this commit was right after all")
+
+    job = jobs.add_parser("ssh", help="what sshd runs for a person", description=(
+        "Runs what a person asks for by ssh: git, and what people use of this program. It is the command in authorized_keys."))
+    job.add_argument("person", metavar="PERSON")
+    job.add_argument("repository", nargs="+", metavar="REPOSITORY")
 
 
 def add_jobs_of_people(jobs) -> None:
@@ -73,7 +89,7 @@ def add_jobs_of_people(jobs) -> None:
         "change as you have last fetched it, and else about the change as it is."))
     job.add_argument("change", type=int, metavar="CHANGE")
     job.add_argument("text", metavar="TEXT", help="the comment, as in 'bors r+'; - reads it from standard input")
-    job.add_argument("--head", metavar="COMMIT", help="the commit that you have looked at")
+    job.add_argument("--head", metavar="COMMIT", help="the commit that you have looked at, or the beginning of its name")
     add("queue", "show the queue", "Shows the main branch, the batches that wait or run, and the open changes.")
     job = add("change", "show a change", "Shows a change as the bot has it.")
     job.add_argument("change", type=int, metavar="CHANGE")
@@ -99,46 +115,14 @@ def main(words: List[str]) -> int:
     return 1
 
 
-# Setting up and running
+# What the owner uses
 
 
 def init(arguments: argparse.Namespace) -> int:
     os.umask(0o022)
-    repository = Path(arguments.repository).resolve()
     must_read_tables()
-    must_be_bare(repository)
-    places = Places(repository)
-    settings, roles = first_settings(arguments, repository), first_roles(arguments)
-    make_folders(places)
-    for path, text in ((places.settings, settings), (places.roles, roles)):
-        if not path.exists():
-            path.write_text(text, encoding="utf-8")
-    must_be_safe(places)
-    write_hook(repository)
-    kept = read_settings(places.settings, os.geteuid())
-    print(f"{repository} is set up. Its checks are: {', '.join(kept.checks) or 'none yet; write them down in ' + str(places.settings)}.")
-    add_settings_of_bot(Repository(repository, kept.main), kept)
-    print(f"To begin: {shlex.quote(str(SCRIPT))} run {shlex.quote(str(repository))}")
+    set_up(Path(arguments.repository).resolve(), arguments)
     return 0
-
-
-def add_settings_of_bot(repository: Repository, settings: Settings) -> None:
-    """Adds bors.toml to the main branch, unless it has one: from now on nothing gets there without."""
-    commit = repository.branches().get(repository.main)
-    if commit and repository.text_at(commit, "bors.toml", MOST_IN_SETTINGS) is not None:
-        print(f"The branch {settings.main} has its bors.toml already.")
-    elif not settings.checks:
-        print(f"The branch {settings.main} has no bors.toml. With a check, init again adds it.")
-    else:
-        text = f"# Each of these has to succeed before something lands.\nstatus = [{', '.join(quoted(name) for name in settings.checks)}]\n"
-        with tempfile.TemporaryDirectory() as room:
-            repository.add_to_main("bors.toml", text, Path(room))
-        print(f"A commit adds bors.toml, which names them, to the branch {settings.main}.")
-
-
-def quoted(name: str) -> str:
-    """A name of a check as a text of TOML."""
-    return '"' + name.replace("\\", "\\\\").replace('"', '\\"') + '"'
 
 
 def must_read_tables() -> None:
@@ -147,70 +131,12 @@ def must_read_tables() -> None:
         raise Trouble(f"SQLite 3.37 or later is needed, and this Python has {sqlite3.sqlite_version}")
 
 
-def must_be_bare(repository: Path) -> None:
-    if not repository.is_dir() or asked_of_git(repository, "rev-parse", "--is-bare-repository") != "true":
-        raise Trouble(f"{repository} is no bare repository of git")
-    if repository.stat().st_uid != os.geteuid():
-        raise Trouble(f"{repository} isn't yours; the host runs as the owner of the repository")
-    if asked_of_git(repository, "rev-parse", "--show-object-format") != "sha1":
-        raise Trouble(f"{repository} has names of commits that the bot doesn't take; they have to be SHA-1")
-    if name_of_user(os.geteuid()) is None:
-        raise Trouble("your user has no name that the bot takes")
-
-
-def first_settings(arguments: argparse.Namespace, repository: Path) -> str:
-    checks = [check.partition("=") for check in arguments.check]
-    for name, equals, command in checks:
-        if not name.strip() or not equals or not command.strip() or "\n" in name + command:
-            raise Trouble(f"--check takes NAME=COMMAND on one line, and not {name}{equals}{command}")
-    branch = asked_of_git(repository, "symbolic-ref", "--short", "HEAD") or "main"
-    text = FIRST_SETTINGS.format(
-        main=branch, program=Path(arguments.program).resolve(), may_push=" ".join(arguments.may_push),
-        checks="".join(f"{name.strip()} = {command.strip()}\n" for name, _, command in checks),
-    )
-    settings_in(text)
-    return text
-
-
-def first_roles(arguments: argparse.Namespace) -> str:
-    reviewers = arguments.reviewer or [name_of_user(os.geteuid())]
-    lines = [f"{name} reviewer\n" for name in reviewers] + [f"{name} member\n" for name in arguments.member]
-    text = FIRST_ROLES.format(lines="".join(lines))
-    roles_in(text)
-    return text
-
-
-def make_folders(places: Places) -> None:
-    """Makes the folders. In the spool everybody may leave a file, and nobody but the owner sees which are there."""
-    modes = [(places.folder, 0o755), (places.records, 0o700), (places.reports, 0o755), (places.outputs, 0o755), (places.spool, 0o1733)]
-    for folder, mode in modes:
-        folder.mkdir(exist_ok=True)
-        folder.chmod(mode)
-    places.worktrees.mkdir(exist_ok=True)
-
-
-def write_hook(repository: Path) -> None:
-    """Writes the hook, which git runs in the repository. Another one that is there isn't replaced."""
-    path = repository / "hooks/pre-receive"
-    command = f"{shlex.quote(sys.executable)} {shlex.quote(str(SCRIPT))} hook --repository ."
-    found = path.read_text(encoding="utf-8", errors="replace") if path.exists() else MARK
-    if command in found:
-        return
-    if MARK not in found:
-        raise Trouble(f"{path} is there already; have it run this, with its input and its status, and init again: {command}")
-    path.parent.mkdir(exist_ok=True)
-    part = path.with_name(".pre-receive")
-    part.write_text(f"#!/bin/sh\n{MARK}\nexec {command}\n", encoding="utf-8")
-    part.chmod(0o755)
-    os.replace(part, path)
-
-
 def run(arguments: argparse.Namespace) -> int:
     os.umask(0o022)
     places = Places(Path(arguments.repository).resolve())
+    must_be_own(places.repository)
     must_be_safe(places)
     must_read_tables()
-    must_be_bare(places.repository)
     if os.geteuid() == 0:
         complain("this runs as root, and so does each check; better let a user of its own own the repository")
     host = Host(places, arguments.again)
@@ -221,8 +147,29 @@ def run(arguments: argparse.Namespace) -> int:
     return 0
 
 
-def before_push(arguments: argparse.Namespace) -> int:
-    return hook.before_push(find_places(arguments.repository))
+def look_after(arguments: argparse.Namespace) -> int:
+    """Says what is right and what isn't. The status is 1 if something isn't."""
+    places = Places(Path(arguments.repository).resolve())
+    must_be_own(places.repository)
+    must_be_safe(places)
+    if arguments.accept:
+        leave(places, {"kind": "accept", "person": name_of_user(os.geteuid()), "commit": arguments.accept})
+        print(f"the host takes it that the move to {arguments.accept} was right" + ("" if is_running(places) else ", when it runs again"))
+        return 0
+    checked = checks_of(places, is_running(places))
+    for check in checked:
+        print(f"{'right' if check.is_right else 'WRONG'}: {plain(check.said)}")
+    return 0 if all(check.is_right for check in checked) else 1
+
+
+def serve_by_ssh(arguments: argparse.Namespace) -> int:
+    # They count as they are written: a repository may be asked for by the name of a link to it.
+    repositories = [Path(it) for it in arguments.repository]
+    return ssh_command.serve(arguments.person, repositories, os.environ.get("SSH_ORIGINAL_COMMAND", ""))
+
+
+def look_at_push(arguments: argparse.Namespace) -> int:
+    return before_push(find_places(arguments.repository))
 
 
 # What people use
@@ -236,15 +183,31 @@ def say(arguments: argparse.Namespace) -> int:
     who = person_here(places.owner)
     if who is None:
         raise Trouble("your user has no name that the bot takes")
-    head = asked_of_git(places.repository, "rev-parse", "--verify", "--quiet", f"refs/heads/change/{arguments.change}")
+    head, _ = pointed_to(places.repository, f"refs/heads/change/{arguments.change}")
     if head is None:
         raise Trouble(f"there is no branch change/{arguments.change}")
     seen = arguments.head or head_in_clone(arguments) or head
-    if seen != head:
+    if not is_beginning(seen.lower(), head):
         raise Trouble(f"change/{arguments.change} is at {head} now, and you have looked at {seen}; fetch it, and look again")
-    leave(places.spool, {"kind": "comment", "person": who, "change": arguments.change, "text": text, "head": seen})
-    print(f"said by {who} of change {arguments.change} at {seen}; gate-host log {arguments.change} shows the answer")
+    leave(places, {"kind": "comment", "person": who, "change": arguments.change, "text": text, "head": head})
+    print(f"said by {who} of change {arguments.change} at {head}; gate-host log {arguments.change} shows the answer")
+    if not any(COMMAND_LINE.match(line) for line in text.split("\n")):
+        complain("this has no command; a line that begins with bors is one, as in 'bors r+'")
+    if not is_running(places):
+        complain(f"no host runs at present, so this waits; the owner starts it by gate-host run {places.repository}")
+        tell_if_not_built(places)
     return 0
+
+
+def is_beginning(seen: str, head: str) -> bool:
+    """Whether a commit was named by its name, or by the beginning of it."""
+    return len(seen) >= SHORTEST_NAME and head.startswith(seen)
+
+
+def tell_if_not_built(places: Places) -> None:
+    program = read_settings(places.settings, places.owner).program
+    if not os.access(program, os.X_OK):
+        complain(f"nor can the host start: there is no program of the bot at {program}")
 
 
 def head_in_clone(arguments: argparse.Namespace) -> Optional[str]:
@@ -309,5 +272,6 @@ def plain_lines(text: str) -> str:
 
 
 JOBS = {
-    "init": init, "run": run, "say": say, "queue": show_queue, "change": show_change, "log": show_log, "hook": before_push,
+    "init": init, "run": run, "doctor": look_after, "say": say, "queue": show_queue, "change": show_change, "log": show_log,
+    "hook": look_at_push, "ssh": serve_by_ssh,
 }

@@ -4,20 +4,27 @@ It runs as whoever pushes. The host believes a note only for who left it, and lo
 claims at most to have pushed what somebody else pushed.
 """
 import re
+import shlex
 import sys
-from typing import List, Tuple
+from pathlib import Path
+from typing import Iterator, List, Tuple
 
-from places import Places, Trouble, person_here
-from settings import read_settings
+from places import Places, Trouble, person_here, pointed_to
+from settings import Settings, read_settings
 from spool import leave
 
+SCRIPT = Path(__file__).resolve().with_name("gate-host")
 CHANGE = re.compile(r"refs/heads/change/([1-9][0-9]{0,9})")
 LAST_CHANGE = 4294967295
 # A note may not be too long.
 MOST_IN_NOTE = 300
-# The branches on which the host stages.
-OF_HOST = ("refs/heads/staging", "refs/heads/trying")
+BRANCHES = "refs/heads/"
 Update = Tuple[str, str, str]
+
+
+def hook_command() -> str:
+    """By what a hook is known to run this."""
+    return f"{shlex.quote(str(SCRIPT))} hook"
 
 
 def change_in(branch: str) -> int:
@@ -36,23 +43,45 @@ def complaints(updates: List[Update], places: Places) -> List[str]:
     pusher = person_here(places.owner)
     if pusher is None:
         return ["your user has no name that the bot takes"]
-    found = []
-    for before, _, branch in updates:
-        # The first push of a main branch makes it, and there is no queue yet.
-        if branch == f"refs/heads/{settings.main}" and not is_nothing(before) and pusher not in settings.may_push:
-            found.append(f"{settings.main} moves by the queue alone. Push to a branch change/NUMBER, and have that approved")
-        if branch in OF_HOST:
-            found.append(f"{branch} is moved by the host alone")
-        if branch.startswith("refs/heads/change/") and not change_in(branch):
-            found.append(f"{branch} is no change: behind change/ there has to be a number from 1 to {LAST_CHANGE}")
-    return found
+    return [why for update in updates for why in complaints_of(update, pusher, places, settings)]
+
+
+def complaints_of(update: Update, pusher: str, places: Places, settings: Settings) -> Iterator[str]:
+    """Why one update is refused, if it is."""
+    before, after, branch = update
+    # A push to another name of a branch moves that branch.
+    _, target = pointed_to(places.repository, branch)
+    if target != branch:
+        yield f"{branch} is another name of {target}, and a push to it would move that"
+    # The first push of a main branch makes it, and there is no queue yet.
+    if branch == f"{BRANCHES}{settings.main}" and not is_nothing(before) and pusher not in settings.may_push:
+        yield f"{settings.main} moves by the queue alone. Push to a branch change/NUMBER, and have that approved"
+    for name in (settings.staging, settings.trying):
+        if branch == BRANCHES + name:
+            yield f"{branch} is moved by the host alone"
+    if branch.startswith("refs/gate/"):
+        yield f"{branch} has a name that is the host's"
+    # What else shouldn't be there may be taken away.
+    if is_nothing(after):
+        return
+    for name in (settings.main, settings.staging, settings.trying):
+        if branch.startswith(f"{BRANCHES}{name}/") or f"{BRANCHES}{name}".startswith(f"{branch}/"):
+            yield f"{branch} would be in the way of the branch {name}"
+    if branch == f"{BRANCHES}change" or branch.startswith(f"{BRANCHES}change/") and not change_in(branch):
+        yield f"{branch} is no change: behind change/ there has to be a number from 1 to {LAST_CHANGE}"
+    if branch.startswith("refs/replace/"):
+        yield f"{branch} would have git show another object than the one that is named"
 
 
 def tell_of(updates: List[Update], places: Places) -> None:
-    """Leaves notes of the heads that are pushed. One without heads has the host look at the branches."""
+    """Leaves notes of the heads that are pushed, and of moves of the main branch. A note without any has the
+    host look at the branches."""
+    person = person_here(places.owner)
     heads = [[change_in(branch), after] for _, after, branch in updates if change_in(branch) and not is_nothing(after)]
+    main = BRANCHES + read_settings(places.settings, places.owner).main
+    moves = [[before, after] for before, after, branch in updates if branch == main]
     for start in range(0, max(1, len(heads)), MOST_IN_NOTE):
-        leave(places.spool, {"kind": "push", "person": person_here(places.owner), "heads": heads[start:start + MOST_IN_NOTE]})
+        leave(places, {"kind": "push", "person": person, "heads": heads[start:start + MOST_IN_NOTE], "moves": moves})
 
 
 def updates_in(given: bytes) -> List[Update]:

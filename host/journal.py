@@ -8,11 +8,11 @@ import sqlite3
 from contextlib import contextmanager
 from dataclasses import dataclass
 from pathlib import Path
-from typing import Dict, Iterator, List, Optional
+from typing import Dict, Iterator, List, Optional, Tuple
 
 from places import Trouble
 
-VERSION = 1
+VERSION = 2
 # A line that is handed in has at most so many bytes.
 MOST_IN_LINE = 65536
 
@@ -34,6 +34,15 @@ CREATE TABLE results (batch INTEGER NOT NULL, name TEXT NOT NULL, state TEXT NOT
 CREATE TABLE told (number INTEGER PRIMARY KEY, change INTEGER NOT NULL, at INTEGER NOT NULL, text TEXT NOT NULL);
 CREATE INDEX of_change ON told (change);
 CREATE TABLE facts (name TEXT PRIMARY KEY, value TEXT NOT NULL);
+"""
+# What came with version 2: the commits that the host made for batches; who said to have moved the main branch; and the moves of it that
+# the host didn't make, with who made them: nobody who may, if that is empty, and not looked into yet, if there is none.
+TABLES_OF_2 = """
+CREATE TABLE made (target TEXT PRIMARY KEY) WITHOUT ROWID;
+CREATE TABLE said_moves (before TEXT NOT NULL, target TEXT NOT NULL, person TEXT NOT NULL, PRIMARY KEY (before, target, person));
+CREATE TABLE moves (number INTEGER PRIMARY KEY, at INTEGER NOT NULL, before TEXT NOT NULL, target TEXT NOT NULL, person TEXT);
+CREATE INDEX of_target ON said_moves (target);
+CREATE INDEX strays ON moves (number) WHERE person IS NULL OR person = '';
 """
 
 
@@ -69,6 +78,16 @@ class Test:
     commit: str
 
 
+@dataclass(frozen=True)
+class Move:
+    """A move of the main branch that the host didn't make."""
+
+    number: int
+    at: int
+    before: str
+    target: str
+
+
 class Journal:
     """All that the host has to know when it is started again."""
 
@@ -78,12 +97,25 @@ class Journal:
         self.database.execute("PRAGMA synchronous = FULL")
         with self.step():
             version = self.one("PRAGMA user_version")
-            if version == 0:
-                for statement in TABLES.split(";\n"):
-                    self.database.execute(statement)
-                self.database.execute(f"PRAGMA user_version = {VERSION}")
-            elif version != VERSION:
+            if version not in (0, 1, VERSION):
                 raise Trouble(f"{path} is a journal of version {version}, and not {VERSION}")
+            if version == 0:
+                self.make(TABLES)
+            if version < VERSION:
+                self.make(TABLES_OF_2)
+                self.note_what_was_made()
+                self.database.execute(f"PRAGMA user_version = {VERSION}")
+
+    def make(self, tables: str) -> None:
+        for statement in tables.split(";\n"):
+            self.database.execute(statement)
+
+    def note_what_was_made(self) -> None:
+        """Takes the commits of batches from a journal of version 1."""
+        for line, in self.database.execute("SELECT line FROM deliveries").fetchall():
+            body = json.loads(line)
+            if body["event"] == "staged":
+                self.add_made(body["commit"])
 
     @contextmanager
     def step(self) -> Iterator[None]:
@@ -111,7 +143,8 @@ class Journal:
         number = (self.one("SELECT max(number) FROM deliveries") or 0) + 1
         body = {"id": id or f"{event}-{number}", "event": event, **fields}
         line = json.dumps(body, ensure_ascii=False)
-        assert len(line.encode()) <= MOST_IN_LINE, "a line is too long"
+        if len(line.encode()) > MOST_IN_LINE:
+            raise ValueError("a line is too long")
         self.database.execute("INSERT INTO deliveries VALUES (?, ?, ?, NULL)", (number, body["id"], line))
 
     def without_answer(self) -> Optional[Delivery]:
@@ -122,6 +155,14 @@ class Journal:
         """Each delivery that has an answer, with it, in their order."""
         for number, id, line, answer in self.database.execute("SELECT * FROM deliveries WHERE answer IS NOT NULL ORDER BY number"):
             yield Delivery(number, id, line), answer
+
+    def count_answered(self) -> int:
+        return self.one("SELECT count(*) FROM deliveries WHERE answer IS NOT NULL")
+
+    def last_answered(self, most: int) -> Dict[str, str]:
+        """The answers of the last deliveries that have one, by their identifiers."""
+        query = "SELECT id, answer FROM deliveries WHERE answer IS NOT NULL ORDER BY number DESC LIMIT ?"
+        return dict(self.database.execute(query, (most,)))
 
     def keep_answer(self, delivery: Delivery, answer: str) -> None:
         """Writes an answer down, with its orders. None of these is done yet."""
@@ -193,6 +234,42 @@ class Journal:
         last = "SELECT number FROM pushes WHERE change = ? AND head = ?"
         self.database.execute(f"DELETE FROM pushes WHERE change = ? AND number <= ({last})", (change, change, head))
 
+    # Branches
+
+    def add_made(self, commit: str) -> None:
+        """Notes a commit that the host makes for a batch, before it stands on a branch."""
+        self.database.execute("INSERT OR IGNORE INTO made VALUES (?)", (commit,))
+
+    def has_made(self, commit: str) -> bool:
+        return self.one("SELECT 1 FROM made WHERE target = ?", commit) is not None
+
+    def say_moved(self, before: str, target: str, person: str) -> None:
+        """Keeps who said to push to the main branch."""
+        self.database.execute("INSERT OR IGNORE INTO said_moves VALUES (?, ?, ?)", (before, target, person))
+
+    def said_to_move(self, target: str) -> List[Tuple[str, str]]:
+        """From where, and by whom, the main branch was said to be moved to a commit."""
+        return self.database.execute("SELECT before, person FROM said_moves WHERE target = ?", (target,)).fetchall()
+
+    def add_move(self, at: int, before: str, target: str) -> None:
+        """Notes a move of the main branch that the host didn't make. Who made it is looked into later."""
+        self.database.execute("INSERT INTO moves (at, before, target) VALUES (?, ?, ?)", (at, before, target))
+
+    def unknown_moves(self) -> List[Move]:
+        """The moves that nobody has looked into."""
+        return self.moves_with("person IS NULL")
+
+    def strays(self) -> List[Move]:
+        """The moves that nobody made who may."""
+        return self.moves_with("person = ''")
+
+    def moves_with(self, condition: str) -> List[Move]:
+        query = f"SELECT number, at, before, target FROM moves WHERE {condition} ORDER BY number"
+        return [Move(*row) for row in self.database.execute(query)]
+
+    def set_mover(self, number: int, person: str) -> None:
+        self.database.execute("UPDATE moves SET person = ? WHERE number = ?", (person, number))
+
     # Tests
 
     def tests(self) -> List[Test]:
@@ -216,8 +293,10 @@ class Journal:
     def tell(self, change: int, at: int, text: str) -> None:
         self.database.execute("INSERT INTO told (change, at, text) VALUES (?, ?, ?)", (change, at, text))
 
-    def told(self, change: int) -> List[tuple]:
-        return self.database.execute("SELECT at, text FROM told WHERE change = ? ORDER BY number", (change,)).fetchall()
+    def told(self, change: int, since: int = 0) -> List[tuple]:
+        """What was told of a change after so many, each with its time."""
+        query = "SELECT at, text FROM told WHERE change = ? AND number > ? ORDER BY number"
+        return self.database.execute(query, (change, since)).fetchall()
 
     def told_since(self, number: int) -> List[int]:
         """The changes of which something was told after so many."""

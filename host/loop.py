@@ -7,16 +7,20 @@ import signal
 import sqlite3
 import sys
 import time
-from typing import Callable, Dict, List, Optional, Tuple
+from itertools import count
+from typing import Callable, Container, Dict, List, Optional, Tuple
 
 import words
 from checks import Checks, Result
+from bot_file import has_file, lacks_answers
 from client import Bot, BotEnded
-from hook import LAST_CHANGE, change_in
-from journal import Delivery, Journal, Order, Test
+from git import GitFailed
+from hook import LAST_CHANGE, change_in, hook_command
+from inspection import blocking, findings, must_be_guarded
+from journal import Delivery, Journal, Move, Order, Test
 from places import Places, Trouble, must_be_safe, name_of_user
 from reports import Reports
-from repository import GitFailed, Repository, heads_of, listed
+from repository import Branch, Merged, Repository, heads_of, listed
 from settings import read_roles, read_settings
 from spool import Note, Spool
 
@@ -31,6 +35,9 @@ STARTS = 12
 MOST_IN_COMMENT = 8000
 MOST_IN_SETTINGS = 10000
 COMMAND_LINE = re.compile(r"bors[ :]", re.IGNORECASE)
+SECONDS_TO_TIDY = 86400
+# A clock that goes ahead by more has jumped.
+SECONDS_OF_JUMP = 86400
 
 
 def complain(text: str) -> None:
@@ -48,24 +55,31 @@ class Host:
         self.journal = Journal(places.records / "journal.db")
         self.settings = read_settings(places.settings, self.owner)
         self.roles = read_roles(places.roles, self.owner)
-        self.repository = Repository(places.repository, self.settings.main)
-        self.spool = Spool(places.spool, self.owner, complain)
+        self.repository = Repository(places, self.settings.main, self.settings.staging, self.settings.trying)
+        self.spool = Spool(places, self.owner, complain)
         self.checks = Checks(places, self.repository, complain)
         self.reports = Reports(places, self.journal)
         self.bot: Optional[Bot] = None
+        self.is_all_again = is_all_again
         self.ending = False
         # Whether something was answered since the last report, and when the next look, reading, report and retry is due.
         self.is_report_due = True
-        self.next_look = self.next_tick = self.next_report = self.next_retry = 0.0
+        self.next_look = self.next_tick = self.next_report = self.next_tidy = 0.0
+        self.next_retry: Dict[str, float] = {}
         self.looking_until = 0.0
-        # Complaints that were made of files, so that each is made once.
-        self.made: Dict[str, str] = {}
+        # What isn't as it should be, by what it is about. Each is complained of once, and stands in the report of the queue while it lasts.
+        self.troubles: Dict[str, str] = {}
+        # A reading of the clock that is far ahead of the last one, until the next reading says the same.
+        self.jumped_to: Optional[int] = None
+        # The last good reading, and for how long the system had been running by then.
+        self.clock_seen: Optional[Tuple[int, float]] = None
+        # The heads of changes at the last look.
+        self.heads: Dict[int, str] = {}
+        # In which round a move of the main branch was seen first.
+        self.moves_since: Dict[str, int] = {}
         # How many rounds there were, and in which one a head was first seen of which no note tells who pushed it.
         self.rounds = 0
         self.unclaimed: Dict[Tuple[int, str], int] = {}
-        if is_all_again:
-            with self.journal.step():
-                self.journal.set_fact("bot file", "filling")
 
     # The loop
 
@@ -75,17 +89,45 @@ class Host:
             # What is ignored from the start stays so, as under `nohup`.
             if signal.getsignal(number) is not signal.SIG_IGN:
                 signal.signal(number, self.end)
+        self.look_into_repository()
         self.must_belong_together()
         self.checks.clear()
+        self.tidy()
         (self.places.reports / "process").write_text(f"{os.getpid()}\n", encoding="utf-8")
-        complain(f"guards {self.settings.main} of {self.places.repository}")
+        complain(f"guards {self.settings.main} of {self.places.repository}; checks run {self.checks.sandbox_of(self.settings).said}")
         while not self.ending:
             try:
                 self.round()
+                self.no_trouble("git")
             except GitFailed as fault:
-                complain(f"git can't do what is needed, and is asked again: {fault}")
+                self.trouble("git", f"git can't do what is needed, and is asked again: {fault}")
+                self.report()
                 time.sleep(RETRY_SECONDS)
             time.sleep(PAUSE_SECONDS)
+
+    def tidy(self) -> None:
+        """Tidies the mirror up: at the start, and once a day when nothing waits."""
+        self.next_tidy = time.monotonic() + SECONDS_TO_TIDY
+        changes = self.journal.changes()
+        self.repository.tidy(lambda name: changes.get(change_in(f"refs/heads/{name}"), ("open", ""))[0] == "open")
+
+    def look_into_repository(self) -> None:
+        """Looks at what stands in the repository besides branches. Doesn't start if the main branch isn't guarded."""
+        found = findings(self.places, self.settings, hook_command())
+        must_be_guarded(found)
+        for number, finding in enumerate(found):
+            self.trouble(f"finding {number}", finding.said)
+
+    def trouble(self, about: str, text: str) -> None:
+        """Says that something isn't as it should be, once."""
+        if self.troubles.get(about) != text:
+            complain(text)
+            self.troubles[about] = text
+            self.is_report_due = True
+
+    def no_trouble(self, about: str) -> None:
+        if self.troubles.pop(about, None):
+            self.is_report_due = True
 
     def end(self, *_) -> None:
         self.ending = True
@@ -105,6 +147,7 @@ class Host:
         self.settle()
         notes = self.spool.take()
         self.take_pushes(notes)
+        self.look_into_moves()
         now = time.monotonic()
         # A comment is about what was pushed before it, so the branches are looked at first.
         if notes or now >= self.next_look or now < self.looking_until:
@@ -155,9 +198,12 @@ class Host:
         raise Trouble("the bot gives no answer, however often it is started")
 
     def start_bot(self) -> Bot:
-        """Starts the bot. If it has no records, it gets all deliveries again, and has to give the same answers."""
+        """Starts the bot. If its file lacks answers of the journal, it gets all deliveries again, and has to give the same answers."""
+        is_behind = lacks_answers(self.places, self.journal)
+        if is_behind and self.journal.count_answered():
+            complain(f"{self.places.bot} lacks answers that the journal has, so the bot gets all deliveries again")
         bot = Bot(self.settings.program, self.places.bot)
-        if self.journal.fact("bot file") == "whole":
+        if not is_behind and not self.is_all_again:
             return bot
         try:
             for delivery, answer in self.journal.answered():
@@ -166,20 +212,15 @@ class Host:
         except (BotEnded, Trouble):
             bot.close()
             raise
-        with self.journal.step():
-            self.journal.set_fact("bot file", "whole")
+        self.is_all_again = False
         return bot
 
     def must_belong_together(self) -> None:
-        """The journal and the file of the bot are of one history. A file that is missing is filled anew."""
+        """The journal and the file of the bot are of one history."""
         if not os.access(self.settings.program, os.X_OK):
             raise Trouble(f"there is no program {self.settings.program}; build it, or name another in {self.places.settings}")
-        has_file = self.places.bot.exists() and self.places.bot.stat().st_size > 0
-        if has_file and not self.journal.one("SELECT count(*) FROM deliveries"):
+        if has_file(self.places) and not self.journal.one("SELECT count(*) FROM deliveries"):
             raise Trouble(f"the journal is new, and the bot has records; remove {self.places.bot} and {self.places.bot}-wal")
-        if not has_file:
-            with self.journal.step():
-                self.journal.set_fact("bot file", "filling")
 
     def do(self, order: Order) -> None:
         """Does an order. In one step its report is written down and it is marked as done."""
@@ -194,20 +235,22 @@ class Host:
                 self.journal.mark_done(order)
 
     def stage(self, order: Order) -> None:
-        """Stages a batch. If git can't, the order stays open, and what happens meanwhile is handed in."""
+        """Stages a batch. If git can't, the order stays open, and what happens meanwhile is handed in. So does the other branch."""
         body = order.body
-        if time.monotonic() < self.next_retry:
+        branch = body["branch"]
+        if time.monotonic() < self.next_retry.get(branch, 0.0):
             return
         if self.is_replaced(order):
             with self.journal.step():
                 self.journal.mark_done(order)
             return
         try:
-            merged = self.repository.stage(body, int(self.journal.fact("clock") or 0))
+            merged = self.merge_and_move(body)
         except GitFailed as fault:
-            complain(f"batch {body['batch']} can't be staged yet: {fault}")
-            self.next_retry = time.monotonic() + RETRY_SECONDS
+            self.next_retry[branch] = time.monotonic() + RETRY_SECONDS
+            self.tell_that_it_waits(body, str(fault))
             return
+        self.no_trouble(f"stage {branch}")
         with self.journal.step():
             if merged.commit:
                 self.journal.note("staged", order.report, batch=body["batch"], commit=merged.commit)
@@ -217,6 +260,27 @@ class Host:
                 self.tell(changes, words.conflict(body["batch"], changes, merged.conflicting, merged.why))
             self.journal.mark_done(order)
 
+    def merge_and_move(self, body: dict) -> Merged:
+        """Merges a batch, and moves the branch on which it is tested. What stood there and isn't the host's is kept."""
+        merged = self.repository.merge_batch(body, int(self.journal.fact("clock") or 0))
+        if merged.commit:
+            before = self.repository.branches().get(self.repository.staged_on[body["branch"]])
+            with self.journal.step():
+                self.journal.add_made(merged.commit)
+            is_own = before is None or self.journal.has_made(before)
+            kept = self.repository.stage(body["branch"], merged.commit, before, is_own)
+            if kept:
+                complain(f"the branch {body['branch']} was at a commit that the host didn't make; it is kept as {kept}")
+        return merged
+
+    def tell_that_it_waits(self, body: dict, why: str) -> None:
+        """Tells once why a batch isn't staged, which is no fault of its changes."""
+        text = f"batch {body['batch']} ({listed(heads_of(body))}) can't be staged yet, for a reason of the host: {why}"
+        if f"stage {body['branch']}" not in self.troubles:
+            with self.journal.step():
+                self.tell(heads_of(body), f"B{text[1:]}")
+        self.trouble(f"stage {body['branch']}", text)
+
     def is_replaced(self, order: Order) -> bool:
         """Whether a later order is for the same branch. The batch of the earlier one is over then."""
         return any(
@@ -225,8 +289,12 @@ class Host:
         )
 
     def land(self, order: Order) -> None:
-        """Moves the main branch from exactly the base to exactly the commit, or reports that it doesn't go."""
-        is_on_main = self.repository.land(order.body)
+        """Moves the main branch from exactly the base to exactly the commit, or reports that it doesn't go. If git can't do it, that is
+        no refusal: the order stays open, and holds up everything else."""
+        try:
+            is_on_main = self.repository.land(order.body)
+        except GitFailed as fault:
+            raise GitFailed(f"batch {order.body['batch']} can't be landed yet: {fault}") from fault
         with self.journal.step():
             if is_on_main:
                 self.journal.note("base", order.report, commit=order.body["commit"])
@@ -285,12 +353,25 @@ class Host:
         self.read_files()
         for name, role in self.new_roles():
             self.deliver("role", lambda: self.journal.set_role(name, role), person=name, role=role)
-        branches = self.repository.branches()
+        branches = self.repository.all_branches()
+        self.look_at_names(branches)
         main = branches.get(self.repository.main)
         if main:
-            self.look_at_main(main)
-        heads = {change_in(branch): commit for branch, commit in branches.items() if change_in(branch)}
-        self.look_at_changes(heads)
+            self.look_at_main(main.commit)
+        self.heads = {change_in(name): branch.commit for name, branch in branches.items() if change_in(name)}
+        self.look_at_changes(self.heads)
+
+    def look_at_names(self, branches: Dict[str, Branch]) -> None:
+        """Says if a branch stands in the way of one of the host's, or is another name of one."""
+        own = [self.repository.main, *self.repository.staged_on.values()]
+        in_way = [f"{name} is in the way of {branch}; rename it" for branch in own for name in blocking(branches, branch)]
+        aliases = [f"{name} is another name of {it.of}, and a push to it moves that" for name, it in branches.items() if it.of in own]
+        if self.journal.fact("base") and self.repository.main not in branches:
+            in_way.append(f"the branch {self.repository.main} isn't there any more")
+        if in_way or aliases:
+            self.trouble("names", "; ".join(in_way + aliases))
+        else:
+            self.no_trouble("names")
 
     def read_files(self) -> None:
         """Reads settings and roles again. If one isn't good, what was read before stays."""
@@ -300,12 +381,10 @@ class Host:
     def read_file(self, name: str, read: Callable, before):
         try:
             found = read()
-            self.made.pop(name, None)
+            self.no_trouble(name)
             return found
         except Trouble as fault:
-            if self.made.get(name) != str(fault):
-                complain(f"{fault}; the {name} of before stay")
-                self.made[name] = str(fault)
+            self.trouble(name, f"{fault}; the {name} of before stay")
             return before
 
     def new_roles(self) -> List[Tuple[str, str]]:
@@ -316,13 +395,18 @@ class Host:
 
     def look_at_main(self, main: str) -> None:
         """Hands in the base and then its settings, whenever the main branch has moved."""
-        if main == self.journal.fact("base") == self.journal.fact("settings of"):
+        before = self.journal.fact("base")
+        if main == before == self.journal.fact("settings of"):
             return
+        self.repository.must_have("main", main)
         text = self.repository.text_at(main, "bors.toml", MOST_IN_SETTINGS)
         with self.journal.step():
-            if main != self.journal.fact("base"):
+            if main != before:
                 self.journal.note("base", commit=main)
                 self.journal.set_fact("base", main)
+            if before and main != before:
+                self.journal.add_move(int(time.time()), before, main)
+                self.moves_since[main] = self.rounds
             if text is None:
                 self.journal.set_fact("settings refused", f"there is no bors.toml of at most {MOST_IN_SETTINGS} bytes")
             else:
@@ -330,9 +414,41 @@ class Host:
             self.journal.set_fact("settings of", main)
         self.settle()
 
+    def look_into_moves(self) -> None:
+        """Finds out who moved the main branch beside the host. A hook tells of that before the branch moves, so its note is there in the
+        round after the move was seen."""
+        for move in self.journal.unknown_moves():
+            if self.moves_since.get(move.target) == self.rounds:
+                continue
+            person = self.mover_of(move)
+            with self.journal.step():
+                self.journal.set_mover(move.number, person)
+            self.moves_since.pop(move.target, None)
+        strays = self.journal.strays()
+        if strays:
+            self.trouble("moves", "; ".join(map(words.stray, strays)))
+        else:
+            self.no_trouble("moves")
+
+    def mover_of(self, move: Move) -> str:
+        """Who may push there and said to have moved the branch, by one step or several, or nobody."""
+        may_push = {*self.settings.may_push, name_of_user(self.owner)}
+        seen = {move.target}
+        steps = [(move.target, "")]
+        while steps:
+            target, last = steps.pop()
+            for before, person in self.journal.said_to_move(target):
+                if person in may_push and before == move.before:
+                    return last or person
+                if person in may_push and before not in seen:
+                    seen.add(before)
+                    steps.append((before, last or person))
+        return ""
+
     def look_at_changes(self, heads: Dict[int, str]) -> None:
         """Hands in which changes are new, have moved, or are gone."""
         known = self.journal.changes()
+        self.fetch(known, heads)
         self.unclaimed = {(change, head): since for (change, head), since in self.unclaimed.items() if heads.get(change) == head}
         for change, head in sorted(heads.items()):
             phase, before = known.get(change, ("closed", ""))
@@ -345,6 +461,13 @@ class Host:
         for change, (phase, head) in known.items():
             if phase == "open" and change not in heads:
                 self.deliver("closed", lambda: self.journal.set_change(change, "closed", head), change=change)
+
+    def fetch(self, known: Dict[int, Tuple[str, str]], heads: Dict[int, str]) -> None:
+        """Brings new heads into the mirror, at once. One that can't come is brought when it is needed, or told then."""
+        new = {f"change/{change}": head for change, head in heads.items() if known.get(change, ("", ""))[1] != head}
+        for name, why in self.repository.fetch(new).items():
+            complain(f"the head of {name} can't be read whole: {why}")
+        self.repository.forget(f"change/{change}" for change, (phase, _) in known.items() if phase == "open" and change not in heads)
 
     def open(self, change: int, head: str) -> None:
         """Opens a change for whoever pushed it. A hook tells of that before the branch moves, so its note is there in the next round at
@@ -374,17 +497,22 @@ class Host:
     def take_pushes(self, notes: List[Note]) -> None:
         """Keeps who says to have pushed what."""
         for note in notes:
-            heads = note.body.get("heads")
-            if note.body.get("kind") != "push" or not isinstance(heads, list):
+            heads, moves = note.body.get("heads"), note.body.get("moves", [])
+            if note.body.get("kind") != "push" or not isinstance(heads, list) or not isinstance(moves, list):
                 continue
             self.looking_until = time.monotonic() + SECONDS_OF_LOOKING
             with self.journal.step():
                 if self.journal.take_note(note.name):
                     for change, head in filter(is_claim, heads):
                         self.journal.claim(change, head, note.person)
+                    for before, after in filter(is_move, moves):
+                        self.journal.say_moved(before, after, note.person)
 
     def take_comment(self, note: Note) -> bool:
         """Takes a comment. False if it has to wait for its change, which is opened in the next round."""
+        if note.body.get("kind") == "accept":
+            self.accept(note)
+            return True
         change, text = note.body.get("change"), note.body.get("text")
         is_whole = is_number(change) and isinstance(text, str) and len(text) <= MOST_IN_COMMENT
         if is_whole and self.journal.change(change):
@@ -394,6 +522,13 @@ class Host:
             return False
         complain(f"a note of {note.person} is no comment on a change")
         return True
+
+    def accept(self, note: Note) -> None:
+        """Takes it that a move of the main branch was right after all, as the owner of the repository says."""
+        with self.journal.step():
+            for move in self.journal.strays():
+                if note.person == name_of_user(self.owner) and move.target == note.body.get("commit"):
+                    self.journal.set_mover(move.number, note.person)
 
     def hand_in_comment(self, note: Note, change: int, text: str) -> None:
         """Hands a comment in. It is written down in one step with the mark that its note was taken."""
@@ -409,6 +544,8 @@ class Host:
             if lines and seen not in (None, head):
                 about = seen if is_commit(seen) else "another commit"
                 self.tell([change], f"Not taken: it was about {about}, and the change is at {head} now. Look at that first.")
+            elif lines and self.repository.fetch({f"change/{change}": head}):
+                self.tell([change], f"Not taken: {head} can't be read whole in the repository. Push it again, or push another commit.")
             elif lines:
                 self.journal.note("comment", change=change, person=note.person, text="\n".join(lines))
         self.is_report_due = True
@@ -443,11 +580,29 @@ class Host:
             return
         if self.is_report_due:
             self.report()
-        if self.reports.is_waiting:
+        now = self.reading()
+        if now is not None and self.reports.is_waiting:
             self.look()
-            now = max(int(self.journal.fact("clock") or 0), int(time.time()))
             self.deliver("tick", lambda: self.journal.set_fact("clock", str(now)), now=now)
+        elif time.monotonic() >= self.next_tidy:
+            self.tidy()
         self.next_tick = time.monotonic() + self.settings.tick_seconds
+
+    def reading(self) -> Optional[int]:
+        """What the clock says, or none if it has jumped ahead and not yet stood there for two readings. It never goes back. The time that
+        goes by by itself is no jump, also if nothing was told meanwhile."""
+        last = int(self.journal.fact("clock") or 0)
+        now, running = int(time.time()), time.clock_gettime(time.CLOCK_BOOTTIME)
+        before, at = self.clock_seen or (last or now, running)
+        due = before + running - at
+        if now - due > SECONDS_OF_JUMP and (self.jumped_to is None or not 0 <= now - self.jumped_to <= SECONDS_OF_JUMP):
+            self.jumped_to = now
+            days = int(now - due) // 86400
+            self.trouble("clock", f"the clock is {days} days ahead of what it should be; that counts if the next reading says the same")
+            return None
+        self.jumped_to, self.clock_seen = None, (now, running)
+        self.no_trouble("clock")
+        return max(last, now)
 
     def report(self) -> None:
         """Writes the reports. They tell what is, and nothing rests on them but whether the time is told."""
@@ -467,10 +622,16 @@ class Host:
         opened = sorted(change for change, (phase, _) in changes.items() if phase == "open")
         refused = self.journal.fact("settings refused")
         return [
-            f"open: {listed(opened) if opened else 'no change'}; the next free number is {max(changes, default=0) + 1}",
+            f"open: {listed(opened) if opened else 'no change'}; the next free number is {free_number({*changes, *self.heads})}",
             f"checks: {', '.join(self.settings.checks) or 'none'}",
             *([f"the settings of {self.settings.main} aren't taken: {refused}"] if refused else []),
+            *(f"trouble: {words.plain(text)}" for text in self.troubles.values()),
         ]
+
+
+def free_number(taken: Container[int]) -> int:
+    """The first number that no change has."""
+    return next(number for number in count(1) if number not in taken)
 
 
 def is_number(number) -> bool:
@@ -481,6 +642,11 @@ def is_number(number) -> bool:
 def is_claim(claim) -> bool:
     """Whether this is a number of a change and a head."""
     return isinstance(claim, list) and len(claim) == 2 and is_number(claim[0]) and is_commit(claim[1])
+
+
+def is_move(move) -> bool:
+    """Whether these are two commits."""
+    return isinstance(move, list) and len(move) == 2 and all(map(is_commit, move))
 
 
 def is_commit(text) -> bool:

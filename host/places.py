@@ -2,20 +2,21 @@
 import os
 import pwd
 import re
+import secrets
 import stat
 import subprocess
 from dataclasses import dataclass
 from pathlib import Path
-from typing import Optional
+from typing import Optional, Tuple
+
+from git import ALONE, clean_environment
 
 NAME = re.compile(r"[A-Za-z0-9_.\[\]-]{1,64}")
 # A file of settings or roles is read up to this size.
 MOST_BYTES = 65536
-# Git sets these for its hooks. What the host starts is about the repository that it names, and no other.
-OF_GIT = (
-    "GIT_DIR", "GIT_WORK_TREE", "GIT_INDEX_FILE", "GIT_PREFIX", "GIT_COMMON_DIR", "GIT_NAMESPACE", "GIT_OBJECT_DIRECTORY",
-    "GIT_ALTERNATE_OBJECT_DIRECTORIES", "GIT_QUARANTINE_PATH", "GIT_PUSH_OPTION_COUNT",
-)
+# A reference of git's has a commit or the name of another one, with `ref: ` before it.
+COMMIT = re.compile(r"[0-9a-f]{40}")
+IDENTITY = re.compile(r"[0-9a-f]{32}")
 
 
 class Trouble(Exception):
@@ -41,6 +42,11 @@ class Places:
         return self.folder / "roles"
 
     @property
+    def identity(self) -> Path:
+        """The identifier of the repository, which everybody may read."""
+        return self.folder / "identity"
+
+    @property
     def spool(self) -> Path:
         """Where everybody may leave a note, and nobody but the owner can look."""
         return self.folder / "spool"
@@ -56,12 +62,23 @@ class Places:
 
     @property
     def records(self) -> Path:
-        """What nobody but the owner may read: the journal, the file of the bot, the lock, the worktrees."""
+        """What nobody but the owner may read: the journal, the file of the bot, the lock, the mirror, what is checked."""
         return self.folder / "records"
 
     @property
-    def worktrees(self) -> Path:
-        return self.records / "worktrees"
+    def clones(self) -> Path:
+        """Where commits are checked out to be tested."""
+        return self.records / "clones"
+
+    @property
+    def mirror(self) -> Path:
+        """The host's own copy of the objects."""
+        return self.records / "mirror"
+
+    @property
+    def window(self) -> Path:
+        """Where git sees the guarded repository by the host's settings."""
+        return self.records / "window"
 
     @property
     def bot(self) -> Path:
@@ -71,11 +88,6 @@ class Places:
     @property
     def owner(self) -> int:
         return self.folder.stat().st_uid
-
-
-def clean_environment() -> dict:
-    """The environment without what git tells its hooks about a repository."""
-    return {name: value for name, value in os.environ.items() if name not in OF_GIT}
 
 
 def name_of_user(number: int) -> Optional[str]:
@@ -149,15 +161,74 @@ def must_be_safe(places: Places) -> None:
             raise Trouble(f"others may write {folder}; chmod go-w it")
 
 
+def make_identity(places: Places) -> None:
+    """Gives the repository its identifier, unless it has one. It is there whole or not at all."""
+    part = places.identity.with_name(f".identity-{secrets.token_hex(8)}")
+    try:
+        with open(part, "x", encoding="utf-8") as file:
+            file.write(f"{secrets.token_hex(16)}\n")
+            file.flush()
+            os.fchmod(file.fileno(), 0o644)
+            os.fsync(file.fileno())
+        os.link(part, places.identity)
+    except FileExistsError:
+        pass
+    finally:
+        part.unlink(missing_ok=True)
+
+
+def name_of_repository(places: Places, folder: Optional[int] = None) -> str:
+    """By what a note names its repository: the identifier, and the number of the folder's inode. Everybody can copy the identifier, and
+    nobody can choose the number. A number alone comes again when its folder is gone. `folder` is the repository's folder, if it is open."""
+    if not os.path.lexists(places.identity):
+        raise Trouble(f"{places.identity} isn't there; gate-host init {places.repository} makes it")
+    identity = trusted_text(places.identity, places.owner).strip()
+    if not IDENTITY.fullmatch(identity):
+        raise Trouble(f"{places.identity} has no 32 hexadecimal digits; remove it, and gate-host init {places.repository} makes another")
+    return f"{identity}-{os.stat(places.repository if folder is None else folder).st_ino}"
+
+
 def asked_of_git(folder: Path, *arguments: str) -> Optional[str]:
-    """What git says of a folder, or none if it says no."""
+    """What git says of the folder in which a user stands, or none if it says no. It obeys no settings of the user."""
     # A repository of somebody else is read only, and nothing that it says is run.
     command = ["git", "-c", "safe.directory=*", "-C", str(folder), *arguments]
+    environment = {**clean_environment(), **ALONE}
     try:
-        ran = subprocess.run(command, env=clean_environment(), capture_output=True, timeout=60, check=False)
+        ran = subprocess.run(command, env=environment, stdin=subprocess.DEVNULL, capture_output=True, timeout=60, check=False)
     except (OSError, subprocess.TimeoutExpired) as fault:
         raise Trouble(f"git can't be run: {fault}") from fault
     return ran.stdout.decode(errors="replace").strip() if ran.returncode == 0 else None
+
+
+def pointed_to(repository: Path, name: str) -> Tuple[Optional[str], str]:
+    """The commit of a reference, and the name of the last reference on the way to it, read from the files of git. No git runs, so nothing
+    that stands in the repository is obeyed. An empty repository has a HEAD without a commit."""
+    for _ in range(5):
+        path = repository / name
+        if path.is_symlink() and os.readlink(path).startswith("refs/"):
+            name = os.readlink(path)
+            continue
+        text = text_of_reference(path) or packed(repository, name) or ""
+        if not text.startswith("ref:"):
+            return (text if COMMIT.fullmatch(text) else None), name
+        name = text[len("ref:"):].strip()
+    return None, name
+
+
+def text_of_reference(path: Path) -> Optional[str]:
+    try:
+        return path.read_text(encoding="utf-8", errors="replace").strip()
+    except OSError:
+        return None
+
+
+def packed(repository: Path, name: str) -> Optional[str]:
+    """The commit of a reference that git has put into its file of many."""
+    try:
+        with open(repository / "packed-refs", encoding="utf-8", errors="replace", newline="\n") as lines:
+            return next((line[:40] for line in lines if line[40:].rstrip("\n") == f" {name}"), None)
+    except OSError:
+        return None
 
 
 def find_places(given: Optional[str]) -> Places:
@@ -167,10 +238,11 @@ def find_places(given: Optional[str]) -> Places:
         if not (found / "gate").is_dir():
             raise Trouble(f"{given} has no folder gate; gate-host init {given} makes it")
         return Places(found)
-    here = asked_of_git(Path.cwd(), "rev-parse", "--absolute-git-dir")
-    origin = asked_of_git(Path.cwd(), "config", "remote.origin.url") if here else None
-    for place in filter(None, [here, origin]):
-        path = Path(re.sub(r"^file://", "", place))
-        if path.is_absolute() and (path / "gate").is_dir():
-            return Places(path.resolve())
+    for folder in (Path.cwd(), *Path.cwd().parents):
+        if (folder / "gate").is_dir() and (folder / "HEAD").is_file() and (folder / "objects").is_dir():
+            return Places(folder.resolve())
+    origin = asked_of_git(Path.cwd(), "config", "remote.origin.url")
+    path = Path(re.sub(r"^file://", "", origin or ""))
+    if path.is_absolute() and (path / "gate").is_dir():
+        return Places(path.resolve())
     raise Trouble("this is no repository with a host, nor a clone of one; name it by --repository")

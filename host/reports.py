@@ -4,13 +4,12 @@ The queue and the changes are those of the bot's own file, which docs/formats.md
 is read. The copy is made while the bot has nothing to do, since the host alone gives it work. So it is whole, and of one moment.
 """
 import os
-import shutil
 import sqlite3
 import time
-from contextlib import closing
 from pathlib import Path
-from typing import Dict, List
+from typing import Dict, List, Set
 
+from bot_file import copy_of_records
 from journal import Journal
 from places import Places
 
@@ -82,24 +81,35 @@ class Reports:
         self.places = places
         self.journal = journal
         self.written: Dict[str, str] = {}
+        self.whole_logs: Set[int] = set()
         self.is_waiting = True
 
     def refresh(self, remarks: List[str]) -> None:
         """Writes what has changed."""
-        with closing(self.copy_of_records()) as bot:
+        with copy_of_records(self.places) as bot:
             queue, changes = queue_text(bot), change_texts(bot)
             self.is_waiting = bool(bot.execute("SELECT count(*) FROM batches").fetchone()[0])
-        self.remove_copy()
         self.put("queue", queue + "".join(f"\n{remark}" for remark in remarks) + "\n" * bool(remarks))
         for number, text in changes.items():
             self.put(f"change-{number}", text)
         self.write_logs()
 
     def write_logs(self) -> None:
+        """Writes at the end of each log what was told since. What was written right before a start may not be whole, so the first time a
+        log is written anew."""
         last = self.journal.count_told()
         written = int(self.journal.fact("log written up to") or 0)
         for change in self.journal.told_since(written):
-            write(self.places.reports / f"log-{change}", log_text(self.journal.told(change)))
+            path = self.places.reports / f"log-{change}"
+            is_whole = change in self.whole_logs and path.exists()
+            # If this fails on the way, the log is written anew the next time.
+            self.whole_logs.discard(change)
+            if is_whole:
+                with open(path, "a", encoding="utf-8") as log:
+                    log.write(log_text(self.journal.told(change, written)))
+            else:
+                write(path, log_text(self.journal.told(change)))
+            self.whole_logs.add(change)
         if last > written:
             with self.journal.step():
                 self.journal.set_fact("log written up to", str(last))
@@ -112,18 +122,3 @@ class Reports:
         if not path.exists() or path.read_text(encoding="utf-8") != text:
             write(path, text)
         self.written[name] = text
-
-    @property
-    def copy(self) -> Path:
-        return self.places.records / "copy"
-
-    def copy_of_records(self) -> sqlite3.Connection:
-        self.remove_copy()
-        self.copy.mkdir(mode=0o700)
-        for name in ("bot.db", "bot.db-wal"):
-            if (self.places.records / name).exists():
-                shutil.copyfile(self.places.records / name, self.copy / name)
-        return sqlite3.connect(self.copy / "bot.db")
-
-    def remove_copy(self) -> None:
-        shutil.rmtree(self.copy, ignore_errors=True)

@@ -1,24 +1,22 @@
-"""The repository: where its branches are, what a commit has, merges for the bot, and the move of the main branch."""
-import os
-import signal
-import subprocess
+"""The repository: where its branches are, what a commit has, merges for the bot, and the moves of branches."""
+import fcntl
 from dataclasses import dataclass
 from pathlib import Path
-from typing import Dict, List, Optional, Sequence
+from typing import Callable, Dict, Iterable, List, Mapping, Optional, Sequence
 
-from places import clean_environment
+from git import GitFailed, Ran, ask_git, make_mirror, make_window, run_git, settings_in_file
+from places import Places
 
-# No hook is called for what the host does, and what it makes is on the disk when a command ends.
-GIT = (
-    "git", "-c", "user.name=gate", "-c", "user.email=gate@localhost", "-c", "core.fsync=all", "-c", "core.hooksPath=/dev/null",
-    "-c", "gc.auto=0",
-)
-SECONDS = 60
 SECONDS_FOR_MERGE = 600
-
-
-class GitFailed(Exception):
-    """A command of git that ended in a way that says nothing of the question, with its words."""
+SECONDS_FOR_OBJECTS = 3600
+# Each fetch leaves objects in the mirror, a few by themselves, many in a pack. So many make reading slow.
+MOST_LOOSE = 5000
+MOST_PACKS = 50
+BRANCHES = "refs/heads/"
+# Under these names the mirror keeps what it has fetched, and the guarded repository what stood on a branch that the host took.
+FETCHED = "refs/gate/"
+KEPT = "refs/gate/kept/"
+NOTHING = "0" * 40
 
 
 @dataclass(frozen=True)
@@ -31,122 +29,228 @@ class Merged:
 
 
 @dataclass(frozen=True)
-class Ran:
-    """The status and the output of a command that has ended."""
+class Branch:
+    """A branch: its commit, and the name of the branch that it only is another name of, if it is one."""
 
-    status: int
-    output: str
+    commit: str
+    of: str
 
 
 class Repository:
-    """A bare repository and its main branch."""
+    """A guarded bare repository and its main branch, with the host's mirror of it."""
 
-    def __init__(self, path: Path, main: str):
-        self.path = path
-        self.main = f"refs/heads/{main}"
-
-    def run(self, *arguments: str, seconds: float = SECONDS, dates: Optional[int] = None, index: Optional[Path] = None) -> Ran:
-        """Runs git. Whatever it has started is killed with it when the time is over."""
-        environment = clean_environment()
-        if index is not None:
-            environment["GIT_INDEX_FILE"] = str(index)
-        if dates is not None:
-            environment.update(GIT_AUTHOR_DATE=f"@{dates} +0000", GIT_COMMITTER_DATE=f"@{dates} +0000")
-        command = [*GIT, "-C", str(self.path), *arguments]
-        with subprocess.Popen(
-            command, env=environment, stdin=subprocess.DEVNULL, stdout=subprocess.PIPE, stderr=subprocess.PIPE, start_new_session=True,
-        ) as process:
-            try:
-                output, words = process.communicate(timeout=seconds)
-            except subprocess.TimeoutExpired:
-                os.killpg(process.pid, signal.SIGKILL)
-                raise GitFailed(f"git {arguments[0]} took more than {seconds} seconds") from None
-        if process.returncode not in (0, 1, 128):
-            raise GitFailed(f"git {arguments[0]} ended with status {process.returncode}: {words.decode(errors='replace').strip()}")
-        return Ran(process.returncode, (output if process.returncode < 128 else words).decode(errors="replace"))
+    def __init__(self, places: Places, main: str, staging: str = "staging", trying: str = "trying"):
+        self.places = places
+        self.main = BRANCHES + main
+        # The branches on which the host stages, by the names that the bot has for them.
+        self.staged_on = {"staging": BRANCHES + staging, "trying": BRANCHES + trying}
+        self.mirror, self.window = places.mirror, places.window
+        settings = settings_in_file(places.repository / "config")
+        make_mirror(self.mirror)
+        make_window(self.window, places.repository, logs_of(settings), shared_by(settings))
 
     def ask(self, *arguments: str, **more) -> str:
-        """What git writes. Any status but 0 is a failure."""
-        ran = self.run(*arguments, **more)
-        if ran.status != 0:
-            raise GitFailed(f"git {arguments[0]} ended with status {ran.status}: {ran.output.strip()}")
-        return ran.output
+        """What git writes of the mirror."""
+        return ask_git(self.mirror, *arguments, **more)
+
+    # Branches of the guarded repository
+
+    def all_branches(self) -> Dict[str, Branch]:
+        """Each branch, all of one moment as nearly as git can tell."""
+        written = ask_git(self.window, "for-each-ref", "--format=%(objectname) %(symref) %(refname)", BRANCHES)
+        found = {}
+        for line in filter(None, written.split("\n")):
+            commit, of, name = line.split(" ", 2)
+            found[name] = Branch(commit, of)
+        return found
 
     def branches(self) -> Dict[str, str]:
-        """The commit of each branch, all of one moment as nearly as git can tell."""
-        lines = self.ask("for-each-ref", "--format=%(objectname) %(refname)", "refs/heads/").split("\n")
-        return {name: commit for commit, name in (line.split(" ", 1) for line in lines if line)}
+        """The commit of each branch."""
+        return {name: branch.commit for name, branch in self.all_branches().items()}
+
+    def fetch(self, heads: Mapping[str, str]) -> Dict[str, str]:
+        """Brings commits with all that belongs to them into the mirror, each under a name. What can't come is given with the reason, by
+        its name. Git computes the name of each object anew, so what comes is what was named."""
+        wanted = {name: commit for name, commit in heads.items() if not self.has_fetched(name, commit)}
+        if not wanted or self.fetched(wanted).status == 0:
+            return {}
+        failed = {name: self.fetched({name: commit}) for name, commit in wanted.items()}
+        return {name: ran.said or "git says no more" for name, ran in failed.items() if ran.status != 0}
+
+    def fetched(self, heads: Mapping[str, str]) -> Ran:
+        places = "".join(f"+{commit}:{FETCHED}{name}\n" for name, commit in heads.items())
+        return run_git(
+            self.mirror, "fetch", "--quiet", "--no-tags", "--no-write-fetch-head", "--stdin", str(self.window), given=places.encode(),
+            seconds=SECONDS_FOR_OBJECTS,
+        )
+
+    def has_fetched(self, name: str, commit: str) -> bool:
+        """Whether the mirror has this commit under this name, and so all that belongs to it."""
+        return run_git(self.mirror, "rev-parse", "--verify", "--quiet", FETCHED + name).output.strip() == commit
+
+    def forget(self, names: Iterable[str]) -> None:
+        """Drops names in the mirror. The objects stay."""
+        lines = "".join(f"delete {FETCHED}{name}\n" for name in names)
+        if lines:
+            self.ask("update-ref", "--stdin", given=lines.encode())
+
+    def must_have(self, name: str, commit: str) -> None:
+        """Has a commit in the mirror. One that can't come is no conflict."""
+        for why in self.fetch({name: commit}).values():
+            raise GitFailed(f"{commit} can't be read whole in the repository: {why}")
+
+    def tidy(self, is_needed: Callable[[str], bool]) -> None:
+        """Drops the names in the mirror that aren't needed any more. Puts its objects together if many lie there by themselves. None is
+        thrown away."""
+        names = (line[len(FETCHED):] for line in self.ask("for-each-ref", "--format=%(refname)", FETCHED).splitlines())
+        self.forget(name for name in names if not is_needed(name))
+        counted = dict(line.split(": ") for line in self.ask("count-objects", "-v").splitlines())
+        if int(counted["count"]) > MOST_LOOSE or int(counted["packs"]) > MOST_PACKS:
+            self.ask("repack", "-a", "-d", "--keep-unreachable", "--quiet", seconds=SECONDS_FOR_OBJECTS)
+
+    # What commits have
 
     def text_at(self, commit: str, name: str, most: int) -> Optional[str]:
-        """The text of a file of a commit, or none if it has no such file, or one with more bytes."""
+        """The text of a file of a commit of the mirror, or none if it has no such file, or one with more bytes."""
         found = self.ask("ls-tree", "--long", commit, "--", name).split()
         if found[1:2] != ["blob"] or int(found[3]) > most:
             return None
         return self.ask("cat-file", "blob", found[2])
 
-    def add_to_main(self, name: str, text: str, room: Path) -> None:
-        """Adds a file to the main branch by a commit, which is its first one if it has none."""
-        before = self.branches().get(self.main)
-        source, index = room / "text", room / "index"
-        source.write_text(text, encoding="utf-8")
-        blob = self.ask("hash-object", "-w", str(source)).strip()
-        self.ask("read-tree", *([before] if before else ["--empty"]), index=index)
-        self.ask("update-index", "--add", "--cacheinfo", f"100644,{blob},{name}", index=index)
-        tree = self.ask("write-tree", index=index).strip()
-        commit = self.ask("commit-tree", tree, *(["-p", before] if before else []), "-m", f"Add {name}").strip()
-        self.ask("update-ref", self.main, commit, before or "0" * 40)
+    # Merges
 
-    def stage(self, order: dict, now: int) -> Merged:
+    def merge_batch(self, order: dict, now: int) -> Merged:
         """Makes one commit, whose parents are the base and the heads. If it is done again, it is the same commit."""
         base, commit, parents = order["base"], order["base"], ["-p", order["base"]]
         message = f"Batch {order['batch']}: " + ", ".join(f"change {change}" for change, _ in order["heads"])
+        dates = {"GIT_AUTHOR_DATE": f"@{now} +0000", "GIT_COMMITTER_DATE": f"@{now} +0000"}
+        self.must_have("main", base)
         for change, head in order["heads"]:
-            self.must_have(change, head)
+            self.must_have(f"change/{change}", head)
             found = self.merge(commit, head)
             if found.commit is None:
                 return Merged(conflicting=change, why=found.why)
             parents += ["-p", head]
-            commit = self.ask("commit-tree", found.commit, *parents, "-m", message, dates=now).strip()
-        assert commit != base, "a batch has a change"
-        self.ask("update-ref", f"refs/heads/{order['branch']}", commit)
+            commit = self.ask("commit-tree", found.commit, *parents, "-m", message, more=dates).strip()
+        if commit == base:
+            raise ValueError("a batch has a change")
         return Merged(commit=commit)
-
-    def must_have(self, change: int, head: str) -> None:
-        """A head that isn't here is no conflict."""
-        if self.run("cat-file", "-e", f"{head}^{{commit}}").status != 0:
-            raise GitFailed(f"the head {head} of change {change} isn't in the repository")
 
     def merge(self, commit: str, head: str) -> Merged:
         """The tree of a merge, without a checkout, or why there is none."""
-        common = self.run("merge-base", commit, head)
+        common = run_git(self.mirror, "merge-base", commit, head)
         if common.status == 1:
             return Merged(why="it has no commit in common with the main branch")
         if common.status != 0:
-            raise GitFailed(f"git merge-base: {common.output.strip()}")
-        tried = self.run("merge-tree", "--write-tree", "--name-only", "--no-messages", commit, head, seconds=SECONDS_FOR_MERGE)
-        if tried.status == 128:
-            raise GitFailed(f"git merge-tree: {tried.output.strip()}")
+            raise GitFailed(f"git merge-base: {common.said}")
+        tried = run_git(self.mirror, "merge-tree", "--write-tree", "--name-only", "--no-messages", commit, head, seconds=SECONDS_FOR_MERGE)
+        if tried.status not in (0, 1):
+            raise GitFailed(f"git merge-tree: {tried.said}")
         tree, *names = tried.output.splitlines()
         return Merged(commit=tree) if tried.status == 0 else Merged(why="both change " + ", ".join(names))
 
+    # Moves of branches
+
+    def push(self, commit: str, branch: str, before: Optional[str], held: Sequence[int] = ()) -> Ran:
+        """Moves a branch of the guarded repository to a commit of the mirror, if it is at exactly the commit before, or isn't there. A `+`
+        before the commit would have git move it in any case."""
+        lease = f"--force-with-lease={branch}:{before or ''}"
+        return run_git(
+            self.mirror, "push", "--quiet", "--porcelain", lease, str(self.window), f"{commit}:{branch}", held=held,
+            seconds=SECONDS_FOR_OBJECTS,
+        )
+
+    def stage(self, name: str, commit: str, before: Optional[str], is_own: bool) -> Optional[str]:
+        """Moves a branch on which the host stages, if it is where it was before. What stands there and isn't the host's own is kept under
+        another name, which is given."""
+        branch = self.staged_on[name]
+        kept = None
+        if before and before != commit and not is_own:
+            kept = f"{KEPT}{name}/{before}"
+            ask_git(self.window, "update-ref", kept, before)
+        if before != commit:
+            ran = self.push(commit, branch, before)
+            if ran.status != 0:
+                raise GitFailed(f"{branch} can't be moved: {reason_in(ran)}")
+        return kept
+
     def land(self, order: dict) -> bool:
-        """Moves the main branch if it is at exactly the base. Then looks whether the commit is on it, as it may be since before."""
-        self.run("update-ref", self.main, order["commit"], order["base"])
-        looked = self.run("merge-base", "--is-ancestor", order["commit"], self.main)
-        if looked.status == 128 and self.main in self.branches():
-            raise GitFailed(f"git merge-base: {looked.output.strip()}")
+        """Moves the main branch if it is at exactly the base. True if the commit is on it then, as it may be since before; and false only
+        if it never comes there by this order: no git of ours runs, and the branch is at neither of the two.
+
+        What git of ours runs holds a lock, also that of a host that has died."""
+        with open(self.places.records / "landing.lock", "wb") as lock:
+            try:
+                fcntl.flock(lock, fcntl.LOCK_EX | fcntl.LOCK_NB)
+            except OSError:
+                raise GitFailed(f"a git that was started before may still move {self.main}; it has {lock.name} open") from None
+            ran = self.push(order["commit"], self.main, order["base"], [lock.fileno()])
+        now = self.branches().get(self.main)
+        if now == order["commit"]:
+            return True
+        if now == order["base"]:
+            raise GitFailed(f"{self.main} can't be moved: {reason_in(ran)}")
+        if now is None:
+            return False
+        self.must_have("main", now)
+        looked = run_git(self.mirror, "merge-base", "--is-ancestor", order["commit"], now)
+        if looked.status not in (0, 1):
+            raise GitFailed(f"git merge-base: {looked.said}")
         return looked.status == 0
 
-    def add_worktree(self, path: Path, commit: str, seconds: float) -> None:
-        self.ask("worktree", "add", "--quiet", "--detach", "--force", str(path), commit, seconds=seconds)
+    # What others get
 
-    def forget_worktrees(self, folder: Path) -> None:
-        """Forgets the worktrees that were in a folder and are gone. Others aren't the host's, also if theirs is gone for a while."""
-        lines = self.ask("worktree", "list", "--porcelain").splitlines()
-        paths = [Path(line[len("worktree "):]) for line in lines if line.startswith("worktree ")]
-        for path in paths:
-            if path.parent == folder and not path.exists():
-                self.ask("worktree", "remove", "--force", "--force", str(path))
+    def commit_with(self, name: str, text: str, before: Optional[str]) -> str:
+        """Makes a commit that adds a file to another one, or that is a first one, and gives it."""
+        if before:
+            self.must_have("main", before)
+        index = {"GIT_INDEX_FILE": str(self.mirror / "index")}
+        blob = self.ask("hash-object", "-w", "--stdin", given=text.encode()).strip()
+        self.ask("read-tree", *([before] if before else ["--empty"]), more=index)
+        self.ask("update-index", "--add", "--cacheinfo", f"100644,{blob},{name}", more=index)
+        tree = self.ask("write-tree", more=index).strip()
+        return self.ask("commit-tree", tree, *(["-p", before] if before else []), "-m", f"Add {name}").strip()
+
+    def move_main(self, commit: str, before: Optional[str]) -> None:
+        """Moves the main branch past the queue, if it is where it was before."""
+        ran = self.push(commit, self.main, before)
+        if ran.status != 0:
+            raise GitFailed(f"{self.main} can't be moved: {reason_in(ran)}")
+
+    def rename(self, branch: str, to: str) -> None:
+        """Gives a branch of the guarded repository another name."""
+        commit = self.branches()[branch]
+        lines = f"create {to} {commit}\ndelete {branch} {commit}\n"
+        ask_git(self.window, "update-ref", "--stdin", given=lines.encode())
+
+    def check_out(self, commit: str, path: Path, seconds: float) -> Optional[str]:
+        """Makes a clone of its own for one commit, without branches. It reads the objects of the mirror, and git never writes to those.
+        Gives why the commit can't be checked out, if it can't."""
+        ask_git(None, "init", "--quiet", "--template=", str(path))
+        (path / ".git/objects/info").mkdir(exist_ok=True)
+        (path / ".git/objects/info/alternates").write_text(f"{self.mirror}/objects\n", encoding="utf-8")
+        work = {"GIT_WORK_TREE": str(path)}
+        ran = run_git(path / ".git", "checkout", "--quiet", "--detach", commit, more=work, seconds=seconds)
+        return None if ran.status == 0 else ran.said or "git says no more"
+
+
+def logs_of(settings: Mapping[str, str]) -> str:
+    """Whether the moves of branches are logged in the guarded repository, as its own setting says."""
+    value = settings.get("core.logallrefupdates", "false").lower()
+    return value if value in ("true", "always") else "false"
+
+
+def shared_by(settings: Mapping[str, str]) -> str:
+    """Who may write the files of the guarded repository, as its own setting says."""
+    value = settings.get("core.sharedrepository", "false").lower()
+    is_mode = len(value) == 4 and value.startswith("0") and value.isdigit()
+    return value if is_mode or value in ("true", "group", "all", "world", "everybody", "1", "2") else "false"
+
+
+def reason_in(ran: Ran) -> str:
+    """Why a push moved nothing: what git said, or the line about the branch."""
+    lines = [line for line in ran.output.split("\n") if line.startswith("!")]
+    return "; ".join(filter(None, [ran.said, *(" ".join(line.split()) for line in lines)])) or f"git ended with status {ran.status}"
 
 
 def heads_of(order: dict) -> List[int]:

@@ -1,12 +1,20 @@
 """The settings of the host and the roles of people: two files that only the owner of the repository may write."""
 import configparser
+import re
 from dataclasses import dataclass
 from pathlib import Path
-from typing import Dict, FrozenSet
+from typing import Dict, FrozenSet, Mapping, Tuple
 
 from places import Trouble, person, trusted_text
 
 ROLES = ("member", "reviewer")
+KEYS = {
+    "main", "program", "tick_seconds", "look_seconds", "check_seconds", "may_push", "staging", "trying", "sandbox", "sandbox_network",
+    "sandbox_reads", "sandbox_writes",
+}
+
+# Names that git takes for branches, without those that its commands read in another way.
+BRANCH = re.compile(r"(?!.*(\.\.|//|\.lock/|@\{))[A-Za-z0-9_][A-Za-z0-9_./+@-]*(?<![./])(?<!\.lock)")
 
 FIRST_SETTINGS = """\
 # The settings of gate-host. Nobody but the owner of the repository may write this file. The host reads it again when it has changed.
@@ -15,6 +23,10 @@ FIRST_SETTINGS = """\
 # The branch that is guarded. Its bors.toml says which checks have to succeed. If it becomes another one, start the host again: the hook
 # guards that one from then on, and the host lands on this one until it is started.
 main = {main}
+
+# The branches on which the host puts what is tested: for landings, and for tries. They are the host's alone.
+staging = {staging}
+trying = {trying}
 
 # The built program of the bot. Another one counts when the bot is started.
 program = {program}
@@ -31,8 +43,19 @@ check_seconds = 3600
 # Who may push to the main branch past the queue: names with spaces between them.
 may_push = {may_push}
 
-# Each check is a command, by the name that bors.toml has under `status`. The shell runs it in a worktree of the commit that is tested.
-# They run as the owner of the repository, one after the other in the same worktree.
+# Whether checks run in a sandbox of bubblewrap: `auto` if it is there, `required`, or `off`. Within, a check sees the programs of the
+# system, its own clone and /tmp, and nothing else; what it starts ends with it.
+sandbox = auto
+
+# Whether checks in the sandbox reach the network: yes or no.
+sandbox_network = no
+
+# What else they may read, and what they may write: paths with spaces between them.
+sandbox_reads =
+sandbox_writes =
+
+# Each check is a command, by the name that bors.toml has under `status`. The shell runs it in a clone of the commit that is tested.
+# They run as the owner of the repository, one after the other in the same clone.
 [checks]
 {checks}"""
 
@@ -52,11 +75,18 @@ class Settings:
     look_seconds: float
     check_seconds: float
     may_push: FrozenSet[str]
+    staging: str
+    trying: str
+    # `auto`, `required` or `off`; and what a check in the sandbox may reach.
+    sandbox: str
+    sandbox_network: bool
+    sandbox_reads: Tuple[str, ...]
+    sandbox_writes: Tuple[str, ...]
     # The command of each check, by its name, in the order of the file.
     checks: Dict[str, str]
 
 
-def seconds_in(table, key: str, usual: str) -> float:
+def seconds_in(table: Mapping[str, str], key: str, usual: str) -> float:
     try:
         seconds = float(table.get(key, usual))
     except ValueError as fault:
@@ -64,6 +94,33 @@ def seconds_in(table, key: str, usual: str) -> float:
     if not 0 < seconds < 10_000_000:
         raise Trouble(f"settings: {key} has to be more than 0")
     return seconds
+
+
+def word_in(table: Mapping[str, str], key: str, words: Tuple[str, ...]) -> str:
+    """One of some words, of which the first is the usual one."""
+    word = table.get(key, words[0])
+    if word not in words:
+        raise Trouble(f"settings: {key} has to be {' or '.join(words)}")
+    return word
+
+
+def branches_in(table: Mapping[str, str]) -> Tuple[str, str, str]:
+    """The names of the three branches, which differ, and of which none is a folder of another or of the changes."""
+    names = (table["main"], table.get("staging", "staging"), table.get("trying", "trying"))
+    folders = [f"{name}/" for name in (*names, "change")]
+    if len(set(names)) < 3 or any(f"{name}/".startswith(folder) and name + "/" != folder for name in names for folder in folders):
+        raise Trouble("settings: main, staging and trying have to be three branches, none of them in the way of another or of change/1")
+    if "change" in names or not all(BRANCH.fullmatch(name) for name in names):
+        raise Trouble("settings: main, staging and trying have to be names of branches")
+    return names
+
+
+def paths_in(table: Mapping[str, str], key: str) -> Tuple[str, ...]:
+    paths = tuple(table.get(key, "").split())
+    for path in paths:
+        if not path.startswith("/"):
+            raise Trouble(f"settings: {key} has paths that begin with /, and not {path}")
+    return paths
 
 
 def settings_in(text: str) -> Settings:
@@ -78,9 +135,8 @@ def settings_in(text: str) -> Settings:
     if not parser.has_section("host"):
         raise Trouble("settings: there is no part [host]")
     host = parser["host"]
-    known = {"main", "program", "tick_seconds", "look_seconds", "check_seconds", "may_push"}
     for key in host:
-        if key not in known:
+        if key not in KEYS:
             raise Trouble(f"settings: {key} is no setting")
     checks = dict(parser["checks"]) if parser.has_section("checks") else {}
     for name, command in checks.items():
@@ -88,10 +144,14 @@ def settings_in(text: str) -> Settings:
             raise Trouble(f"settings: the check {name!r} has no command, or no name that the bot takes")
     if not host.get("main") or not host.get("program"):
         raise Trouble("settings: main and program are needed")
+    main, staging, trying = branches_in(host)
     return Settings(
-        main=host["main"], program=host["program"], tick_seconds=seconds_in(host, "tick_seconds", "10"),
+        main=main, program=host["program"], tick_seconds=seconds_in(host, "tick_seconds", "10"),
         look_seconds=seconds_in(host, "look_seconds", "1"), check_seconds=seconds_in(host, "check_seconds", "3600"),
-        may_push=frozenset(name.lower() for name in host.get("may_push", "").split()), checks=checks,
+        may_push=frozenset(name.lower() for name in host.get("may_push", "").split()), staging=staging,
+        trying=trying, sandbox=word_in(host, "sandbox", ("auto", "required", "off")),
+        sandbox_network=word_in(host, "sandbox_network", ("no", "yes")) == "yes", sandbox_reads=paths_in(host, "sandbox_reads"),
+        sandbox_writes=paths_in(host, "sandbox_writes"), checks=checks,
     )
 
 

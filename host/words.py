@@ -1,6 +1,8 @@
 """What people are told: the words for the bot's answers, notices and batches."""
+import time
 from typing import List, Sequence
 
+from journal import Move
 from repository import listed
 
 DENIALS = {
@@ -73,3 +75,12 @@ def conflict(batch: int, changes: Sequence[int], which: int, why: str) -> str:
 def result(batch: int, changes: Sequence[int], name: str, state: str, said: str) -> str:
     ends = {"success": "succeeded", "failure": "failed", "error": "failed"}
     return f"The check {name} of batch {batch} ({listed(changes)}) {ends[state]}: {said}."
+
+
+def stray(move: Move) -> str:
+    """A move of the main branch that nobody made who may."""
+    at = time.strftime("%Y-%m-%d %H:%M:%S", time.localtime(move.at))
+    return (
+        f"the main branch was moved from {move.before} to {move.target}, as seen at {at}, and nobody who may said so. If that is right, "
+        f"gate-host doctor --accept {move.target}"
+    )

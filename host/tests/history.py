@@ -18,7 +18,8 @@ APPROVAL = re.compile(r"^bors r\+", re.MULTILINE)
 
 
 def git(repository, *arguments):
-    command = ["git", "-C", repository, *arguments]
+    # An object that stands for another one isn't what a clone gets.
+    command = ["git", "--no-replace-objects", "-C", repository, *arguments]
     return subprocess.run(command, stdout=subprocess.PIPE, encoding="utf-8", check=True, timeout=60).stdout.strip()
 
 

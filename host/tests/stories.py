@@ -11,13 +11,20 @@ import subprocess
 import sys
 import time
 from pathlib import Path
+from unittest import mock
 
 TOP = Path(__file__).resolve().parent.parent.parent
-HOST = TOP / "host/gate-host"
+sys.path.insert(0, str(TOP / "host"))
+
+import spool  # noqa: E402
+from places import Places  # noqa: E402
+
+# Another host than the one of this tree may be tested, as an older one.
+HOST = Path(os.environ.get("GATE_HOST", TOP / "host/gate-host"))
 TESTS = TOP / "host/tests"
 GIT = shutil.which("git")
 # What a story may take before it counts as one that never ends, and what a command may take.
-STORY_SECONDS = 300
+STORY_SECONDS = int(os.environ.get("GATE_STORY_SECONDS", "300"))
 SECONDS = 60
 
 # No settings of git but these. The people of the stories are told by the variable of gitolite.
@@ -65,6 +72,8 @@ class Story:
     """A bare repository with a host, a clone, and people."""
 
     changes = range(1, 11)
+    # The checks of the stories write down outside of their clones what they find.
+    sandbox = "off"
 
     def __init__(self, program, room):
         self.program, self.room = str(program), Path(room)
@@ -140,8 +149,15 @@ class Story:
         self.must_host("init", str(self.repository), "--program", str(self.make_bot()), *people, *checks)
         self.set("tick_seconds = 10", "tick_seconds = 0.4")
         self.set("look_seconds = 1", "look_seconds = 0.2")
+        self.set_sandbox()
         want("where main is", self.git("rev-parse", "main"), self.first)
         self.make_tools()
+
+    def set_sandbox(self):
+        """A host that knows no sandbox has no such settings."""
+        if "sandbox = auto" in (self.repository / "gate/settings").read_text(encoding="utf-8"):
+            self.set("sandbox = auto", f"sandbox = {self.sandbox}")
+            self.set("sandbox_writes =", f"sandbox_writes = {self.room}")
 
     def set(self, before, after):
         path = self.repository / "gate/settings"
@@ -189,7 +205,8 @@ exit "$ended"
         git, clone = shlex.quote(GIT), shlex.quote(str(self.room / "other"))
         self.must_git("clone", "--quiet", str(self.repository), str(self.room / "other"), at=self.room)
         push = shlex.quote(str(self.make_tool("push", f"""\
-export GL_USER=ines
+unset GIT_DIR GIT_WORK_TREE GIT_INDEX_FILE
+export GL_USER=ines GIT_AUTHOR_NAME=ines GIT_AUTHOR_EMAIL=ines@localhost GIT_COMMITTER_NAME=ines GIT_COMMITTER_EMAIL=ines@localhost
 cd {clone} && {git} fetch --quiet && {git} checkout --quiet --detach origin/main || exit
 echo >>beside && {git} add beside && {git} commit --quiet -m beside && {git} push --quiet origin HEAD:main || exit
 {git} rev-parse HEAD >>{shlex.quote(str(self.beside))}
@@ -278,7 +295,9 @@ echo >>beside && {git} add beside && {git} commit --quiet -m beside && {git} pus
 
 
 class Calm(Story):
-    """Nothing else happens."""
+    """Nothing else happens. The checks run in the sandbox."""
+
+    sandbox = "required" if shutil.which("bwrap") else "off"
 
 
 class Killed(Story):
@@ -294,25 +313,16 @@ class Killed(Story):
         marks, git, push = shlex.quote(str(self.marks)), shlex.quote(GIT), self.make_push()
         self.make_tool("git", f"""\
 is_first() {{ mkdir {marks}/"$1" 2>/dev/null; }}
-name=
-skip=
-for it in "$@"; do
-    case $skip$it in
-    -c|-C) skip=x ;;
-    x*) skip= ;;
-    *) name=$it; break ;;
-    esac
-done
+name=$1
 case "$*" in
-*"update-ref refs/heads/"*) name="$name-$(echo "$*" | sed 's,.*refs/heads/\\([a-z]*\\).*,\\1,')" ;;
+"push "*) name="push-${{*##*:refs/heads/}}" ;;
 *"--is-ancestor"*) name=look-at-main ;;
-*"worktree add"*) name=worktree-add ;;
 esac
 is_first "git-before-$name" && kill -9 "$PPID" && exit
 case $name in
-update-ref-*) is_first "git-meanwhile-$name" && kill -9 "$PPID" && sleep 0.4 ;;
+push-*) is_first "git-meanwhile-$name" && kill -9 "$PPID" && sleep 0.4 ;;
 esac
-[ "$name" = update-ref-main ] && [ -d {marks}/git-after-$name ] && is_first pushed-before-main && {push}
+[ "$name" = push-main ] && [ -d {marks}/git-after-$name ] && is_first pushed-before-main && {push}
 {git} "$@"
 ended=$?
 is_first "git-after-$name" && kill -9 "$PPID"
@@ -347,15 +357,15 @@ class Beside(Story):
         git, marks, push = shlex.quote(GIT), shlex.quote(str(self.marks)), self.make_push()
         self.make_tool("git", f"""\
 case "$*" in
-*" merge-tree "*) mkdir {marks}/pushed-merge 2>/dev/null && {push} ;;
-*" worktree add "*) mkdir {marks}/pushed-worktree 2>/dev/null && {push} ;;
-*" update-ref refs/heads/staging "*) mkdir {marks}/pushed-staged 2>/dev/null && {push} ;;
-*" update-ref refs/heads/main "*) mkdir {marks}/pushed-before-main 2>/dev/null && {push} ;;
+"merge-tree "*) mkdir {marks}/pushed-merge 2>/dev/null && {push} ;;
+"checkout "*) mkdir {marks}/pushed-checkout 2>/dev/null && {push} ;;
+"push "*:refs/heads/staging) mkdir {marks}/pushed-staged 2>/dev/null && {push} ;;
+"push "*:refs/heads/main) mkdir {marks}/pushed-before-main 2>/dev/null && {push} ;;
 esac
 {git} "$@"
 ended=$?
 case "$*" in
-*" update-ref refs/heads/main "*) [ "$ended" = 0 ] && mkdir {marks}/pushed-after-main 2>/dev/null && {push} && kill -9 "$PPID" ;;
+"push "*:refs/heads/main) [ "$ended" = 0 ] && mkdir {marks}/pushed-after-main 2>/dev/null && {push} && kill -9 "$PPID" ;;
 esac
 exit "$ended"
 """)
@@ -371,7 +381,7 @@ class Daily(Story):
         script, git = shlex.quote(str(self.at_look())), shlex.quote(GIT)
         self.make_tool("git", f"""\
 case "$*" in
-*" for-each-ref "*) mv {script} {script}.done 2>/dev/null && sh {script}.done ;;
+"for-each-ref "*) mv {script} {script}.done 2>/dev/null && sh {script}.done ;;
 esac
 exec {git} "$@"
 """)
@@ -521,7 +531,7 @@ exec {git} "$@"
         """Its note comes after the host has looked for notes, and its branch before the host looks at branches."""
         self.heads[27] = self.commit(["--detach", self.first], {"parts/g": "test 1 -gt 0\n"}, "change 27")
         part = self.room / "part"
-        push = f"cd {shlex.quote(str(self.clone))} && GL_USER=vera {GIT} push --quiet origin HEAD:refs/heads/change/27\n"
+        push = f"unset GIT_DIR && cd {shlex.quote(str(self.clone))} && GL_USER=vera {GIT} push --quiet origin HEAD:refs/heads/change/27\n"
         part.write_text(push, encoding="utf-8")
         part.rename(self.at_look())
         self.until("it is open", lambda: self.report("change-27"))
@@ -555,10 +565,7 @@ exec {git} "$@"
 
     def leave(self, body):
         """Leaves a note as `gate-host say` does, of whatever it is."""
-        name = f"{time.time_ns():020d}-{os.urandom(16).hex()}"
-        part = self.repository / "gate/spool" / f".{name}"
         # Half of a surrogate pair can stand there as an escape alone.
         is_short = "\ud800" in str(body.get("text"))
-        part.write_text(json.dumps({**body, "name": name}, ensure_ascii=is_short), encoding="utf-8")
-        part.chmod(0o1644)
-        part.rename(part.with_name(name))
+        with mock.patch("spool.in_bytes", lambda given: json.dumps(given, ensure_ascii=is_short).encode()):
+            spool.leave(Places(self.repository), body)

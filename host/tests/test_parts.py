@@ -17,7 +17,6 @@ from unittest import mock
 sys.path.insert(0, str(Path(__file__).resolve().parent.parent))
 
 import hook  # noqa: E402
-import spool  # noqa: E402
 import words  # noqa: E402
 from checks import remove_tree  # noqa: E402
 from client import Bot, BotEnded  # noqa: E402
@@ -26,12 +25,10 @@ from journal import Journal  # noqa: E402
 from loop import Host, is_claim, is_commit  # noqa: E402
 from places import Places, Trouble, must_be_safe, name_of_user, person, person_here, trusted_text  # noqa: E402
 from reports import log_text  # noqa: E402
-from repository import GitFailed, Repository  # noqa: E402
 from settings import roles_in, settings_in  # noqa: E402
 
 RUNNER = Path(__file__).resolve().parent.parent / "check_runner.py"
 MYSELF = name_of_user(os.geteuid())
-IS_ROOT = os.geteuid() == 0
 # A user of the system who isn't the one that runs the tests.
 OTHER = next(it for it in pwd.getpwall() if it.pw_uid != os.geteuid() and person(it.pw_name))
 
@@ -43,132 +40,6 @@ class InFolder(unittest.TestCase):
         room = tempfile.TemporaryDirectory()
         self.addCleanup(room.cleanup)
         self.room = Path(room.name)
-
-
-class SpoolTests(InFolder):
-    def setUp(self):
-        super().setUp()
-        self.path = self.room / "spool"
-        self.path.mkdir()
-        self.complaints = []
-        self.spool = spool.Spool(self.path, os.geteuid(), self.complaints.append)
-
-    def leave(self, **body):
-        """Leaves a note, and gives its file."""
-        before = set(self.path.iterdir())
-        spool.leave(self.path, body)
-        return (set(self.path.iterdir()) - before).pop()
-
-    def refused(self, why):
-        """What lies in the spool is no note, for this cause, and is taken away."""
-        self.assertEqual(self.spool.take(), [])
-        self.assertEqual(len(self.complaints), 1)
-        self.assertIn(why, self.complaints[0])
-        self.assertEqual(list(self.path.iterdir()), [])
-
-    def test_notes_come_in_the_order_in_which_they_were_left(self):
-        for number in range(3):
-            self.leave(number=number)
-        notes = self.spool.take()
-        self.assertEqual([note.body["number"] for note in notes], [0, 1, 2])
-        self.assertEqual({note.person for note in notes}, {MYSELF})
-        self.assertEqual(len(self.spool.take()), 3)
-        for note in notes:
-            self.spool.remove(note.name)
-        self.assertEqual(self.spool.take(), [])
-
-    def test_the_owner_writes_for_others(self):
-        self.leave(person="Rosa")
-        self.assertEqual(self.spool.take()[0].person, "rosa")
-
-    def test_a_name_that_is_none_is_refused(self):
-        self.leave(person="ro sa")
-        self.refused("no name")
-
-    def test_nobody_else_writes_for_others(self):
-        self.leave(person="rosa")
-        self.spool.owner = OTHER.pw_uid
-        self.assertEqual(self.spool.take()[0].person, MYSELF)
-
-    @unittest.skipUnless(IS_ROOT, "files are given away by root alone")
-    def test_a_note_counts_for_the_owner_of_its_file(self):
-        os.chown(self.leave(person="rosa"), OTHER.pw_uid, -1)
-        self.assertEqual(self.spool.take()[0].person, person(OTHER.pw_name))
-
-    @unittest.skipUnless(IS_ROOT, "files are given away by root alone")
-    def test_a_user_without_a_name_is_refused(self):
-        os.chown(self.leave(), 2_000_000_000, -1)
-        self.refused("user 2000000000 has no name")
-
-    def test_a_symbolic_link_is_not_followed(self):
-        note = self.leave()
-        note.rename(self.room / note.name)
-        note.symlink_to(self.room / note.name)
-        self.refused("symbolic links")
-
-    def test_a_file_with_two_names_is_refused(self):
-        note = self.leave()
-        os.link(note, self.room / "other")
-        self.refused("another name")
-
-    def test_a_note_under_another_name_is_refused(self):
-        note = self.leave()
-        note.rename(self.path / f"{note.name[:-1]}{'1' if note.name.endswith('0') else '0'}")
-        self.refused("under another name")
-
-    def test_a_name_that_say_gives_to_none_is_refused(self):
-        """Also one that is no text: no query of the journal could have it."""
-        for name in ("other", "0" * 53, b"\xff".decode(errors="surrogateescape")):
-            self.complaints.clear()
-            path = self.path / name
-            path.write_text(json.dumps({"name": name}), encoding="utf-8")
-            path.chmod(spool.MODE)
-            self.refused("under another name")
-
-    def test_a_file_without_the_mark_is_refused(self):
-        self.leave().chmod(0o644)
-        self.refused("isn't marked")
-
-    def test_what_is_no_file_is_refused(self):
-        os.mkfifo(self.path / "pipe", 0o1644)
-        self.refused("isn't a regular file")
-
-    def test_an_empty_folder_is_removed(self):
-        (self.path / "folder").mkdir()
-        self.refused("isn't a regular file")
-
-    def test_a_folder_with_something_in_it_stands_in_nobodys_way(self):
-        (self.path / "000" / "x").mkdir(parents=True)
-        self.leave(number=1)
-        files = len(os.listdir("/proc/self/fd"))
-        for _ in range(3):
-            self.assertEqual([note.body["number"] for note in self.spool.take()], [1])
-        self.assertEqual(len(self.complaints), 2)
-        self.assertEqual(len(os.listdir("/proc/self/fd")), files)
-
-    def test_a_long_note_is_refused(self):
-        with self.assertRaises(Trouble):
-            self.leave(text="x" * spool.MOST_BYTES)
-        note = self.leave()
-        note.write_bytes(note.read_bytes() + b" " * spool.MOST_BYTES)
-        self.refused("too long")
-
-    def test_what_is_no_json_is_refused(self):
-        for number, text in enumerate((b"", b"[1", b"\xff", b"[" * 20000, b"7")):
-            self.complaints.clear()
-            path = self.path / f"note-{number}"
-            path.write_bytes(text)
-            path.chmod(spool.MODE)
-            self.refused("it ")
-
-    def test_a_part_stays_until_it_is_old(self):
-        part = self.path / ".part"
-        part.touch()
-        self.assertEqual(self.spool.take(), [])
-        self.assertTrue(part.exists())
-        with mock.patch("time.time", lambda: time.time_ns() / 1e9 + 2 * spool.SECONDS_FOR_PART):
-            self.assertEqual(self.spool.take(), [])
-        self.assertFalse(part.exists())
 
 
 class PlacesTests(InFolder):
@@ -334,14 +205,17 @@ class ClientTests(InFolder):
 
 class CheckRunnerTests(InFolder):
     def start(self, command, seconds=20):
-        arguments = [sys.executable, str(RUNNER), str(seconds), str(self.room / "output"), str(self.room / "verdict"), command]
-        return subprocess.Popen(arguments, cwd=self.room, stdin=subprocess.PIPE, start_new_session=True)
+        arguments = [sys.executable, str(RUNNER), str(seconds), str(self.room / "output"), "/bin/sh", "-c", command]
+        return subprocess.Popen(arguments, cwd=self.room, stdin=subprocess.PIPE, stdout=subprocess.PIPE, start_new_session=True)
 
     def verdict_of(self, command, **more):
         process = self.start(command, **more)
+        # Its end kills it with its group, and its input stays open until then.
+        said = process.stdout.read()
         self.assertEqual(process.wait(30), -signal.SIGKILL)
         process.stdin.close()
-        verdict = json.loads((self.room / "verdict").read_text(encoding="utf-8"))
+        process.stdout.close()
+        verdict = json.loads(said)
         return verdict["state"], verdict["said"], (self.room / "output").read_bytes()
 
     def test_verdicts(self):
@@ -383,7 +257,8 @@ class CheckRunnerTests(InFolder):
             time.sleep(0.02)
         process.stdin.close()
         self.assertEqual(process.wait(10), -signal.SIGKILL)
-        self.assertFalse((self.room / "verdict").exists())
+        self.assertEqual(process.stdout.read(), b"")
+        process.stdout.close()
         self.wait_until_gone()
 
     def wait_until_gone(self):
@@ -407,112 +282,6 @@ class ChecksTests(InFolder):
         self.assertEqual(list(self.room.iterdir()), [])
 
 
-class RepositoryTests(InFolder):
-    """A repository with a main branch at `base`, two heads that merge, one that conflicts with the first, and one that stands alone."""
-
-    def setUp(self):
-        super().setUp()
-        self.repository = Repository(self.room / "project.git", "main")
-        subprocess.run(["git", "init", "--quiet", "--bare", str(self.repository.path)], check=True, timeout=30)
-        self.base = self.commit({"a": "1\n"})
-        self.one = self.commit({"a": "1\n", "b": "2\n"}, self.base)
-        self.two = self.commit({"a": "1\n", "c": "3\n"}, self.base)
-        self.clash = self.commit({"a": "1\n", "b": "9\n"}, self.base)
-        self.alone = self.commit({"d": "4\n"})
-        self.repository.ask("update-ref", "refs/heads/main", self.base)
-
-    def write(self, text, *arguments):
-        """Has git write an object, and gives its name."""
-        command = ["git", "-C", str(self.repository.path), *arguments]
-        return subprocess.run(command, input=text.encode(), capture_output=True, check=True, timeout=30).stdout.decode().strip()
-
-    def commit(self, files, *parents):
-        lines = [f"100644 blob {self.write(text, 'hash-object', '-w', '--stdin')}\t{name}\n" for name, text in files.items()]
-        given = [it for parent in parents for it in ("-p", parent)]
-        return self.repository.ask("commit-tree", self.write("".join(lines), "mktree"), *given, "-m", "x", dates=7).strip()
-
-    def order(self, *heads):
-        numbered = [[number, head] for number, head in enumerate(heads, 1)]
-        return {"order": "stage", "batch": 3, "branch": "staging", "base": self.base, "heads": numbered}
-
-    def test_a_batch_becomes_one_commit_which_is_the_same_when_it_is_made_again(self):
-        made = self.repository.stage(self.order(self.one, self.two), 5).commit
-        self.assertEqual(self.repository.ask("rev-list", "--parents", "-n", "1", made).split(), [made, self.base, self.one, self.two])
-        self.assertEqual(self.repository.ask("ls-tree", "--name-only", made).split(), ["a", "b", "c"])
-        self.assertEqual(self.repository.branches()["refs/heads/staging"], made)
-        self.assertEqual(self.repository.stage(self.order(self.one, self.two), 5).commit, made)
-        self.assertNotEqual(self.repository.stage(self.order(self.two, self.one), 5).commit, made)
-
-    def test_the_base_is_the_one_that_is_named(self):
-        self.repository.ask("update-ref", "refs/heads/main", self.two)
-        made = self.repository.stage(self.order(self.one), 5).commit
-        self.assertEqual(self.repository.ask("ls-tree", "--name-only", made).split(), ["a", "b"])
-
-    def test_what_the_base_has_already_becomes_a_commit_too(self):
-        self.assertNotIn(self.repository.stage(self.order(self.base), 5).commit, (None, self.base))
-
-    def test_branches_have_any_name_that_git_takes(self):
-        for name in ("refs/heads/a\u2028b", "refs/heads/a\u0085b"):
-            self.repository.ask("update-ref", name, self.one)
-            self.assertEqual(self.repository.branches()[name], self.one)
-
-    def test_conflicts(self):
-        found = self.repository.stage(self.order(self.one, self.clash), 5)
-        self.assertEqual((found.commit, found.conflicting, found.why), (None, 2, "both change b"))
-        found = self.repository.stage(self.order(self.alone), 5)
-        self.assertEqual((found.commit, found.conflicting, found.why), (None, 1, "it has no commit in common with the main branch"))
-
-    def test_a_missing_head_is_no_conflict(self):
-        with self.assertRaisesRegex(GitFailed, "change 1 isn't in the repository"):
-            self.repository.stage(self.order("1" * 40), 5)
-
-    def test_the_worktrees_of_others_are_not_forgotten(self):
-        own, others = self.room / "own", self.room / "others"
-        for folder in (own, others):
-            folder.mkdir()
-            for name in ("here", "gone"):
-                self.repository.add_worktree(folder / name, self.base, 60)
-            (folder / "gone").rename(self.room / f"{folder.name}-elsewhere")
-        self.repository.forget_worktrees(own)
-        lines = self.repository.ask("worktree", "list", "--porcelain").splitlines()
-        for path, is_known in ((own / "here", True), (own / "gone", False), (others / "here", True), (others / "gone", True)):
-            self.assertEqual(f"worktree {path}" in lines, is_known, path)
-
-    def test_landing_compares(self):
-        made = self.repository.stage(self.order(self.one), 5).commit
-        land = {"order": "land", "batch": 3, "base": self.base, "commit": made}
-        self.repository.ask("update-ref", "refs/heads/main", self.two)
-        self.assertFalse(self.repository.land(land))
-        self.assertEqual(self.repository.branches()["refs/heads/main"], self.two)
-        self.repository.ask("update-ref", "refs/heads/main", self.base)
-        self.assertTrue(self.repository.land(land))
-        # The second attempt fails, and the look says that the first one didn't.
-        self.assertTrue(self.repository.land(land))
-        self.assertEqual(self.repository.branches()["refs/heads/main"], made)
-        self.repository.ask("update-ref", "-d", "refs/heads/main")
-        self.assertFalse(self.repository.land(land))
-
-    def test_a_command_has_a_limit(self):
-        (self.room / "git").write_text("#!/bin/sh\nsleep 60\n", encoding="utf-8")
-        (self.room / "git").chmod(0o755)
-        with mock.patch.dict(os.environ, PATH=f"{self.room}:{os.environ['PATH']}"):
-            with self.assertRaisesRegex(GitFailed, "took more than"):
-                self.repository.run("status", seconds=0.2)
-
-    def test_a_file_is_added_to_main(self):
-        self.repository.add_to_main("bors.toml", "x", self.room)
-        made = self.repository.branches()["refs/heads/main"]
-        self.assertEqual(self.repository.ask("rev-list", "--parents", "-n", "1", made).split(), [made, self.base])
-        self.assertEqual([self.repository.text_at(made, name, 9) for name in ("a", "bors.toml")], ["1\n", "x"])
-
-    def test_texts(self):
-        self.assertEqual(self.repository.text_at(self.base, "a", 2), "1\n")
-        self.assertIsNone(self.repository.text_at(self.base, "a", 1))
-        self.assertIsNone(self.repository.text_at(self.base, "bors.toml", 9))
-        folder = self.write(f"040000 tree {self.repository.ask('rev-parse', f'{self.base}^{{tree}}').strip()}\tbors.toml\n", "mktree")
-        self.assertIsNone(self.repository.text_at(folder, "bors.toml", 9))
-
-
 class EndingTests(unittest.TestCase):
     def test_what_ends_with_the_host_has_no_result(self):
         # It has no checks, so whoever asks for one fails.
@@ -523,7 +292,7 @@ class EndingTests(unittest.TestCase):
             self.addCleanup(signal.signal, number, signal.getsignal(number))
         found = []
         # It has nothing else, so it fails right behind.
-        host = SimpleNamespace(must_belong_together=lambda: found.append(signal.getsignal(signal.SIGHUP)), end=lambda *_: None)
+        host = SimpleNamespace(look_into_repository=lambda: found.append(signal.getsignal(signal.SIGHUP)), end=lambda *_: None)
         for was in (signal.SIG_IGN, signal.SIG_DFL):
             signal.signal(signal.SIGHUP, was)
             with self.assertRaises(AttributeError):

@@ -1,0 +1,108 @@
+"""What the promise of the host rests on, looked at one by one, for `gate-host doctor`."""
+import os
+import sqlite3
+import sys
+import time
+from contextlib import closing
+from dataclasses import dataclass
+from pathlib import Path
+from typing import Iterator, List
+
+import words
+from bot_file import lacks_answers
+from hook import SCRIPT, hook_command
+from inspection import findings
+from journal import Journal
+from marks import mark_is_strong
+from places import Places, Trouble, name_of_repository
+from repository import BRANCHES
+from sandbox import sandbox_of
+from setting_up import is_for_all, python_for_all
+from settings import Settings, read_roles, read_settings
+
+# A lock of git's that is older was left by a git that has died.
+SECONDS_OF_LOCK = 60
+# What the report of the queue says of a host that runs.
+TROUBLE = "trouble: "
+
+
+@dataclass(frozen=True)
+class Checked:
+    """What was looked at, and what to do if it isn't right."""
+
+    is_right: bool
+    said: str
+
+
+def checks_of(places: Places, is_running: bool) -> List[Checked]:
+    """All that can be looked at without disturbing a host that runs."""
+    try:
+        settings = read_settings(places.settings, os.geteuid())
+        read_roles(places.roles, os.geteuid())
+        name_of_repository(places)
+    except Trouble as fault:
+        return [Checked(False, str(fault))]
+    return [
+        Checked(True, "settings, roles and folders are the owner's alone"),
+        *in_repository(places, settings), *locks_of(places, settings), *in_system(places, settings), *in_records(places, is_running),
+        *(told_by_host(places) if is_running else [Checked(False, f"no host runs; gate-host run {places.repository} starts one")]),
+    ]
+
+
+def in_repository(places: Places, settings: Settings) -> List[Checked]:
+    found = findings(places, settings, hook_command())
+    if found:
+        return [Checked(False, finding.said) for finding in found]
+    return [Checked(True, f"{settings.main} has one name, the hook guards it, and git reads the objects that are named")]
+
+
+def locks_of(places: Places, settings: Settings) -> Iterator[Checked]:
+    """Files that git leaves if it dies, and that keep the host from moving a branch."""
+    names = [f"{BRANCHES}{name}.lock" for name in (settings.main, settings.staging, settings.trying)] + ["packed-refs.lock"]
+    for path in (places.repository / name for name in names):
+        if path.exists() and path.stat().st_mtime < time.time() - SECONDS_OF_LOCK:
+            yield Checked(False, f"{path} is a lock of git's that has stood for long; if no git runs there, remove it")
+
+
+def in_system(places: Places, settings: Settings) -> Iterator[Checked]:
+    is_built = os.access(settings.program, os.X_OK)
+    yield Checked(is_built, f"the program of the bot is {settings.program}" + ("" if is_built else ", and isn't there; build it"))
+    for path in (SCRIPT, Path(python_for_all())):
+        is_right = is_for_all(path)
+        yield Checked(is_right, f"{path} can be run by {'all' if is_right else 'some alone, and the hook needs that of whoever pushes'}")
+    try:
+        sandbox = sandbox_of(settings)
+        yield Checked(sandbox.is_on or settings.sandbox == "off", f"checks run {sandbox.said}")
+    except Trouble as fault:
+        yield Checked(False, str(fault))
+    is_strong = mark_is_strong(places.spool)
+    said = "has marks of files that no copy has" if is_strong else "has no marks of files that nobody can foretell"
+    yield Checked(is_strong, f"the file system of {places.spool} {said}")
+    yield Checked(sys.version_info >= (3, 9) and sqlite3.sqlite_version_info >= (3, 37), "Python and SQLite are new enough")
+
+
+def in_records(places: Places, is_running: bool) -> Iterator[Checked]:
+    """What the journal tells. A host that runs holds the bot's file, and has compared it."""
+    path = places.records / "journal.db"
+    if not path.exists():
+        yield Checked(True, "the host hasn't run yet, so there are no records")
+        return
+    with closing(Journal(path)) as journal:
+        for move in journal.strays():
+            yield Checked(False, words.stray(move))
+        if not is_running:
+            try:
+                is_behind = bool(journal.count_answered()) and lacks_answers(places, journal)
+                said = "is behind the journal; the host brings it up to date" if is_behind else "has all answers of the journal"
+                yield Checked(True, f"the bot's file {said}")
+            except (Trouble, sqlite3.Error) as fault:
+                yield Checked(False, str(fault))
+
+
+def told_by_host(places: Places) -> Iterator[Checked]:
+    """What a host that runs is troubled by."""
+    yield Checked(True, "a host runs")
+    queue = places.reports / "queue"
+    for line in queue.read_text(encoding="utf-8").splitlines() if queue.exists() else []:
+        if line.startswith(TROUBLE):
+            yield Checked(False, line[len(TROUBLE):])

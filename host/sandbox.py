@@ -1,0 +1,95 @@
+"""The sandbox in which a check runs: bubblewrap's. Without it a check can do what the owner of the repository can."""
+import os
+import shutil
+import subprocess
+from dataclasses import dataclass
+from functools import lru_cache
+from pathlib import Path
+from typing import Iterator, List, Tuple
+
+from places import Places, Trouble
+from settings import Settings
+
+# What of the system a check sees. It can't write there.
+OF_SYSTEM = ("/usr", "/bin", "/sbin", "/lib", "/lib32", "/lib64", "/libx32", "/etc", "/opt", "/nix")
+# Where the clone stands for a check.
+CLONE = "/checkout"
+
+
+@dataclass(frozen=True)
+class Sandbox:
+    """How checks run: the words before their command, and a sentence for whoever starts the host."""
+
+    is_on: bool
+    said: str
+
+
+@lru_cache(maxsize=None)
+def why_not() -> str:
+    """Why no check can run in bubblewrap here, or nothing if one can."""
+    if shutil.which("bwrap") is None:
+        return "bubblewrap isn't installed"
+    try:
+        ran = subprocess.run(
+            ["bwrap", *UNSHARED, "--ro-bind", "/", "/", "--proc", "/proc", "--dev", "/dev", "true"], stdin=subprocess.DEVNULL,
+            capture_output=True, timeout=60, check=False,
+        )
+    except (OSError, subprocess.TimeoutExpired) as fault:
+        return f"bubblewrap can't be run: {fault}"
+    return "" if ran.returncode == 0 else f"bubblewrap can't be used: {ran.stderr.decode(errors='replace').strip()}"
+
+
+# A check sees no process but its own, has no rights of root, and what it has started ends with it.
+UNSHARED = ("--unshare-all", "--die-with-parent", "--new-session", "--cap-drop", "ALL")
+
+
+def sandbox_of(settings: Settings) -> Sandbox:
+    """Whether checks run in the sandbox. If it is required and can't be had, that is a trouble."""
+    if settings.sandbox == "off":
+        return Sandbox(False, "without a sandbox, as the settings say: they can do what the owner of the repository can")
+    why = why_not()
+    if not why:
+        network = "with" if settings.sandbox_network else "without"
+        return Sandbox(True, f"in a sandbox, {network} network")
+    if settings.sandbox == "required":
+        raise Trouble(f"checks have to run in a sandbox, and {why}")
+    return Sandbox(False, f"without a sandbox, since {why}: they can do what the owner of the repository can")
+
+
+def words_before(places: Places, settings: Settings, clone: Path, scratch: Path) -> List[str]:
+    """The words that have a command run in the sandbox, in its clone. What is bound later lies over what was bound before."""
+    words = ["bwrap", *UNSHARED, *(["--share-net"] if settings.sandbox_network else []), "--proc", "/proc", "--dev", "/dev"]
+    for path in (*OF_SYSTEM, *network_files(settings), *settings.sandbox_reads):
+        words += ["--ro-bind-try", path, path]
+    for path, is_folder in hidden_files():
+        words += ["--tmpfs", path] if is_folder else ["--ro-bind", "/dev/null", path]
+    for path in settings.sandbox_writes:
+        words += ["--bind-try", path, path]
+    # The guarded repository may stand below one of these.
+    objects = str(places.mirror / "objects")
+    words += ["--tmpfs", str(places.repository), "--ro-bind", objects, objects, "--remount-ro", str(places.repository)]
+    words += ["--bind", str(scratch), "/tmp", "--bind", str(clone), CLONE, "--chdir", CLONE, "--setenv", "HOME", "/tmp"]
+    return words
+
+
+def network_files(settings: Settings) -> Tuple[str, ...]:
+    """The folder of the file that /etc/resolv.conf names, if the network is given."""
+    resolver = Path("/etc/resolv.conf")
+    return (str(resolver.resolve().parent),) if settings.sandbox_network and resolver.is_symlink() else ()
+
+
+@lru_cache(maxsize=None)
+def hidden_files() -> Tuple[Tuple[str, bool], ...]:
+    """What of /etc root alone may read, if the host runs as root: a check isn't to read it."""
+    return tuple(unreadable_in("/etc")) if os.geteuid() == 0 else ()
+
+
+def unreadable_in(folder: str) -> Iterator[Tuple[str, bool]]:
+    for entry in os.scandir(folder):
+        if entry.is_symlink():
+            continue
+        is_folder, mode = entry.is_dir(), entry.stat().st_mode
+        if (is_folder and mode & 0o005 != 0o005) or (entry.is_file() and not mode & 0o004):
+            yield entry.path, is_folder
+        elif is_folder:
+            yield from unreadable_in(entry.path)

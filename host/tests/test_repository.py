@@ -1,0 +1,349 @@
+"""Tests of what the host asks of git, and of what it finds in a guarded repository."""
+import os
+import subprocess
+import sys
+import tempfile
+import threading
+import time
+import unittest
+from pathlib import Path
+from unittest import mock
+
+sys.path.insert(0, str(Path(__file__).resolve().parent.parent))
+
+from git import GitFailed, ask_git, run_git  # noqa: E402
+from hook import hook_command  # noqa: E402
+from inspection import findings  # noqa: E402
+from places import Places, pointed_to  # noqa: E402
+from repository import KEPT, NOTHING, Repository  # noqa: E402
+from settings import FIRST_SETTINGS, settings_in  # noqa: E402
+
+SETTINGS = settings_in(FIRST_SETTINGS.format(main="main", staging="staging", trying="trying", program="/gate", may_push="", checks=""))
+
+
+class InRepository(unittest.TestCase):
+    """A repository with a main branch at `base`, two heads that merge, one that conflicts with the first, and one that stands alone."""
+
+    def setUp(self):
+        room = tempfile.TemporaryDirectory()
+        self.addCleanup(room.cleanup)
+        self.room = Path(room.name)
+        self.path = self.room / "project.git"
+        subprocess.run(["git", "init", "--quiet", "--bare", "--initial-branch=main", str(self.path)], check=True, timeout=30)
+        self.places = Places(self.path)
+        self.places.records.mkdir(parents=True)
+        self.base = self.commit({"a": "1\n"})
+        self.one = self.commit({"a": "1\n", "b": "2\n"}, self.base)
+        self.two = self.commit({"a": "1\n", "c": "3\n"}, self.base)
+        self.clash = self.commit({"a": "1\n", "b": "9\n"}, self.base)
+        self.alone = self.commit({"d": "4\n"})
+        self.git("update-ref", "refs/heads/main", self.base)
+        self.repository = Repository(self.places, "main")
+
+    def git(self, *arguments, given=""):
+        """What git writes of the guarded repository, as somebody else runs it."""
+        command = ["git", "-C", str(self.path), *arguments]
+        return subprocess.run(command, input=given.encode(), capture_output=True, check=True, timeout=30).stdout.decode().strip()
+
+    def commit(self, files, *parents):
+        lines = [f"100644 blob {self.git('hash-object', '-w', '--stdin', given=text)}\t{name}\n" for name, text in files.items()]
+        given = [it for parent in parents for it in ("-p", parent)]
+        author = ["-c", "user.name=x", "-c", "user.email=x@localhost"]
+        return self.git(*author, "commit-tree", self.git("mktree", given="".join(lines)), *given, "-m", "x")
+
+    def order(self, *heads):
+        numbered = [[number, head] for number, head in enumerate(heads, 1)]
+        return {"order": "stage", "batch": 3, "branch": "staging", "base": self.base, "heads": numbered}
+
+    def made(self, *heads):
+        return self.repository.merge_batch(self.order(*heads), 5).commit
+
+
+class MergeTests(InRepository):
+    def test_a_batch_becomes_one_commit_which_is_the_same_when_it_is_made_again(self):
+        made = self.made(self.one, self.two)
+        self.assertEqual(self.repository.ask("rev-list", "--parents", "-n", "1", made).split(), [made, self.base, self.one, self.two])
+        self.assertEqual(self.repository.ask("ls-tree", "--name-only", made).split(), ["a", "b", "c"])
+        self.assertEqual(self.made(self.one, self.two), made)
+        self.assertNotEqual(self.made(self.two, self.one), made)
+
+    def test_the_base_is_the_one_that_is_named(self):
+        self.git("update-ref", "refs/heads/main", self.two)
+        self.assertEqual(self.repository.ask("ls-tree", "--name-only", self.made(self.one)).split(), ["a", "b"])
+
+    def test_what_the_base_has_already_becomes_a_commit_too(self):
+        self.assertNotIn(self.made(self.base), (None, self.base))
+
+    def test_conflicts(self):
+        found = self.repository.merge_batch(self.order(self.one, self.clash), 5)
+        self.assertEqual((found.commit, found.conflicting, found.why), (None, 2, "both change b"))
+        found = self.repository.merge_batch(self.order(self.alone), 5)
+        self.assertEqual((found.commit, found.conflicting, found.why), (None, 1, "it has no commit in common with the main branch"))
+
+    def test_a_missing_head_is_no_conflict(self):
+        with self.assertRaisesRegex(GitFailed, f"{'1' * 40} can't be read whole"):
+            self.made("1" * 40)
+
+    def test_a_merge_sees_no_other_object_than_the_one_that_is_named(self):
+        """By whatever git would take another one for it."""
+        due = self.made(self.one)
+        self.git("replace", self.one, self.two)
+        (self.path / "info").mkdir(exist_ok=True)
+        (self.path / "info/grafts").write_text(f"{self.two}\n", encoding="utf-8")
+        for name in ("GIT_REPLACE_REF_BASE", "GIT_GRAFT_FILE", "GIT_DIR", "GIT_CONFIG_PARAMETERS", "GIT_OBJECT_DIRECTORY"):
+            with mock.patch.dict(os.environ, {name: str(self.path)}):
+                self.assertEqual(self.made(self.one), due, name)
+        fresh = Places(self.path)
+        fresh.mirror.rename(self.room / "mirror")
+        self.assertEqual(Repository(fresh, "main").merge_batch(self.order(self.one), 5).commit, due)
+
+    def test_a_file_that_was_altered_is_not_fetched(self):
+        blob = self.git("rev-parse", f"{self.one}:b")
+        other = self.git("hash-object", "-w", "--stdin", given="other\n")
+        place = self.path / "objects" / blob[:2] / blob[2:]
+        place.unlink()
+        place.write_bytes((self.path / "objects" / other[:2] / other[2:]).read_bytes())
+        self.assertEqual(list(self.repository.fetch({"change/1": self.one, "change/2": self.two})), ["change/1"])
+        self.assertTrue(self.repository.has_fetched("change/2", self.two))
+
+    def test_what_is_forgotten_stays(self):
+        self.assertEqual(self.repository.fetch({"change/1": self.one}), {})
+        self.repository.forget(["change/1", "change/2"])
+        self.assertFalse(self.repository.has_fetched("change/1", self.one))
+        self.assertEqual(self.repository.ask("cat-file", "-t", self.one), "commit\n")
+
+    def test_packs_are_put_together(self):
+        self.repository.fetch({"change/1": self.one, "change/2": self.two})
+        self.repository.tidy(lambda name: True)
+        self.assertNotIn("count: 0\n", self.repository.ask("count-objects", "-v"))
+        with mock.patch("repository.MOST_LOOSE", 0):
+            # What has no name is put into a pack if there is one already.
+            for _ in range(2):
+                self.repository.tidy(lambda name: name == "change/1")
+        self.assertIn("count: 0\n", self.repository.ask("count-objects", "-v"))
+        for commit, is_named in ((self.one, True), (self.two, False)):
+            self.assertEqual(self.repository.ask("cat-file", "-t", commit), "commit\n")
+            self.assertEqual(self.repository.has_fetched("change/1", commit) or self.repository.has_fetched("change/2", commit), is_named)
+
+    def test_texts(self):
+        self.repository.fetch({"main": self.base})
+        self.assertEqual(self.repository.text_at(self.base, "a", 2), "1\n")
+        self.assertIsNone(self.repository.text_at(self.base, "a", 1))
+        self.assertIsNone(self.repository.text_at(self.base, "bors.toml", 9))
+        folder = self.commit_of_folder("bors.toml")
+        self.repository.fetch({"main": folder})
+        self.assertIsNone(self.repository.text_at(folder, "bors.toml", 9))
+
+    def commit_of_folder(self, name):
+        tree = self.git("mktree", given=f"040000 tree {self.git('rev-parse', f'{self.base}^{{tree}}')}\t{name}\n")
+        return self.git("-c", "user.name=x", "-c", "user.email=x", "commit-tree", tree, "-m", "x")
+
+
+class MoveTests(InRepository):
+    def test_branches_have_any_name_that_git_takes(self):
+        for name in ("refs/heads/a\u2028b", "refs/heads/a\u0085b"):
+            self.git("update-ref", name, self.one)
+            self.assertEqual(self.repository.branches()[name], self.one)
+
+    def test_staging_keeps_what_is_somebody_elses(self):
+        made = self.made(self.one)
+        self.assertIsNone(self.repository.stage("staging", made, None, True))
+        self.assertEqual(self.git("rev-parse", "staging"), made)
+        again = self.made(self.two)
+        self.assertIsNone(self.repository.stage("staging", again, made, True))
+        self.git("update-ref", "refs/heads/staging", self.one)
+        self.assertEqual(self.repository.stage("staging", made, self.one, False), f"{KEPT}staging/{self.one}")
+        self.assertEqual(self.git("rev-parse", f"{KEPT}staging/{self.one}"), self.one)
+        with self.assertRaisesRegex(GitFailed, "refs/heads/staging can't be moved"):
+            self.repository.stage("staging", again, self.two, True)
+
+    def test_landing_compares(self):
+        made = self.made(self.one)
+        land = {"order": "land", "batch": 3, "base": self.base, "commit": made}
+        self.git("update-ref", "refs/heads/main", self.two)
+        self.assertFalse(self.repository.land(land))
+        self.assertEqual(self.git("rev-parse", "main"), self.two)
+        self.git("update-ref", "refs/heads/main", self.base)
+        self.assertTrue(self.repository.land(land))
+        # The second attempt fails, and the look says that the first one didn't.
+        self.assertTrue(self.repository.land(land))
+        self.git("update-ref", "refs/heads/main", self.commit({"a": "5\n"}, made))
+        self.assertTrue(self.repository.land(land))
+        self.git("update-ref", "-d", "refs/heads/main")
+        self.assertFalse(self.repository.land(land))
+
+    def test_a_landing_that_git_cannot_do_is_no_refusal(self):
+        land = {"order": "land", "batch": 3, "base": self.base, "commit": self.made(self.one)}
+        lock = self.path / "refs/heads/main.lock"
+        lock.touch()
+        with self.assertRaisesRegex(GitFailed, "refs/heads/main can't be moved: .*main.lock"):
+            self.repository.land(land)
+        lock.unlink()
+        self.assertTrue(self.repository.land(land))
+
+    def test_no_landing_is_judged_while_a_git_of_before_runs(self):
+        """A git that the host has started keeps the lock, whatever becomes of the host."""
+        land = {"order": "land", "batch": 3, "base": self.base, "commit": self.made(self.one)}
+        script = '#!/bin/sh\n[ "$1" != push ] || { touch "$0.began"; sleep 1; }\nPATH=$REST\nexec git "$@"\n'
+        (self.room / "git").write_text(script, encoding="utf-8")
+        (self.room / "git").chmod(0o755)
+        with mock.patch.dict(os.environ, PATH=f"{self.room}:{os.environ['PATH']}", REST=os.environ["PATH"]):
+            first = threading.Thread(target=self.repository.land, args=(land,))
+            first.start()
+            while not (self.room / "git.began").exists():
+                time.sleep(0.01)
+            with self.assertRaisesRegex(GitFailed, "may still move refs/heads/main"):
+                self.repository.land(land)
+            first.join()
+        self.assertTrue(self.repository.land(land))
+
+    def test_a_command_has_a_limit(self):
+        (self.room / "git").write_text("#!/bin/sh\nsleep 60\n", encoding="utf-8")
+        (self.room / "git").chmod(0o755)
+        with mock.patch.dict(os.environ, PATH=f"{self.room}:{os.environ['PATH']}"):
+            with self.assertRaisesRegex(GitFailed, "took more than"):
+                run_git(self.places.mirror, "status", seconds=0.2)
+
+    def test_a_file_is_added_to_main(self):
+        made = self.repository.commit_with("bors.toml", "x", self.base)
+        self.repository.move_main(made, self.base)
+        self.assertEqual(self.git("rev-list", "--parents", "-n", "1", "main").split(), [made, self.base])
+        self.assertEqual([self.repository.text_at(made, name, 9) for name in ("a", "bors.toml")], ["1\n", "x"])
+        with self.assertRaisesRegex(GitFailed, "can't be moved"):
+            self.repository.move_main(self.repository.commit_with("x", "y", self.base), self.base)
+
+    def test_a_branch_gets_another_name(self):
+        self.git("update-ref", "refs/heads/staging", self.one)
+        self.git("pack-refs", "--all")
+        self.repository.rename("refs/heads/staging", "refs/heads/other")
+        self.assertEqual(self.repository.branches(), {"refs/heads/main": self.base, "refs/heads/other": self.one})
+
+    def test_what_is_shared_stays_shared(self):
+        self.git("config", "core.sharedRepository", "group")
+        old = os.umask(0o022)
+        self.addCleanup(os.umask, old)
+        repository = Repository(self.places, "main")
+        repository.stage("staging", self.made(self.one), None, True)
+        self.assertEqual((self.path / "refs/heads/staging").stat().st_mode & 0o060, 0o060)
+
+    def test_moves_are_logged_if_the_repository_says_so(self):
+        for value, is_logged in (("false", False), ("true", True)):
+            self.git("config", "core.logAllRefUpdates", value)
+            Repository(self.places, "main").stage("staging", self.made(self.one), None, True)
+            self.assertEqual((self.path / "logs/refs/heads/staging").exists(), is_logged)
+            self.git("update-ref", "-d", "refs/heads/staging")
+
+    def test_a_clone_has_no_way_back(self):
+        made, clone = self.made(self.one), self.room / "clone"
+        self.assertIsNone(self.repository.check_out(made, clone, 60))
+        self.assertEqual(sorted(it.name for it in clone.iterdir()), [".git", "a", "b"])
+        for arguments in (("update-ref", "refs/heads/main", made), ("tag", "x"), ("config", "x.y", "z"), ("gc", "--quiet")):
+            subprocess.run(["git", "-C", str(clone), *arguments], check=True, timeout=30)
+        self.assertEqual(subprocess.run(["git", "-C", str(clone), "remote"], capture_output=True, timeout=30).stdout, b"")
+        self.assertEqual(self.git("rev-parse", "main"), self.base)
+        self.assertEqual(self.git("for-each-ref", "--format=%(refname)"), "refs/heads/main")
+        self.assertEqual(self.repository.ask("cat-file", "-t", made), "commit\n")
+        self.assertIn("1111", self.repository.check_out("1" * 40, self.room / "other", 60))
+
+
+class InspectionTests(InRepository):
+    def setUp(self):
+        super().setUp()
+        self.hook = self.path / "hooks/pre-receive"
+        self.hook.write_text(f"#!/bin/sh\nexec python3 {hook_command()}\n", encoding="utf-8")
+        self.hook.chmod(0o755)
+
+    def found(self, *words, is_grave):
+        """One thing is found, and said with these words."""
+        found = findings(self.places, SETTINGS, hook_command())
+        self.assertEqual([it.is_grave for it in found], [is_grave], found)
+        for word in words:
+            self.assertIn(word, found[0].said)
+
+    def test_a_sound_repository(self):
+        self.assertEqual(findings(self.places, SETTINGS, hook_command()), [])
+        self.git("config", "core.hooksPath", "hooks")
+        self.git("pack-refs", "--all")
+        self.git("update-ref", "refs/heads/change/7", self.one)
+        self.assertEqual(findings(self.places, SETTINGS, hook_command()), [])
+
+    def test_settings_of_git(self):
+        for name, value, word, is_grave in (
+            ("core.hooksPath", "/elsewhere", "core.hooksPath", True), ("core.bare", "false", "no bare repository", True),
+            ("extensions.objectFormat", "sha256", "SHA-1", True), ("extensions.refStorage", "reftable", "in another way", True),
+            ("filter.a.b.smudge", "evil", "filter.a.b.smudge", False), ("remote.x.uploadpack", "evil", "remote.x.uploadpack", False),
+            ("extensions.partialClone", "x", "extensions.partialclone", False), ("core.sshCommand", "x", "core.sshcommand", False),
+        ):
+            config = (self.path / "config").read_bytes()
+            ask_git(None, "config", "--file", str(self.path / "config"), name, value)
+            self.found(word, is_grave=is_grave)
+            (self.path / "config").write_bytes(config)
+
+    def test_settings_that_are_included(self):
+        (self.path / "more").write_text("[core]\n    hooksPath = /elsewhere\n", encoding="utf-8")
+        self.git("config", "include.path", str(self.path / "more"))
+        self.found("core.hooksPath", is_grave=True)
+
+    def test_hooks(self):
+        self.hook.chmod(0o644)
+        self.found("can't be executed", is_grave=True)
+        self.hook.write_text("#!/bin/sh\n", encoding="utf-8")
+        self.hook.chmod(0o755)
+        self.found("doesn't run gate-host", is_grave=True)
+        self.hook.unlink()
+        self.found("isn't there", is_grave=True)
+
+    def test_names(self):
+        self.git("symbolic-ref", "HEAD", "refs/heads/other")
+        self.found("HEAD names refs/heads/other", is_grave=False)
+        self.git("symbolic-ref", "HEAD", "refs/heads/main")
+        for name, target, is_grave in (("master", "main", True), ("staging", "main", True), ("x", "trying", True), ("x", "y", False)):
+            self.git("symbolic-ref", f"refs/heads/{name}", f"refs/heads/{target}")
+            self.found(f"refs/heads/{name} is another name of refs/heads/{target}", is_grave=is_grave)
+            self.git("symbolic-ref", "--delete", f"refs/heads/{name}")
+        (self.path / "refs/heads/master").symlink_to("refs/heads/main")
+        self.found("refs/heads/master is another name of refs/heads/main", is_grave=True)
+
+    def test_names_in_the_way(self):
+        for name, branch in (("trying/x", "trying"), ("staging/a/b", "staging"), ("change", "change/1")):
+            for is_packed in (False, True):
+                self.git("update-ref", f"refs/heads/{name}", self.one)
+                if is_packed:
+                    self.git("pack-refs", "--all")
+                self.found(f"refs/heads/{name} is in the way of the branch {branch}", is_grave=False)
+                self.git("update-ref", "-d", f"refs/heads/{name}")
+
+    def test_what_git_reads_besides(self):
+        self.git("replace", self.one, self.two)
+        self.found("refs/replace", is_grave=False)
+        self.git("pack-refs", "--all")
+        self.found("refs/replace", is_grave=False)
+        self.git("replace", "--delete", self.one)
+        for name, is_grave in (("info/grafts", False), ("objects/info/alternates", False), ("info/attributes", False), ("shallow", True)):
+            path = self.path / name
+            path.parent.mkdir(exist_ok=True)
+            path.write_text("\n", encoding="utf-8")
+            self.found(name, is_grave=is_grave)
+            path.unlink()
+
+    def test_links(self):
+        (self.path / "logs").symlink_to(self.room)
+        self.found("logs is a symbolic link", is_grave=False)
+
+
+class ReferenceTests(InRepository):
+    def test_where_references_point(self):
+        self.assertEqual(pointed_to(self.path, "HEAD"), (self.base, "refs/heads/main"))
+        self.assertEqual(pointed_to(self.path, "refs/heads/none"), (None, "refs/heads/none"))
+        self.git("pack-refs", "--all")
+        self.assertEqual(pointed_to(self.path, "refs/heads/main"), (self.base, "refs/heads/main"))
+        self.git("symbolic-ref", "refs/heads/a", "refs/heads/b")
+        self.git("symbolic-ref", "refs/heads/b", "refs/heads/a")
+        self.assertIsNone(pointed_to(self.path, "refs/heads/a")[0])
+        (self.path / "refs/heads/odd").write_text("x" * 40, encoding="utf-8")
+        self.assertEqual(pointed_to(self.path, "refs/heads/odd"), (None, "refs/heads/odd"))
+        self.assertNotEqual(pointed_to(self.path, "refs/heads/main")[0], NOTHING)
+
+
+if __name__ == "__main__":
+    unittest.main()

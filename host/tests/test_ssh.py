@@ -1,0 +1,695 @@
+"""Tests of what people may ask for over ssh: as tables, and with a real sshd and the commands of docs/host.md. `.ci/test_gate_host` runs
+them.
+
+The real sshd has its own keys and settings, and a free port of this machine. Its account is the user who runs the tests. It takes from
+clients the variables that it shouldn't, so that what keeps them out is the host alone. The tests with it need sshd, ssh and the built
+program, which is the one that GATE_PROGRAM names, or else the one in crates/gate_bot/out. Without these they are skipped, and say so.
+"""
+import io
+import os
+import pwd
+import re
+import shlex
+import shutil
+import socket
+import subprocess
+import sys
+import tempfile
+import time
+import unittest
+from concurrent.futures import ThreadPoolExecutor
+from contextlib import redirect_stderr
+from pathlib import Path
+from unittest import mock
+
+TESTS = Path(__file__).resolve().parent
+TOP = TESTS.parent.parent
+sys.path[:0] = [str(TESTS.parent), str(TESTS)]
+
+import ssh_command  # noqa: E402
+from loop import MOST_IN_COMMENT  # noqa: E402
+from places import Places  # noqa: E402
+from setting_up import make_folders  # noqa: E402
+from stories import ENVIRONMENT  # noqa: E402
+
+PAGE = TOP / "docs/host.md"
+HEADING = "## All pushes through one account\n"
+PROGRAM = Path(os.environ.get("GATE_PROGRAM") or TOP / "crates/gate_bot/out/gate_bot")
+ACCOUNT = pwd.getpwuid(os.geteuid()).pw_name
+# sshd isn't on the PATH of most users.
+SSHD = shutil.which("sshd", path=f"{os.environ['PATH']}:/usr/sbin:/usr/local/sbin:/sbin")
+SSH, KEYGEN, SCP, SFTP = (shutil.which(name) for name in ("ssh", "ssh-keygen", "scp", "sftp"))
+SECONDS = 60
+
+NOTHING_ELSE = "this account runs git and gate-host say, queue, change and log, and no other command"
+NO_REPOSITORY = "there is no such repository here, but "
+ONE_PATH = " takes the path of a repository here, and nothing else"
+OPEN_QUOTE = "a quote in it isn't closed"
+OF_SAY = "ask for it as gate-host say CHANGE [TEXT] [--head COMMIT], if need be with --repository NAME. A text in which a word"
+OF_QUEUE = "ask for it as gate-host queue, if need be with --repository NAME"
+OF_CHANGE = "ask for it as gate-host change NUMBER, if need be with --repository NAME"
+OF_LOG = "ask for it as gate-host log NUMBER [--all], if need be with --repository NAME"
+HEAD = "0123456789" * 4
+
+
+class Executed(Exception):
+    """Git would now be in the place of the process."""
+
+
+class AskedTests(unittest.TestCase):
+    """What is asked for, and what is then run or refused. No process is started."""
+
+    def setUp(self):
+        room = tempfile.TemporaryDirectory()
+        self.addCleanup(room.cleanup)
+        self.room = Path(os.path.realpath(room.name))
+        self.home, self.project, self.own = self.room / "home", self.room / "srv/project.git", self.room / "home/own.git"
+        for repository in (self.project, self.own):
+            (repository / "hooks").mkdir(parents=True)
+            (repository / "hooks/pre-receive").touch(0o755)
+            make_folders(Places(repository))
+        (self.home / "link.git").symlink_to(self.project)
+        (self.home / "up").symlink_to(self.project.parent)
+        self.addCleanup(os.umask, os.umask(0o077))
+        variables = mock.patch.dict(os.environ, {"HOME": str(self.home)})
+        variables.start()
+        self.addCleanup(variables.stop)
+        self.ran = None
+
+    def execute(self, program, words, environment):
+        self.ran = ([program == words[0], *words], environment)
+        raise Executed
+
+    def do_job(self, words):
+        said = [sys.stdin.read()] if words[0] == "say" else []
+        self.ran = ([*words, *said], dict(os.environ))
+        return 0
+
+    def ask(self, asked, given=b"", who="Alice", repositories=None):
+        """What comes of it: the status, and either the command of git, the words of a job with its text, or the refusal."""
+        self.ran = None
+        named = [self.project] if repositories is None else repositories
+        said = io.StringIO()
+        stdin = io.TextIOWrapper(io.BytesIO(given), encoding="utf-8")
+        with mock.patch.dict(os.environ), mock.patch("os.execvpe", self.execute), mock.patch("commands.main", self.do_job), \
+                mock.patch("sys.stdin", stdin), redirect_stderr(said):
+            try:
+                status = ssh_command.serve(who, named, asked)
+            except Executed:
+                status = None
+        return status, self.ran[0] if self.ran else said.getvalue()
+
+    def refused(self, asked, why, **more):
+        """Nothing is run, and one line says why."""
+        status, said = self.ask(asked, **more)
+        self.assertEqual(status, 1, asked)
+        self.assertIsInstance(said, str, asked)
+        self.assertTrue(said.startswith(f"gate-host: {why}"), f"{asked!r} is refused by {said}")
+        self.assertEqual(said.count("\n"), 1, said)
+
+    def runs_git(self, asked, service, repository=None, **more):
+        place = str(repository or self.project)
+        words = {
+            "receive-pack": ["-c", f"core.hooksPath={place}/hooks", "receive-pack", place],
+            "upload-pack": ["upload-pack", "--strict", place],
+            "upload-archive": ["upload-archive", place],
+        }
+        self.assertEqual(self.ask(asked, **more), (None, [True, "git", "--no-replace-objects", *words[service]]), asked)
+
+    def runs_job(self, asked, *words, repository=None, **more):
+        job, *rest = words
+        self.assertEqual(self.ask(asked, **more), (0, [job, "--repository", str(repository or self.project), *rest]), asked)
+
+    # Git
+
+    def test_services_of_git_are_run(self):
+        for service in ("receive-pack", "upload-pack", "upload-archive"):
+            for asked in (f"git-{service} 'project.git'", f"git {service} project.git", f"  git-{service}\t\"project.git\" "):
+                self.runs_git(asked, service)
+
+    def test_paths_that_mean_a_repository(self):
+        place = str(self.project)
+        for path in (place, f"{place}/", f"/{place}", place.replace("/", "//./"), "project.git"):
+            self.runs_git(f"git-upload-pack '{path}'", "upload-pack")
+        both = [self.project, self.own]
+        for path in ("own.git", "~/own.git", "./own.git/", "~//own.git", str(self.own)):
+            self.runs_git(f"git-receive-pack '{path}'", "receive-pack", self.own, repositories=both)
+        self.runs_git("git-upload-pack project.git", "upload-pack", repositories=both)
+
+    def test_a_repository_that_is_named_by_a_link(self):
+        """It is found by both paths, and what is opened is where it leads."""
+        for path in ("link.git", "~/link.git", str(self.home / "link.git"), str(self.project)):
+            self.runs_git(f"git-receive-pack {path}", "receive-pack", repositories=[self.home / "link.git"])
+
+    def test_a_home_that_is_a_link(self):
+        (self.room / "elsewhere").symlink_to(self.home)
+        with mock.patch.dict(os.environ, {"HOME": str(self.room / "elsewhere")}):
+            for named in (self.own, self.room / "elsewhere/own.git"):
+                self.runs_git("git-upload-pack ./own.git", "upload-pack", self.own, repositories=[named])
+            self.runs_git("git-upload-pack ./link.git", "upload-pack", repositories=[self.room / "elsewhere/link.git"])
+
+    def test_paths_that_mean_none(self):
+        place = str(self.project)
+        for path in (
+            "", "/", ".", "~", "~/", "..", "own.git", str(self.own), f"{place}/..", f"{place}/../project.git", f"{place}/hooks",
+            f"{place}.", "../srv/project.git", "~/../srv/project.git", "up/project.git", "~/up/project.git", "link.git", "project",
+            "project.git\n", "\nproject.git", "project.git\n-x", f"~{ACCOUNT}/project.git", "*", "$HOME/own.git", "/etc", "PROJECT.GIT",
+            "\ud800", "x" * 9000,
+        ):
+            self.refused(f"git-upload-pack {shlex.quote(path)}", f"{NO_REPOSITORY}{place}")
+            self.refused(f"gate-host queue --repository {shlex.quote(path)}", f"{NO_REPOSITORY}{place}")
+
+    def test_a_last_name_that_two_have_means_none(self):
+        other = self.room / "other/project.git"
+        shutil.copytree(self.project, other)
+        both = [self.project, other]
+        self.refused("git-upload-pack project.git", NO_REPOSITORY, repositories=both)
+        self.runs_git(f"git-upload-pack {other}", "upload-pack", other, repositories=both)
+        self.runs_git("git-upload-pack project.git", "upload-pack", repositories=[self.project, self.project])
+
+    def test_a_path_from_the_home_folder_goes_before_a_last_name(self):
+        other = self.room / "other/own.git"
+        shutil.copytree(self.own, other)
+        for both in ([self.own, other], [other, self.own]):
+            self.runs_git("git-upload-pack own.git", "upload-pack", self.own, repositories=both)
+
+    def test_git_takes_nothing_but_a_path(self):
+        for service in ("receive-pack", "upload-pack", "upload-archive"):
+            for more in (
+                "", "project.git; sh", "project.git ; sh", "project.git && sh", "project.git project.git", "--stateless-rpc project.git",
+                "--upload-pack='sh -c id' project.git", "-- project.git", "--help", "-project.git", "--advertise-refs", "project.git -q",
+            ):
+                self.refused(f"git-{service} {more}", f"git {service}{ONE_PATH}")
+        for path in ("`id`", "'$(id)'", "project.git;sh", "project.git|sh", "project.git>x", "project.git\nsh", "project.git\rsh"):
+            self.refused(f"git-receive-pack {path}", NO_REPOSITORY)
+
+    def test_other_commands_are_refused(self):
+        for asked in (
+            "sh", "bash -i", "git", "git push", "git -c core.hooksPath=/dev/null receive-pack project.git", "git --version", "git-shell",
+            "git git-receive-pack project.git", "git-git receive-pack project.git", "gate-host", "gate-host gate-host queue",
+            "gate-host git-receive-pack project.git", "gate-host run project.git", "gate-host init project.git", "gate-host hook",
+            "gate-host ssh eve project.git", "gate-host --help", "gate-host -h", "-h", "--", "''", "'' sh", "scp -t /tmp", "internal-sftp",
+            "/usr/lib/openssh/sftp-server", "/usr/bin/git-receive-pack project.git", "GL_USER=eve git-receive-pack project.git",
+            "exec git-receive-pack project.git", "git-upload-pack\nproject.git", "git-receive-packproject.git", "Say 1 x", "#", "\\", "'",
+            "git-lfs-authenticate project.git upload", "git-http-backend", "git daemon", "x" * 16384,
+        ):
+            self.refused(asked, OPEN_QUOTE if asked in ("\\", "'") else NOTHING_ELSE)
+
+    def test_what_is_too_long_is_refused(self):
+        self.refused("git-upload-pack " + "x" * 16384, "what is asked for has more than 16384 characters")
+        self.refused("say 1 " + "'" * 20000, "what is asked for has more than 16384 characters")
+
+    def test_what_does_not_split_is_refused(self):
+        for asked in ("git-upload-pack 'project.git", 'say 1 "x', "say 1 I don't know", "say 1 x\\"):
+            self.refused(asked, OPEN_QUOTE)
+
+    # Jobs of gate-host
+
+    def test_jobs_are_run(self):
+        for before in ("", "gate-host "):
+            self.runs_job(f"{before}queue", "queue")
+            self.runs_job(f"{before}change 7", "change", "7")
+            self.runs_job(f"{before}log 4294967295", "log", "4294967295")
+            self.runs_job(f"{before}log --all 7", "log", "--all", "7")
+            self.runs_job(f"{before}log 7 --repository=project.git --all", "log", "--all", "7")
+
+    def test_what_is_said(self):
+        for asked, text in {
+            "say 1 'bors r+'": "bors r+",
+            "say 1 bors r+": "bors r+",
+            "gate-host say 1  bors   r+ ": "bors r+",
+            "say 1 'I like it\nbors r+'": "I like it\nbors r+",
+            "say 1 I like it\nbors r+": "I like it\nbors r+",
+            "say 1 bors r+; sh # $(id) `id`": "bors r+; sh # $(id) `id`",
+            "say 1 one - two": "one - two",
+            "say 1 '- one\n- two'": "- one\n- two",
+            "say 1 '--verbose is missing'": "--verbose is missing",
+            "say 1 '' x": " x",
+            "say 1 -  -": "- -",
+            "say 1 2": "2",
+            "say 1 gr\u00fc\u00df dich \u2713": "gr\u00fc\u00df dich \u2713",
+            # What isn't UTF-8 comes from the environment so.
+            "say 1 \udcff!": "\ufffd!",
+        }.items():
+            self.runs_job(asked, "say", "1", "-", text)
+        self.runs_job("say 1 " + "x" * 16000, "say", "1", "-", "x" * 16000)
+
+    def test_what_is_said_comes_on_standard_input(self):
+        for asked in ("say 1", "gate-host say 1 -", "say --repository project.git 1"):
+            self.runs_job(asked, "say", "1", "-", "--x\n'y\u2713'\n", given="--x\n'y\u2713'\n".encode())
+            self.runs_job(asked, "say", "1", "-", "-", given=b"-")
+            self.runs_job(asked, "say", "1", "-", "a\ufffd\x00b", given=b"a\xff\x00b")
+            self.refused(asked, "there is no text to say", given=b" \n")
+
+    def test_no_more_is_read_than_a_comment_may_have(self):
+        status, ran = self.ask("say 1", given=b"x" * 1_000_000)
+        self.assertEqual((status, len(ran[-1])), (0, 4 * MOST_IN_COMMENT + 1))
+        _, ran = self.ask("say 1", given="\U0001f600".encode() * MOST_IN_COMMENT)
+        self.assertEqual(ran[-1], "\U0001f600" * MOST_IN_COMMENT)
+
+    def test_a_head_is_named_anywhere(self):
+        for asked in (f"say --head {HEAD} 1 bors r+", f"say 1 --head={HEAD} bors r+", f"say 1 bors r+ --head {HEAD}"):
+            self.runs_job(asked, "say", "--head", HEAD, "1", "-", "bors r+")
+
+    def test_heads_that_are_none(self):
+        for head in ("", "x", HEAD[1:], HEAD + "0", HEAD.replace("1", "A"), f"{HEAD}\n", f"-{HEAD[1:]}", "--all", "\u0661" * 40):
+            self.refused(f"say 1 --head {shlex.quote(head)} x", "--head takes a commit")
+        self.refused("say 1 x --head", "--head takes a commit")
+
+    def test_words_that_are_not_in_the_list_are_refused(self):
+        for why, every in {
+            OF_SAY: (
+                "say", "say x", "say 0 x", "say -1 x", "say 01 x", "say 1_0 x", "say 1\nx y", "say '1 ' x", "say 12345678901 x",
+                "say \u0661 x", "say 1\u0661 x", "say 1 x --hea y", "say 1 x -h", "say 1 --help", "say 1 x --", "say 1 -- x", "say 1 -x",
+                "say 1 x --program=sh", "say 1 x --all", f"say 1 x --head {HEAD} --head {HEAD}",
+                "say --repository project.git --repository project.git 1 x",
+            ),
+            OF_QUEUE: ("queue 1", "queue --all", "queue --help", "queue -", "queue ''", "queue '- x'"),
+            OF_CHANGE: ("change", "change x", "change 1 2", "change -- 1", "change --all 1", "change 1 -", "change ../1", "change '1\n'"),
+            OF_LOG: ("log", "log 1 2", "log --all", "log 1 --all=x", "log 1 --all --all", "log 1 --al", "log --outputs 1", "log ../../1"),
+        }.items():
+            for asked in every:
+                self.refused(asked, why)
+                self.refused(f"gate-host {asked}", why)
+
+    def test_of_several_repositories_one_is_named(self):
+        both = [self.project, self.own]
+        for asked in ("queue", "log 1", "say 1 x"):
+            self.refused(asked, f"say by --repository which one you mean of {self.project}, {self.own}", repositories=both)
+        self.runs_job("queue --repository own.git", "queue", repository=self.own, repositories=both)
+        self.runs_job(f"say 1 --repository={self.project} x", "say", "1", "-", "x", repositories=both)
+        self.refused("queue --repository", NO_REPOSITORY, repositories=both)
+
+    # Who it is, and what surrounds it
+
+    def test_a_name_that_is_none_is_refused(self):
+        for who in ("", "al ice", "alice\n", "a" * 65, "../x", "al\u00efce"):
+            for asked in ("git-receive-pack project.git", "queue", ""):
+                self.refused(asked, "the command of your key names a person whose name the bot doesn't take", who=who)
+
+    def test_who_asks_for_nothing_is_told_so(self):
+        for asked in ("", " ", "\n\t"):
+            self.refused(asked, f"you are alice here. Clone, fetch and push {self.project}, or ask for gate-host say", repositories=None)
+
+    def test_the_environment_is_made_anew(self):
+        sent = {
+            "GL_USER": "eve", "GIT_DIR": "/x", "GIT_CONFIG_COUNT": "1", "GIT_TRACE": "/x", "GIT_EXEC_PATH": "/x",
+            "GIT_PROTOCOL": "version=2", "LD_PRELOAD": "/x", "PYTHONPATH": "/x", "BASH_ENV": "/x", "LC_ALL": "../x", "GATE_CHECK": "x",
+            "XDG_CONFIG_HOME": "/x", "PWD": "/x",
+        }
+        kept = {"HOME": str(self.home), "PATH": "/bin", "LOGNAME": "git", "USER": "git", "SSH_CLIENT": "::1 1 2", "SSH_CONNECTION": "::1"}
+        due = {**kept, "GL_USER": "alice", "LC_ALL": "C.UTF-8", "GIT_PROTOCOL": "version=2"}
+        for asked in ("git-receive-pack project.git", "git-upload-archive project.git", "queue", "say 1 x"):
+            with mock.patch.dict(os.environ, {**sent, **kept}, clear=True):
+                self.ask(asked)
+            self.assertEqual(self.ran[1], due)
+
+    def test_a_protocol_of_git_is_kept_if_it_is_one(self):
+        for value, is_kept in {
+            "version=0": True, "version=1": True, "version=2": True, "version=3": False, "": False, "version=2\n": False,
+            "version=2:x=y": False, "x:version=2": False, "version=22": False,
+        }.items():
+            with mock.patch.dict(os.environ, {"GIT_PROTOCOL": value}):
+                self.ask("git-upload-pack project.git")
+            self.assertEqual(self.ran[1].get("GIT_PROTOCOL"), value if is_kept else None)
+
+    def test_what_is_shown_is_in_utf_8(self):
+        """Whatever language the client has named."""
+        shown = io.TextIOWrapper(io.BytesIO(), encoding="ascii")
+        with mock.patch.dict(os.environ), mock.patch("commands.main", lambda _: print("\u2713")), mock.patch("sys.stdout", shown):
+            ssh_command.serve("alice", [self.project], "queue")
+            shown.flush()
+        self.assertEqual(shown.buffer.getvalue().decode(), "\u2713\n")
+
+    def test_files_that_are_made_can_be_read(self):
+        self.ask("queue")
+        self.assertEqual(os.umask(0o077), 0o022)
+
+    def test_a_repository_without_the_hook_is_not_pushed_to(self):
+        hook = self.project / "hooks/pre-receive"
+        for spoil in (lambda: hook.chmod(0o644), hook.unlink):
+            spoil()
+            self.refused("git-receive-pack project.git", f"{self.project} has no hook, so nobody pushes there")
+        self.runs_git("git-upload-pack project.git", "upload-pack")
+
+    def test_a_repository_of_somebody_else_is_not_written(self):
+        """There all would count as said by the account."""
+        with mock.patch("os.geteuid", lambda: os.getuid() + 1):
+            for asked in ("git-receive-pack project.git", "say 1 x"):
+                self.refused(asked, f"{self.project}/gate isn't yours")
+
+    def test_a_folder_that_others_may_write_is_not_written(self):
+        (self.project / "gate").chmod(0o777)
+        for asked in ("git-receive-pack project.git", "say 1 x"):
+            self.refused(asked, f"others may write {self.project}/gate")
+
+    def test_a_folder_that_is_not_there_is_not_written(self):
+        shutil.rmtree(self.project / "gate")
+        for asked in ("git-receive-pack project.git", "say 1 x"):
+            self.refused(asked, f"{self.project}")
+
+    def test_git_that_is_not_there_is_told(self):
+        said = io.StringIO()
+        with mock.patch.dict(os.environ, {"PATH": str(self.home)}), redirect_stderr(said):
+            self.assertEqual(ssh_command.serve("alice", [self.project], "git-upload-pack project.git"), 1)
+        self.assertIn("No such file", said.getvalue())
+
+
+# With a real sshd
+
+# The lines of the page that need root or a built clone. The test makes what they make.
+LEFT_OUT = (
+    "useradd --create-home --shell /bin/sh --password '*' git",
+    "install -d -o git -g git -m 700 /srv/project.git",
+    "gate/gate install /usr/local/lib/gate",
+    "systemctl enable --now gate-host",
+)
+PEOPLE = ("alice", "eve")
+# A key that the page doesn't have: one without `restrict`.
+FREE = "free"
+SETTINGS_OF_SSHD = """\
+ListenAddress 127.0.0.1:{port}
+HostKey {room}/host
+AuthorizedKeysFile {room}/home/.ssh/authorized_keys
+PidFile none
+UsePAM no
+StrictModes no
+PasswordAuthentication no
+KbdInteractiveAuthentication no
+PermitRootLogin forced-commands-only
+Subsystem sftp internal-sftp
+AllowTcpForwarding yes
+AllowAgentForwarding yes
+PermitTunnel yes
+PermitUserRC yes
+AcceptEnv GL_USER GIT_* LANG LC_* SSH_ORIGINAL_COMMAND
+SetEnv "HOME={room}/home" "PATH={path}"
+"""
+SETTINGS_OF_SSH = """\
+Host machine
+    HostName 127.0.0.1
+    Port {port}
+    IdentityFile {room}/{person}
+    IdentitiesOnly yes
+    IdentityAgent none
+    StrictHostKeyChecking no
+    UserKnownHostsFile /dev/null
+    LogLevel ERROR
+"""
+
+
+def missing():
+    """Why there can be no tests with a real sshd, or nothing."""
+    for what, found in (("sshd", SSHD), ("ssh", SSH), ("ssh-keygen", KEYGEN), ("scp", SCP), ("sftp", SFTP)):
+        if not found:
+            return f"{what} isn't installed"
+    return "" if os.access(PROGRAM, os.X_OK) else f"there is no built program {PROGRAM}"
+
+
+def blocks_of_page():
+    """The commands of the page: those that set it up, and those that people type."""
+    _, found, rest = PAGE.read_text(encoding="utf-8").partition(HEADING)
+    if not found:
+        raise AssertionError(f"{PAGE} has no heading {HEADING}")
+    setting_up, typed = re.findall(r"```sh\n(.*?)```", re.split(r"\n##? ", rest)[0], re.DOTALL)
+    return setting_up, typed
+
+
+class OverSsh(unittest.TestCase):
+    """A real sshd, and a host that guards a repository, set up by the commands of the page."""
+
+    @classmethod
+    def setUpClass(cls):
+        if missing():
+            print(f"no test with a real sshd: {missing()}", file=sys.stderr)
+            raise unittest.SkipTest(missing())
+        cls.room = Path(tempfile.mkdtemp())
+        cls.addClassCleanup(shutil.rmtree, cls.room, ignore_errors=True)
+        # sshd looks at the folder as another user before it believes who is there.
+        cls.room.chmod(0o755)
+        cls.repository, cls.home, cls.tools = cls.room / "srv/project.git", cls.room / "home", cls.room / "tools"
+        for name in ("srv", "home", "tools", "units", "people", "lib"):
+            (cls.room / name).mkdir()
+        cls.path = f"{Path(sys.executable).parent}:{os.environ['PATH']}"
+        cls.make_tool("su", f'HOME={cls.home} PATH="{cls.path}" exec sh -c "$3"')
+        cls.make_tool("ssh", f'exec {SSH} -F "{cls.room}/$PERSON.ssh" -o User={ACCOUNT} "$@"')
+        for name in ("host", FREE, *PEOPLE):
+            cls.must_run(KEYGEN, "-q", "-t", "ed25519", "-N", "", "-C", name, "-f", cls.room / name)
+        cls.set_up()
+        cls.start_sshd()
+        cls.start_host()
+
+    @classmethod
+    def make_tool(cls, name, text):
+        path = cls.tools / name
+        path.write_text(f"#!/bin/sh\n{text}\n", encoding="utf-8")
+        path.chmod(0o755)
+
+    @classmethod
+    def must_run(cls, *command, **more):
+        ran = cls.run_it(*command, **more)
+        if ran.returncode != 0:
+            raise AssertionError(f"{command} ends with {ran.returncode}: {ran.stdout}{ran.stderr}")
+        return ran.stdout
+
+    @classmethod
+    def run_it(cls, *command, person="alice", at=None, given="", more=()):
+        """Runs a command on the machine of a person, to its end."""
+        environment = {
+            **ENVIRONMENT, "PATH": f"{cls.tools}:{cls.path}", "PERSON": person, "GIT_AUTHOR_NAME": person, "GIT_COMMITTER_NAME": person,
+            **dict(more),
+        }
+        return subprocess.run(
+            [str(it) for it in command], env=environment, cwd=at or cls.room / "people", input=given, capture_output=True,
+            encoding="utf-8", timeout=SECONDS, check=False,
+        )
+
+    @classmethod
+    def set_up(cls):
+        """Types the commands of the page on the machine, with other paths, and with the keys of people in it."""
+        lines = blocks_of_page()[0].splitlines()
+        if [line for line in lines if line in LEFT_OUT] != list(LEFT_OUT):
+            raise AssertionError(f"the page hasn't these lines, each once and in this order: {LEFT_OUT}")
+        text = "\n".join(line for line in lines if line not in LEFT_OUT)
+        for name in PEOPLE:
+            key = (cls.room / f"{name}.pub").read_text(encoding="utf-8").strip()
+            text = cls.changed(text, f"ssh-ed25519 AAAA... {name}", key)
+        for before, after in (("/usr/local/lib/gate", "lib"), ("/srv/", "srv/"), ("/etc/systemd/system", "units")):
+            text = cls.changed(text, before, f"{cls.room}/{after}")
+        (cls.room / "gate").symlink_to(TOP)
+        shutil.copy2(PROGRAM, cls.room / "lib/gate")
+        cls.must_run("bash", "-e", "-c", text, at=cls.room)
+        with open(cls.home / ".ssh/authorized_keys", "a", encoding="utf-8") as keys:
+            keys.write('command="false" ' + (cls.room / f"{FREE}.pub").read_text(encoding="utf-8"))
+        settings = cls.repository / "gate/settings"
+        kept = cls.changed(settings.read_text(encoding="utf-8"), "tick_seconds = 10\n", "tick_seconds = 0.4\n")
+        settings.write_text(cls.changed(kept, "look_seconds = 1\n", "look_seconds = 0.2\n"), encoding="utf-8")
+
+    @staticmethod
+    def changed(text, before, after):
+        if before not in text:
+            raise AssertionError(f"there is no {before} in {text}")
+        return text.replace(before, after)
+
+    @classmethod
+    def start_sshd(cls):
+        """Starts sshd on a free port. If somebody takes that meanwhile, on another one."""
+        if os.geteuid() == 0:
+            # Here the part of sshd that strangers speak to is locked in.
+            Path("/run/sshd").mkdir(mode=0o755, exist_ok=True)
+        for _ in range(5):
+            with socket.create_server(("127.0.0.1", 0)) as server:
+                cls.port = server.getsockname()[1]
+            cls.write_settings()
+            cls.start("sshd.log", SSHD, "-D", "-e", "-f", cls.room / "sshd")
+            cls.comes_about(lambda: re.search("Server listening|Cannot bind", cls.log_of("sshd")))
+            if "Server listening" in cls.log_of("sshd"):
+                return
+        raise AssertionError(f"sshd doesn't start: {cls.log_of('sshd')}")
+
+    @classmethod
+    def write_settings(cls):
+        given = {"room": cls.room, "port": cls.port, "path": cls.path}
+        (cls.room / "sshd").write_text(SETTINGS_OF_SSHD.format(**given), encoding="utf-8")
+        for name in (FREE, *PEOPLE):
+            (cls.room / f"{name}.ssh").write_text(SETTINGS_OF_SSH.format(person=name, **given), encoding="utf-8")
+
+    @classmethod
+    def log_of(cls, name):
+        return (cls.room / f"{name}.log").read_text(encoding="utf-8", errors="replace")
+
+    @classmethod
+    def start_host(cls):
+        """Starts the host by the line of the unit that the page has put to the others."""
+        unit = (cls.room / "units/gate-host.service").read_text(encoding="utf-8")
+        line = re.search(r"^ExecStart=(.*)$", unit, re.MULTILINE)[1]
+        command = shlex.split(cls.changed(cls.changed(line, "/usr/local/lib/gate", f"{cls.room}/lib"), "/srv/", f"{cls.room}/srv/"))
+        cls.start("host.log", *command)
+
+    @classmethod
+    def start(cls, log, *command):
+        """Starts what runs beside the tests. It ends with them, even if they are killed, since a pipe ends then."""
+        words = ["sh", "-c", '"$@" & read -r _; kill $!; wait $!', "sh", *(str(it) for it in command)]
+        environment = {"HOME": str(cls.home), "PATH": cls.path}
+        with open(cls.room / log, "wb") as said:
+            process = subprocess.Popen(words, env=environment, stdin=subprocess.PIPE, stdout=said, stderr=said)
+        cls.addClassCleanup(process.wait, SECONDS)
+        cls.addClassCleanup(process.stdin.close)
+
+    @classmethod
+    def comes_about(cls, is_so):
+        late = time.monotonic() + SECONDS
+        while not is_so():
+            if time.monotonic() > late:
+                return False
+            time.sleep(0.05)
+        return True
+
+    # What people do
+
+    def ssh(self, *words, person="alice", **more):
+        return self.run_it("ssh", "git@machine", *words, person=person, **more)
+
+    def log_says(self, change, *texts):
+        """Waits until the log of a change has these texts."""
+        report = self.repository / f"gate/reports/log-{change}"
+
+        def is_so():
+            found = report.read_text(encoding="utf-8") if report.exists() else ""
+            return all(it in found for it in texts)
+        if not self.comes_about(is_so):
+            self.fail(f"the log of change {change} doesn't come to say {texts}: {self.log_of('host')}\n{self.log_of('sshd')}")
+
+    def commit(self, person):
+        """A new clone with a commit."""
+        place = Path(tempfile.mkdtemp(dir=self.room / "people"))
+        self.must_run("git", "clone", "--quiet", "git@machine:project.git", place, person=person)
+        (place / "greeting").write_text(f"hello from {place}\n", encoding="utf-8")
+        self.must_run("git", "add", "greeting", at=place)
+        self.must_run("git", "commit", "--quiet", "-m", "A greeting", at=place, person=person)
+        return place
+
+    def push(self, person, change, **more):
+        """A commit in a new clone, pushed as a change."""
+        place = self.commit(person)
+        self.must_run("git", "push", "--quiet", "origin", f"HEAD:change/{change}", at=place, person=person, **more)
+        return place
+
+    def main(self):
+        return self.must_run("git", "--git-dir", self.repository, "rev-parse", "main").strip()
+
+    def no_way_to_main(self, place, *words, more=()):
+        """A push to the main branch moves nothing. What is said of it is given."""
+        before = self.main()
+        ran = self.run_it("git", "push", *words, "origin", "HEAD:main", at=place, person="eve", more=more)
+        self.assertNotEqual(ran.returncode, 0, ran.stderr)
+        self.assertEqual(self.main(), before)
+        return ran.stderr
+
+    # What becomes of it
+
+    def test_the_commands_of_the_page_land_a_change(self):
+        *commands_typed, last = blocks_of_page()[1].splitlines()
+        self.must_run("bash", "-e", "-c", "\n".join(commands_typed))
+        self.log_says(1, "Landed on main")
+        shown = self.must_run("bash", "-e", "-c", last)
+        self.assertEqual(shown.count("alice wrote:\n    > bors r+\n"), 1, shown)
+        self.assertIn("  Landed on main as ", shown)
+
+    def test_who_pushes_is_the_author_and_a_reviewer_approves(self):
+        place = self.push("eve", 2)
+        said = self.ssh("say", "2", "'bors r+'", person="eve")
+        self.assertEqual((said.returncode, said.stdout.split(" of ")[0]), (0, "said by eve"), said.stderr)
+        self.log_says(2, "eve wrote:\n    > bors r+\n", "gate: denied, that needs more rights than you have")
+        self.assertIn("author    eve\n", self.must_run("ssh", "git@machine", "gate-host", "change", "2", person="eve"))
+        self.assertIn("2", self.must_run("ssh", "git@machine", "queue"))
+        for head, ends in (("0" * 40, 1), (self.must_run("git", "rev-parse", "HEAD", at=place).strip(), 0)):
+            said = self.ssh("gate-host", "say", "2", "--head", head, "-", given="looks good\nbors r+\n")
+            self.assertEqual(said.returncode, ends, said.stderr)
+        self.log_says(2, "alice wrote:\n    > looks good\n    > bors r+\n", "Landed on main")
+
+    def test_nobody_moves_main(self):
+        place = self.commit("eve")
+        self.assertIn("gate: main moves by the queue alone", self.no_way_to_main(place, "--force", "--no-verify"))
+        by_other = "--receive-pack=git -c core.hooksPath=/dev/null receive-pack"
+        self.assertIn(f"gate-host: {NOTHING_ELSE}", self.no_way_to_main(place, by_other))
+        self.assertIn(ONE_PATH, self.no_way_to_main(place, "--receive-pack=git-receive-pack --stateless-rpc"))
+
+    def test_no_setting_turns_the_hook_off(self):
+        """Neither one of the account or the repository, nor one that a client sends."""
+        place = self.commit("eve")
+        off = ("core.hooksPath", "/dev/null")
+        (self.home / ".gitconfig").write_text("[core]\n    hooksPath = /dev/null\n", encoding="utf-8")
+        self.must_run("git", "--git-dir", self.repository, "config", *off)
+        try:
+            said = self.no_way_to_main(place)
+        finally:
+            self.must_run("git", "--git-dir", self.repository, "config", "--unset", off[0])
+            (self.home / ".gitconfig").unlink()
+        self.assertIn("gate: main moves by the queue alone", said)
+        sent = f"SetEnv=GIT_CONFIG_COUNT=1 GIT_CONFIG_KEY_0={off[0]} GIT_CONFIG_VALUE_0={off[1]} GIT_TRACE={self.home}/trace"
+        said = self.no_way_to_main(place, more={"GIT_SSH_COMMAND": f"ssh -o {shlex.quote(sent)}"})
+        self.assertIn("gate: main moves by the queue alone", said)
+        # Git would have written this file.
+        self.assertFalse((self.home / "trace").exists())
+
+    def test_nobody_is_somebody_else(self):
+        more = {"GL_USER": "alice", "GIT_SSH_COMMAND": "ssh -o SendEnv=GL_USER"}
+        self.push("eve", 3, more=more)
+        said = self.run_it("ssh", "-o", "SendEnv=GL_USER", "git@machine", "say 3 hello", person="eve", more=more)
+        self.assertEqual((said.returncode, said.stdout.split(" of ")[0]), (0, "said by eve"), said.stderr)
+        report = self.repository / "gate/reports/change-3"
+        self.assertTrue(self.comes_about(report.exists))
+        self.assertIn("author    eve\n", report.read_text(encoding="utf-8"))
+
+    def test_other_commands_are_refused_there(self):
+        every = {
+            "sh": NOTHING_ELSE, "git-receive-pack project.git; sh": ONE_PATH, "$(sh)": NOTHING_ELSE,
+            "git-upload-pack --upload-pack='sh -c id' project.git": ONE_PATH, "git-receive-pack /etc": NO_REPOSITORY,
+            "git-upload-pack\nproject.git": NOTHING_ELSE, "gate-host ssh alice project.git": NOTHING_ELSE,
+            "git-receive-pack '": OPEN_QUOTE, "x" * 20000: "what is asked for has more",
+        }
+        with ThreadPoolExecutor(4) as threads:
+            for asked, ran in zip(every, threads.map(lambda asked: self.ssh(asked, person="eve"), every)):
+                self.assertEqual((ran.returncode, ran.stdout), (1, ""), asked)
+                self.assertIn(every[asked], ran.stderr)
+
+    def test_there_is_no_shell(self):
+        commands_typed = f"touch {self.home}/come-in\nexit 0\n"
+        for words, ends, said in (
+            ((), 1, "gate-host: you are eve here."), (("-tt",), 255, "PTY allocation request failed"),
+        ):
+            ran = self.run_it("ssh", "-o", "LogLevel=INFO", *words, "git@machine", given=commands_typed, person="eve")
+            self.assertEqual((ran.returncode, ran.stdout), (ends, ""), words)
+            self.assertIn(said, ran.stderr)
+        self.assertFalse((self.home / "come-in").exists())
+
+    def test_no_file_is_carried(self):
+        file, there = self.room / "people/file", self.home / "carried"
+        file.write_text("x", encoding="utf-8")
+        place = f"git@machine:{there}"
+        for tool, *words in ((SCP, file, place), (SCP, "-O", file, place), (SFTP, "-b", "-", "git@machine")):
+            ran = self.run_it(tool, "-S", self.tools / "ssh", *words, given=f"put {file} {there}\n", person="eve")
+            self.assertNotEqual(ran.returncode, 0)
+        self.assertFalse(there.exists())
+
+    def test_no_port_is_forwarded(self):
+        """Neither there nor back. This sshd forwards for a key without `restrict`."""
+        there = ("ssh", "-o", "LogLevel=INFO", "-W", f"127.0.0.1:{self.port}", "git@machine")
+        ran = self.run_it(*there, person="eve")
+        self.assertEqual((ran.returncode, ran.stdout), (255, ""))
+        self.assertIn("administratively prohibited", ran.stderr)
+        self.assertIn("SSH-2.0", self.run_it(*there, person="free").stdout)
+        back = self.run_it("ssh", "-N", "-o", "ExitOnForwardFailure=yes", "-R", "0:127.0.0.1:1", "git@machine", person="eve")
+        self.assertEqual(back.returncode, 255)
+        self.assertIn("forwarding failed", back.stderr)
+
+    def test_what_is_read_is_given(self):
+        """By git's own protocols, one of which is named by a variable, and by each way to name the repository."""
+        places = ("git@machine:project.git", f"ssh://git@machine{self.repository}", f"git@machine:{self.repository}/")
+        for version, place in zip("012", places):
+            ran = self.run_it("git", "-c", f"protocol.version={version}", "ls-remote", place, "main", more={"GIT_TRACE_PACKET": "1"})
+            self.assertTrue(ran.stdout.endswith("\trefs/heads/main\n"), ran.stderr)
+            self.assertEqual(f"ls-remote< version {version}" in ran.stderr, version != "0", ran.stderr)
+        archive = self.must_run("git", "archive", "--remote=git@machine:project.git", "main", "bors.toml", person="eve")
+        self.assertIn("status = ", archive)
