@@ -63,8 +63,7 @@ def add_jobs_of_owner(jobs) -> None:
     job = jobs.add_parser("run", help="guard a repository until a signal ends it", description=(
         "Starts the bot and guards the repository. SIGTERM ends it in order; killed in any other way, it goes on at the next start."))
     job.add_argument("repository", metavar="REPOSITORY")
-    job.add_argument("--again", action="store_true", help="hand the whole journal in again: an older copy of the bot's file was put back")
-
+    job.add_argument("--again", action="store_true", help="hand the whole journal in again, whatever the bot's file has")
 
     job = jobs.add_parser("doctor", help="say what is right with a repository and its host, and what to do", description=(
         "Looks at all that the promise of the host rests on: the hook, the branches, what git reads, the records, the sandbox. The status "
@@ -190,7 +189,7 @@ def say(arguments: argparse.Namespace) -> int:
     if not is_beginning(seen.lower(), head):
         raise Trouble(f"change/{arguments.change} is at {head} now, and you have looked at {seen}; fetch it, and look again")
     leave(places, {"kind": "comment", "person": who, "change": arguments.change, "text": text, "head": head})
-    print(f"said by {who} of change {arguments.change} at {head}; gate-host log {arguments.change} shows the answer")
+    print(f"said by {who} of change {arguments.change} of {places.repository} at {head}; gate-host log {arguments.change} shows the answer")
     if not any(COMMAND_LINE.match(line) for line in text.split("\n")):
         complain("this has no command; a line that begins with bors is one, as in 'bors r+'")
     if not is_running(places):

@@ -75,9 +75,8 @@ def in_system(places: Places, settings: Settings) -> Iterator[Checked]:
         yield Checked(sandbox.is_on or settings.sandbox == "off", f"checks run {sandbox.said}")
     except Trouble as fault:
         yield Checked(False, str(fault))
-    is_strong = mark_is_strong(places.spool)
-    said = "has marks of files that no copy has" if is_strong else "has no marks of files that nobody can foretell"
-    yield Checked(is_strong, f"the file system of {places.spool} {said}")
+    said = "nobody can foretell" if mark_is_strong(places.spool) else "can be foretold, so links in folders of others are best avoided"
+    yield Checked(True, f"the marks of files on the file system of {places.spool} {said}")
     yield Checked(sys.version_info >= (3, 9) and sqlite3.sqlite_version_info >= (3, 37), "Python and SQLite are new enough")
 
 

@@ -22,7 +22,7 @@ from places import Places, Trouble, must_be_safe, name_of_user
 from reports import Reports
 from repository import Branch, Merged, Repository, heads_of, listed
 from settings import read_roles, read_settings
-from spool import Note, Spool
+from spool import ROUNDS_FOR_ALL, Note, Spool
 
 PAUSE_SECONDS = 0.1
 # After a note of a push the branch may still have to move. So long each pause ends with a look.
@@ -75,7 +75,7 @@ class Host:
         self.clock_seen: Optional[Tuple[int, float]] = None
         # The heads of changes at the last look.
         self.heads: Dict[int, str] = {}
-        # In which round a move of the main branch was seen first.
+        # In which round a move of the main branch was seen first, that nobody has looked into yet.
         self.moves_since: Dict[str, int] = {}
         # How many rounds there were, and in which one a head was first seen of which no note tells who pushed it.
         self.rounds = 0
@@ -418,7 +418,7 @@ class Host:
         """Finds out who moved the main branch beside the host. A hook tells of that before the branch moves, so its note is there in the
         round after the move was seen."""
         for move in self.journal.unknown_moves():
-            if self.moves_since.get(move.target) == self.rounds:
+            if self.may_be_told_yet(self.moves_since.setdefault(move.target, self.rounds)):
                 continue
             person = self.mover_of(move)
             with self.journal.step():
@@ -473,12 +473,17 @@ class Host:
         """Opens a change for whoever pushed it. A hook tells of that before the branch moves, so its note is there in the next round at
         the latest. What no hook has told of is the owner's."""
         author = self.journal.pusher(change, head)
-        if author is None and self.unclaimed.setdefault((change, head), self.rounds) == self.rounds:
+        if author is None and self.may_be_told_yet(self.unclaimed.setdefault((change, head), self.rounds)):
             self.next_look = 0.0
             return
         self.unclaimed.pop((change, head), None)
         author = author or name_of_user(self.owner) or "nobody"
         self.deliver("opened", lambda: self.keep_head(change, head), change=change, author=author, head=head)
+
+    def may_be_told_yet(self, since: int) -> bool:
+        """Whether a note may still come of what was seen first in that round. It was left before, but a round takes only some notes of
+        each user. Whoever goes on leaving notes can hold that up, but not for ever."""
+        return since == self.rounds or (self.spool.has_more and self.rounds < since + ROUNDS_FOR_ALL)
 
     def keep_head(self, change: int, head: str) -> None:
         self.journal.set_change(change, "open", head)

@@ -1,10 +1,11 @@
 """Marks of files: words for what a file has from the kernel, and no copy of it has.
 
-Where the file system has handles, the mark is the handle of the file: the number of its inode, and a number that the kernel picks at
-random when it makes the file. So who prepares an archive can't say which mark its files will get. Where there are no handles, it is the
-inode with the time at which it was made, and where that isn't known either, the inode alone. Both are easier to foresee.
+If the file system has handles, the mark is the handle of the file: the number of its inode, and a number that the kernel picks at random
+when it makes the file. So nobody who prepares an archive can say which marks its files will get. If there are no handles, it is the inode
+with the time at which it was made, and if that isn't known either, the inode alone. Both are easier to foresee.
 
-Who sees a file while it is being written can ask for its mark. So a mark tells files that were prepared, and not who wrote them.
+Whoever sees a file can ask for its mark, also while the file is still being written. So a mark tells what was written beforehand, and
+not who wrote it.
 """
 import ctypes
 import errno
@@ -24,7 +25,7 @@ MOST_IN_HANDLE = 128
 NO_HANDLES = (errno.EOPNOTSUPP, errno.ENOSYS, errno.EINVAL, errno.EPERM)
 STATX_BTIME = 0x800
 BYTES_OF_STATX = 256
-# Where the time stands at which the file was made: seconds and their billionths.
+# The time at which the file was made stands there: seconds and their billionths.
 PLACE_OF_BIRTH = 80
 # So many files are made to see whether marks can be foreseen. Numbers that differ by no more than this were counted, or are the same.
 PROBES = 4

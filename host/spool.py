@@ -4,13 +4,13 @@ A note is an empty folder, and beside it a file with the text of the note, under
 the text. So who made the folder vouches for the text, and its owner is the one who left the note.
 
 Why a folder: whoever may write a folder can move each file in it to somewhere else, whoever's file it is. So a file that somebody made in
-another place, by unpacking an archive or for another repository, can be brought here by others. A folder can't: to put one into another
-folder, Linux wants that the one who moves it may write it. So a folder that its owner alone may write was put here by its owner.
+another place, by unpacking an archive or for another repository, can be brought here by others. A folder can't: Linux lets nobody move a
+folder into another one who may not write the folder itself. So a folder that its owner alone may write was put here by its owner.
 
-What is left are programs that write here for somebody who means another place, because a link leads them here. So:
+What is left is that a link leads somebody here who means another place. So:
 
-- The text names the repository for which it was left.
-- The text has the mark of its own file. Whoever prepares an archive can't know it.
+- The text names the repository for which it was left, and `leave` goes through no link.
+- The text has the mark of its own file, which nobody knows who prepares an archive.
 
 A note that is put back counts once, since its name is in the journal. What is no file, as a pipe, is opened without waiting, and refused.
 """
@@ -36,12 +36,14 @@ NAME = re.compile(r"[0-9]{20}-[0-9a-f]{32}")
 # The text is readable by the host, whoever writes it; and it has the sticky bit, which means nothing else on a file.
 MODE = 0o1644
 MOST_BYTES = 32768
-# So many notes of one user are taken in a round, so that nobody waits for the notes of somebody else. The owner is trusted with more:
-# where all come by ssh, what they say is the owner's.
+# So many notes of one user are taken in a round, so that nobody waits for the notes of somebody else. The owner is trusted with more: if
+# all come by ssh, what they say is the owner's.
 MOST_PER_USER = 10
 MOST_OF_OWNER = 500
 # So many names of one user may lie there. Those of the owner aren't counted.
 MOST_WAITING = 1000
+# After so many rounds each note has been taken that lay there before them, also if others have come meanwhile.
+ROUNDS_FOR_ALL = MOST_WAITING // MOST_PER_USER + 1
 # A name that begins with a dot and has no folder is a note that isn't whole yet. It stays so long.
 SECONDS_FOR_PART = 60
 # So long a round may look at names that are new, and so long it may remove what is no note. The rest is for the next round.
@@ -298,7 +300,7 @@ class Spool:
         if body.get("repository") != self.repository:
             raise Refused("it was left for another repository")
         if body.get("mark") != mark:
-            raise Refused("its text was written into another file than this, and is a copy")
+            raise Refused("its text is a copy: it was written for another file")
         return body
 
     def person_of(self, user: int, body: dict) -> str:

@@ -9,12 +9,14 @@ attacker's.
 """
 import hashlib
 import io
+import os
 import pwd
 import subprocess
 import tarfile
 import time
+from contextlib import suppress
 from pathlib import Path
-from typing import Dict, Tuple
+from typing import Dict, List, Tuple
 
 from stories import must, want
 from users import PYTHON, Village, as_user, in_bytes, make_folder
@@ -68,9 +70,9 @@ SECONDS_FOR_REVIEWER = 5
 # --- What the attacker makes
 
 
-def evil_repository(village: Village) -> Path:
+def evil_repository(village: Village, path: str = "evil.git") -> Path:
     """A repository of the attacker's, with its own folder for notes, and with the change of the project."""
-    evil = village.homes[village.attacker] / "evil.git"
+    evil = village.homes[village.attacker] / path
     village.must_git(village.attacker, village.room, "init", "--quiet", "--bare", "--initial-branch=main", evil)
     village.must_git(village.attacker, evil, "fetch", "--quiet", village.repository, "refs/heads/*:refs/heads/*")
     village.initialise(village.attacker, evil)
@@ -184,6 +186,44 @@ def attack_link_to_spool(village: Village) -> None:
     village.must_have_said_nothing()
 
 
+def attack_folder_becomes_link(village: Village) -> None:
+    """While the command of the reviewer looks at the attacker's repository, a folder above it becomes a link to that of the project. The
+    command waits meanwhile, since the head of the change is a pipe."""
+    attacker, home = village.attacker, village.homes[village.attacker]
+    make_folder(home / "above", attacker, 0o755)
+    evil = evil_repository(village, f"above/{village.repository.name}")
+    head = evil / "refs/heads/change/1"
+    village.must_run(attacker, "rm", head)
+    village.must_run(attacker, "mkfifo", head)
+    command = [PYTHON, str(village.host / "gate-host"), "say", "1", "bors r+", "--repository", str(evil)]
+    given = {**as_user(village.reviewer, village.room), "stdout": subprocess.DEVNULL, "stderr": subprocess.PIPE}
+    with subprocess.Popen(command, **given) as saying:
+        try:
+            pipe = opened_for_writing(village, head)
+            (home / "above").rename(home / "aside")
+            (home / "above").symlink_to(village.homes[village.owner])
+            os.write(pipe, f"{village.head}\n".encode())
+            os.close(pipe)
+            said = saying.communicate(timeout=60)[1]
+        finally:
+            saying.kill()
+    must(f"whether it came to the end with the head, by {said!r}", b"no branch" not in said)
+    village.must_have_said_nothing()
+
+
+def opened_for_writing(village: Village, pipe: Path) -> int:
+    """A pipe, as soon as somebody reads it."""
+    found: List[int] = []
+
+    def is_read() -> bool:
+        with suppress(OSError):
+            found.append(os.open(pipe, os.O_WRONLY | os.O_NONBLOCK))
+        return bool(found)
+
+    village.until("the command reads the head", is_read)
+    return found[0]
+
+
 # --- A file of the reviewer's with a text of the attacker's
 
 
@@ -288,6 +328,8 @@ def attack_flood(village: Village) -> None:
     given["env"]["PYTHONPATH"] = str(village.host)
     with subprocess.Popen(command, **given) as flooding:
         try:
+            # By then the bot has begun, which takes a while.
+            village.told("    > 0\n")
             village.must_say(village.reviewer, "bors r+")
             village.told(f"  {village.reviewer} wrote:\n    > bors r+", SECONDS_FOR_REVIEWER + 10 * calm)
             must("whether the flood goes on", flooding.poll() is None)
@@ -310,6 +352,6 @@ def attack_flood_in_the_name_of_the_reviewer(village: Village) -> None:
 
 
 ATTACKS = [
-    attack_moved_note, attack_moved_note_with_copied_identity, attack_link_to_folder, attack_link_to_spool, attack_archive, attack_copy,
-    attack_stream, attack_archive_through_link, attack_flood, attack_flood_in_the_name_of_the_reviewer,
+    attack_moved_note, attack_moved_note_with_copied_identity, attack_link_to_folder, attack_link_to_spool, attack_folder_becomes_link,
+    attack_archive, attack_copy, attack_stream, attack_archive_through_link, attack_flood, attack_flood_in_the_name_of_the_reviewer,
 ]

@@ -158,7 +158,7 @@ class SayTests(InRepository):
 
     def test_what_it_says(self):
         ran = self.say("bors r+")
-        self.assertEqual((ran.returncode, ran.stdout.split(" at ")[0]), (0, f"said by {MYSELF} of change 1"))
+        self.assertEqual((ran.returncode, ran.stdout.split(" at ")[0]), (0, f"said by {MYSELF} of change 1 of {self.path}"))
         self.assertIn("no host runs at present, so this waits", ran.stderr)
         self.assertNotIn("has no command", ran.stderr)
         self.assertNotIn("no program", ran.stderr)

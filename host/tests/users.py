@@ -78,7 +78,11 @@ class Village:
         self.process: Optional[subprocess.Popen] = None
         self.copy_host(program)
         self.make_repository()
-        self.start()
+        try:
+            self.start()
+        except Failed:
+            self.close()
+            raise
 
     def copy_host(self, program: Path) -> None:
         """Copies what others have to read: the tree of root may lie in a folder that they can't enter."""
