@@ -21,7 +21,7 @@ from git import GitFailed, clean_environment
 from journal import Test
 from places import Places, Trouble
 from repository import Repository
-from sandbox import Sandbox, sandbox_of, words_before
+from sandbox import Sandbox, environment_within, sandbox_of, words_before
 from settings import Settings
 
 RUNNER = Path(__file__).resolve().with_name("check_runner.py")
@@ -29,6 +29,8 @@ RUNNER = Path(__file__).resolve().with_name("check_runner.py")
 MOST_OUTPUTS = 500
 SECONDS_FOR_CLONE = 600
 RETRY_SECONDS = 5
+# What keeps a commit from being checked out and is no fault of it.
+OF_SYSTEM = (errno.ENOSPC, errno.EDQUOT, errno.EIO, errno.EMFILE, errno.ENFILE, errno.ENOMEM, errno.EROFS)
 
 
 @dataclass(frozen=True)
@@ -67,9 +69,11 @@ class Running:
 class Checks:
     """What is tested at present. The journal says what should be; after a start all checks without a result begin anew."""
 
-    def __init__(self, places: Places, repository: Repository, complain: Callable[[str], None]):
+    def __init__(self, places: Places, repository: Repository, bring: Callable[[Test], None], complain: Callable[[str], None]):
         self.places = places
         self.repository = repository
+        # What has a commit that is to be tested come into the mirror.
+        self.bring = bring
         self.complain = complain
         self.running: Dict[str, Running] = {}
         # When a check that couldn't be started is tried again.
@@ -114,8 +118,9 @@ class Checks:
         running = self.running[test.branch] = Running(test, self.places.clones / f"{test.branch}-{secrets.token_hex(4)}")
         for folder in (running.folder, running.scratch):
             folder.mkdir(mode=0o700)
+        self.bring(test)
         running.why_not = self.repository.check_out(test.commit, running.clone, SECONDS_FOR_CLONE)
-        if running.why_not and os.strerror(errno.ENOSPC) in running.why_not:
+        if running.why_not and any(os.strerror(fault) in running.why_not for fault in OF_SYSTEM):
             raise GitFailed(running.why_not)
         return running
 
@@ -129,9 +134,10 @@ class Checks:
             return
         is_within = sandbox_of(settings).is_on
         before = words_before(self.places, settings, running.clone, running.scratch) if is_within else []
+        environment = environment_within(environment_of(running)) if is_within else environment_of(running)
         command = [sys.executable, str(RUNNER), f"{settings.check_seconds:g}", str(self.places.outputs / running.output)]
         running.process = subprocess.Popen(
-            [*command, *before, "/bin/sh", "-c", settings.checks[name]], cwd=running.clone, env=environment_of(running),
+            [*command, *before, "/bin/sh", "-c", settings.checks[name]], cwd=running.clone, env=environment,
             stdin=subprocess.PIPE, stdout=subprocess.PIPE, start_new_session=True,
         )
 
@@ -172,9 +178,14 @@ class Checks:
 
 def remove_tree(path: Path) -> None:
     """Removes a folder with all that it has, also if some of it was made unwritable. What is of somebody else stays."""
-    for folder, _, _ in os.walk(path):
-        with suppress(OSError):
-            os.chmod(folder, 0o700)
+    with suppress(OSError):
+        os.chmod(path, 0o700)
+    for folder, names, _ in os.walk(path):
+        for name in names:
+            # A folder is listed after this.
+            if not os.path.islink(os.path.join(folder, name)):
+                with suppress(OSError):
+                    os.chmod(os.path.join(folder, name), 0o700)
     shutil.rmtree(path, ignore_errors=True)
 
 

@@ -8,10 +8,10 @@ from pathlib import Path
 from typing import List, Optional
 
 import ssh_command
-from doctor import checks_of
+from doctor import checks_of, stray_named
 from git import GitFailed
 from hook import before_push
-from loop import COMMAND_LINE, MOST_IN_COMMENT, Host, complain
+from loop import COMMAND_LINE, MOST_IN_COMMENT, Host, complain, is_locked
 from places import Places, Trouble, asked_of_git, find_places, must_be_safe, name_of_user, person_here, pointed_to
 from settings import read_settings
 from setting_up import PROGRAM, must_be_own, set_up
@@ -152,10 +152,11 @@ def look_after(arguments: argparse.Namespace) -> int:
     must_be_own(places.repository)
     must_be_safe(places)
     if arguments.accept:
-        leave(places, {"kind": "accept", "person": name_of_user(os.geteuid()), "commit": arguments.accept})
-        print(f"the host takes it that the move to {arguments.accept} was right" + ("" if is_running(places) else ", when it runs again"))
+        commit = stray_named(places, arguments.accept)
+        leave(places, {"kind": "accept", "person": name_of_user(os.geteuid()), "commit": commit})
+        print(f"the host takes it that the move to {commit} was right" + ("" if is_running(places) else ", when it runs again"))
         return 0
-    checked = checks_of(places, is_running(places))
+    checked = checks_of(places, is_locked(places))
     for check in checked:
         print(f"{'right' if check.is_right else 'WRONG'}: {plain(check.said)}")
     return 0 if all(check.is_right for check in checked) else 1

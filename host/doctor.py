@@ -10,7 +10,7 @@ from typing import Iterator, List
 
 import words
 from bot_file import lacks_answers
-from hook import SCRIPT, hook_command
+from hook import SCRIPT
 from inspection import findings
 from journal import Journal
 from marks import mark_is_strong
@@ -50,7 +50,7 @@ def checks_of(places: Places, is_running: bool) -> List[Checked]:
 
 
 def in_repository(places: Places, settings: Settings) -> List[Checked]:
-    found = findings(places, settings, hook_command())
+    found = findings(places, settings)
     if found:
         return [Checked(False, finding.said) for finding in found]
     return [Checked(True, f"{settings.main} has one name, the hook guards it, and git reads the objects that are named")]
@@ -96,6 +96,18 @@ def in_records(places: Places, is_running: bool) -> Iterator[Checked]:
                 yield Checked(True, f"the bot's file {said}")
             except (Trouble, sqlite3.Error) as fault:
                 yield Checked(False, str(fault))
+
+
+def stray_named(places: Places, named: str) -> str:
+    """The commit to which the main branch was moved by nobody who may, by the beginning of its name."""
+    path = places.records / "journal.db"
+    strays = []
+    if path.exists():
+        with closing(Journal(path)) as journal:
+            strays = [move.target for move in journal.strays() if move.target.startswith(named)]
+    if len(set(strays)) != 1:
+        raise Trouble(f"there is no move of the main branch to {named} that has to be accepted")
+    return strays[0]
 
 
 def told_by_host(places: Places) -> Iterator[Checked]:

@@ -14,7 +14,7 @@ import subprocess
 from contextlib import suppress
 from dataclasses import dataclass
 from pathlib import Path
-from typing import Dict, Optional, Sequence
+from typing import Dict, List, Optional, Sequence
 
 SECONDS = 60
 
@@ -35,7 +35,7 @@ SETTINGS = """\
     useReplaceRefs = false
     commitGraph = false
     multiPackIndex = false
-    alternateRefsCommand = :
+    alternateRefsCommand = true
     logAllRefUpdates = {logs}
     sharedRepository = {shared}
 [user]
@@ -78,6 +78,10 @@ def words_of(said: bytes) -> str:
     return " ".join(said.decode(errors="replace").split())
 
 
+# Files that each git of the host, and all that it starts, keep open. By the locks on them a later host knows that one still runs.
+HELD: List[int] = []
+
+
 def run_git(
     folder: Optional[Path], *arguments: str, seconds: float = SECONDS, more: Optional[Dict[str, str]] = None, given: bytes = b"",
     held: Sequence[int] = (),
@@ -87,7 +91,7 @@ def run_git(
     environment = {**clean_environment(), **ALONE, **({"GIT_DIR": str(folder)} if folder else {}), **(more or {})}
     with subprocess.Popen(
         ["git", *arguments], env=environment, cwd="/", stdin=subprocess.PIPE, stdout=subprocess.PIPE, stderr=subprocess.PIPE,
-        start_new_session=True, pass_fds=held,
+        start_new_session=True, pass_fds=[*HELD, *held],
     ) as process:
         try:
             output, said = process.communicate(given, timeout=seconds)
@@ -124,14 +128,17 @@ def make_mirror(folder: Path) -> None:
         (folder / name).mkdir(parents=True, exist_ok=True)
 
 
-def make_window(folder: Path, repository: Path, logs: str, shared: str) -> None:
-    """Makes the window to a repository, or finds it. If the repository has moved, the window follows."""
-    make_folder(folder, logs, shared)
-    if logs != "false":
+def make_window(folder: Path, repository: Path, logs: str, shared: str, is_shared: bool) -> None:
+    """Makes the window to a repository, or finds it. If the repository has moved, the window follows. If others may write the repository,
+    the moves of branches aren't logged there: git would write through whatever links stand among the logs."""
+    make_folder(folder, "false" if is_shared else logs, shared)
+    if logs != "false" and not is_shared:
         (repository / "logs").mkdir(exist_ok=True)
     for name in ("refs", "objects", "packed-refs", "logs"):
         link = folder / name
-        if not link.is_symlink() or os.readlink(link) != str(repository / name):
+        if name == "logs" and is_shared:
+            link.unlink(missing_ok=True)
+        elif not link.is_symlink() or os.readlink(link) != str(repository / name):
             link.unlink(missing_ok=True)
             link.symlink_to(repository / name)
 

@@ -13,6 +13,7 @@ from places import Places, Trouble, person_here, pointed_to
 from settings import Settings, read_settings
 from spool import leave
 
+MARK = "# Made by gate-host init."
 SCRIPT = Path(__file__).resolve().with_name("gate-host")
 CHANGE = re.compile(r"refs/heads/change/([1-9][0-9]{0,9})")
 LAST_CHANGE = 4294967295
@@ -25,6 +26,19 @@ Update = Tuple[str, str, str]
 def hook_command() -> str:
     """By what a hook is known to run this."""
     return f"{shlex.quote(str(SCRIPT))} hook"
+
+
+def hook_text(python: str) -> str:
+    """The hook that `init` writes."""
+    return f"#!/bin/sh\n{MARK}\nexec {shlex.quote(python)} {hook_command()} --repository .\n"
+
+
+def is_hook(text: str) -> bool:
+    """Whether a hook runs this: it is that of `init`, with any Python, or it has the command on a line that is no comment."""
+    lines = text.split("\n")
+    if MARK in lines:
+        return len(lines) == 4 and text == hook_text((shlex.split(lines[2]) + ["", ""])[1])
+    return any(hook_command() in line and not line.lstrip().startswith("#") for line in lines)
 
 
 def change_in(branch: str) -> int:

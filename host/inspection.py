@@ -6,6 +6,7 @@ from pathlib import Path
 from typing import Dict, Iterator, List, Mapping
 
 from git import settings_in_file
+from hook import is_hook
 from places import Places, Trouble, pointed_to
 from repository import BRANCHES, Branch
 from settings import Settings
@@ -18,6 +19,9 @@ COMMANDS = re.compile(
 )
 
 
+TRUE = ("true", "yes", "on", "1")
+
+
 @dataclass(frozen=True)
 class Finding:
     """What was found, and what to do about it. If the main branch isn't guarded with it, the host doesn't start."""
@@ -26,12 +30,12 @@ class Finding:
     is_grave: bool = False
 
 
-def findings(places: Places, settings: Settings, hook: str) -> List[Finding]:
-    """All that was found in a repository. The hook has to have this command."""
+def findings(places: Places, settings: Settings) -> List[Finding]:
+    """All that was found in a repository."""
     given = settings_of_git(places.repository)
     return [
-        *kind_of_repository(places.repository, given), *hooks_of(places.repository, given, hook), *names_of_main(places, settings),
-        *names_in_the_way(places, settings), *what_git_reads_besides(places.repository, given), *links_in(places.repository),
+        *kind_of_repository(places.repository, given), *hooks_of(places.repository, given), *names_of_main(places, settings),
+        *names_in_the_way(places, settings), *what_git_reads_besides(places, given), *links_in(places.repository),
     ]
 
 
@@ -50,7 +54,7 @@ def settings_of_git(repository: Path) -> Dict[str, str]:
 
 
 def kind_of_repository(repository: Path, given: Mapping[str, str]) -> Iterator[Finding]:
-    if not (repository / "HEAD").is_file() or not (repository / "objects").is_dir() or given.get("core.bare", "").lower() != "true":
+    if not (repository / "HEAD").is_file() or not (repository / "objects").is_dir() or given.get("core.bare", "").lower() not in TRUE:
         yield Finding(f"{repository} is no bare repository of git", True)
     if given.get("extensions.objectformat", "sha1") != "sha1":
         yield Finding(f"{repository} has names of commits that the bot doesn't take; they have to be SHA-1", True)
@@ -58,9 +62,14 @@ def kind_of_repository(repository: Path, given: Mapping[str, str]) -> Iterator[F
         yield Finding(f"{repository} keeps its branches in another way than in files, which the host can't read", True)
     if (repository / "shallow").exists():
         yield Finding(f"{repository} is shallow: it lacks the history. git fetch --unshallow brings it", True)
+    if (repository / "commondir").exists():
+        yield Finding(f"{repository}/commondir has git read branches, settings and hooks of another repository; remove it", True)
+    conditions = sorted(name for name in given if name.startswith("includeif."))
+    if conditions:
+        yield Finding(f"{repository}/config has settings that count only at times, as {conditions[0]}; remove them", True)
 
 
-def hooks_of(repository: Path, given: Mapping[str, str], command: str) -> Iterator[Finding]:
+def hooks_of(repository: Path, given: Mapping[str, str]) -> Iterator[Finding]:
     """The hook is what keeps pushes from the main branch, so git has to run it."""
     folder = repository / "hooks"
     elsewhere = given.get("core.hookspath")
@@ -68,14 +77,16 @@ def hooks_of(repository: Path, given: Mapping[str, str], command: str) -> Iterat
         yield Finding(f"core.hooksPath in {repository}/config has git run the hooks in {elsewhere}; remove that setting", True)
     path = folder / "pre-receive"
     try:
-        text, mode = path.read_text(encoding="utf-8", errors="replace"), path.stat().st_mode
+        text, mode, user = path.read_text(encoding="utf-8", errors="replace"), path.stat().st_mode, path.stat().st_uid
     except OSError:
         yield Finding(f"the hook {path} isn't there; gate-host init {repository} makes it", True)
         return
-    if command not in text:
+    if not is_hook(text):
         yield Finding(f"the hook {path} doesn't run gate-host; gate-host init {repository} says what it needs", True)
     if mode & 0o111 != 0o111 or not os.access(path, os.X_OK):
         yield Finding(f"the hook {path} can't be executed by all; chmod a+rx it", True)
+    if (mode | folder.stat().st_mode) & 0o022 or {user, folder.stat().st_uid} != {repository.stat().st_uid}:
+        yield Finding(f"others may write the hook {path}; gate-host init {repository} mends that", True)
 
 
 def names_of_main(places: Places, settings: Settings) -> Iterator[Finding]:
@@ -125,8 +136,10 @@ def names_of_branches(repository: Path) -> List[str]:
     return sorted(name for name in found if not name.endswith(".lock"))
 
 
-def what_git_reads_besides(repository: Path, given: Mapping[str, str]) -> Iterator[Finding]:
-    """What has git read other objects than those that are named. The host and its checks read none of it; others who work there may."""
+def what_git_reads_besides(places: Places, given: Mapping[str, str]) -> Iterator[Finding]:
+    """What has git read other objects than those that are named. The host and its checks read none of it but alternates, which the owner
+    alone may set; others who work there may."""
+    repository = places.repository
     replaced = repository / "refs/replace"
     packed = (repository / "packed-refs").read_text(encoding="utf-8", errors="replace") if (repository / "packed-refs").is_file() else ""
     if (replaced.is_dir() and any(replaced.iterdir())) or " refs/replace/" in packed:
@@ -134,7 +147,8 @@ def what_git_reads_besides(repository: Path, given: Mapping[str, str]) -> Iterat
     if (repository / "info/grafts").exists():
         yield Finding(f"{repository}/info/grafts has git show other parents of commits than they have")
     if (repository / "objects/info/alternates").exists():
-        yield Finding(f"{repository}/objects/info/alternates has git read objects from elsewhere; if they go, commits can't be read")
+        said = f"{repository}/objects/info/alternates has git read objects from elsewhere"
+        yield Finding(f"{said}; {'remove it, since others may write it' if places.is_shared() else 'if they go, commits are lost'}")
     if (repository / "info/attributes").exists():
         yield Finding(f"{repository}/info/attributes counts for git there, and not for the merges and checks of the host")
     named = sorted(filter(COMMANDS.fullmatch, given))

@@ -39,7 +39,9 @@ CREATE TABLE facts (name TEXT PRIMARY KEY, value TEXT NOT NULL);
 # the host didn't make, with who made them: nobody who may, if that is empty, and not looked into yet, if there is none.
 TABLES_OF_2 = """
 CREATE TABLE made (target TEXT PRIMARY KEY) WITHOUT ROWID;
-CREATE TABLE said_moves (before TEXT NOT NULL, target TEXT NOT NULL, person TEXT NOT NULL, PRIMARY KEY (before, target, person));
+CREATE TABLE said_moves (
+    before TEXT NOT NULL, target TEXT NOT NULL, person TEXT NOT NULL, at INTEGER NOT NULL, PRIMARY KEY (before, target, person)
+);
 CREATE TABLE moves (number INTEGER PRIMARY KEY, at INTEGER NOT NULL, before TEXT NOT NULL, target TEXT NOT NULL, person TEXT);
 CREATE INDEX of_target ON said_moves (target);
 CREATE INDEX strays ON moves (number) WHERE person IS NULL OR person = '';
@@ -243,9 +245,28 @@ class Journal:
     def has_made(self, commit: str) -> bool:
         return self.one("SELECT 1 FROM made WHERE target = ?", commit) is not None
 
-    def say_moved(self, before: str, target: str, person: str) -> None:
+    def say_moved(self, at: int, before: str, target: str, person: str) -> None:
         """Keeps who said to push to the main branch."""
-        self.database.execute("INSERT OR IGNORE INTO said_moves VALUES (?, ?, ?)", (before, target, person))
+        self.database.execute("INSERT OR REPLACE INTO said_moves VALUES (?, ?, ?, ?)", (before, target, person, at))
+
+    def drop_said_moves(self, up_to: int) -> None:
+        """Drops what was said of pushes to the main branch up to this time: git moves the branch right after, or refuses."""
+        self.database.execute("DELETE FROM said_moves WHERE at <= ?", (up_to,))
+
+    def drop_said_move(self, target: str) -> None:
+        """Drops what was said of pushes of a commit to the main branch: it is there now, and doesn't come there by them again."""
+        self.database.execute("DELETE FROM said_moves WHERE target = ?", (target,))
+
+    def time_of(self, order: Order) -> int:
+        """The clock reading by which an order was given; an order to stage is given by none other than one."""
+        line = self.one("SELECT line FROM deliveries WHERE number = ?", order.delivery)
+        return int(json.loads(line).get("now", 0))
+
+    def stage_order_of(self, batch: int) -> Optional[Order]:
+        """The order by which a batch was staged, done or not."""
+        query = """SELECT delivery, place, body, id FROM orders JOIN deliveries ON number = delivery WHERE batch = ? AND kind = 'stage'"""
+        row = self.database.execute(query, (batch,)).fetchone()
+        return Order(row[0], row[1], json.loads(row[2]), f"{row[3]}.{row[1]}") if row else None
 
     def said_to_move(self, target: str) -> List[Tuple[str, str]]:
         """From where, and by whom, the main branch was said to be moved to a commit."""

@@ -8,14 +8,14 @@ import sqlite3
 import sys
 import time
 from itertools import count
-from typing import Callable, Container, Dict, List, Optional, Tuple
+from typing import Callable, Container, Dict, List, Optional, Set, Tuple
 
 import words
 from checks import Checks, Result
 from bot_file import has_file, lacks_answers
 from client import Bot, BotEnded
-from git import GitFailed
-from hook import LAST_CHANGE, change_in, hook_command
+from git import HELD, GitFailed
+from hook import LAST_CHANGE, change_in
 from inspection import blocking, findings, must_be_guarded
 from journal import Delivery, Journal, Move, Order, Test
 from places import Places, Trouble, must_be_safe, name_of_user
@@ -36,6 +36,10 @@ MOST_IN_COMMENT = 8000
 MOST_IN_SETTINGS = 10000
 COMMAND_LINE = re.compile(r"bors[ :]", re.IGNORECASE)
 SECONDS_TO_TIDY = 86400
+# So long after a hook has told of a push to the main branch git has moved it, or refused.
+SECONDS_OF_PUSH = 60
+# So many changes are looked at before other news is, so that a push of many holds nobody up.
+MOST_CHANGES_AT_ONCE = 50
 # A clock that goes ahead by more has jumped.
 SECONDS_OF_JUMP = 86400
 
@@ -52,19 +56,22 @@ class Host:
         # Never asked of the folder again: who may write the repository's folder could put another one in its place.
         self.owner = os.geteuid()
         self.lock = take_lock(places)
+        is_alone = take_lock_of_git(places)
         self.journal = Journal(places.records / "journal.db")
         self.settings = read_settings(places.settings, self.owner)
         self.roles = read_roles(places.roles, self.owner)
         self.repository = Repository(places, self.settings.main, self.settings.staging, self.settings.trying)
+        if is_alone:
+            self.repository.remove_locks()
         self.spool = Spool(places, self.owner, complain)
-        self.checks = Checks(places, self.repository, complain)
+        self.checks = Checks(places, self.repository, self.bring, complain)
         self.reports = Reports(places, self.journal)
         self.bot: Optional[Bot] = None
         self.is_all_again = is_all_again
         self.ending = False
         # Whether something was answered since the last report, and when the next look, reading, report and retry is due.
         self.is_report_due = True
-        self.next_look = self.next_tick = self.next_report = self.next_tidy = 0.0
+        self.next_look = self.next_tick = self.next_report = self.next_tidy = self.next_forgetting = 0.0
         self.next_retry: Dict[str, float] = {}
         self.looking_until = 0.0
         # What isn't as it should be, by what it is about. Each is complained of once, and stands in the report of the queue while it lasts.
@@ -73,6 +80,8 @@ class Host:
         self.jumped_to: Optional[int] = None
         # The last good reading, and for how long the system had been running by then.
         self.clock_seen: Optional[Tuple[int, float]] = None
+        # Changes that were seen, and that later looks take.
+        self.later: Set[int] = set()
         # The heads of changes at the last look.
         self.heads: Dict[int, str] = {}
         # In which round a move of the main branch was seen first, that nobody has looked into yet.
@@ -113,7 +122,7 @@ class Host:
 
     def look_into_repository(self) -> None:
         """Looks at what stands in the repository besides branches. Doesn't start if the main branch isn't guarded."""
-        found = findings(self.places, self.settings, hook_command())
+        found = findings(self.places, self.settings)
         must_be_guarded(found)
         for number, finding in enumerate(found):
             self.trouble(f"finding {number}", finding.said)
@@ -245,7 +254,7 @@ class Host:
                 self.journal.mark_done(order)
             return
         try:
-            merged = self.merge_and_move(body)
+            merged = self.merge_and_move(order)
         except GitFailed as fault:
             self.next_retry[branch] = time.monotonic() + RETRY_SECONDS
             self.tell_that_it_waits(body, str(fault))
@@ -260,9 +269,20 @@ class Host:
                 self.tell(changes, words.conflict(body["batch"], changes, merged.conflicting, merged.why))
             self.journal.mark_done(order)
 
-    def merge_and_move(self, body: dict) -> Merged:
+    def bring(self, test: Test) -> None:
+        """Has a staged commit in the mirror. It may not be there any more, if the records were put back or are of an older host. The
+        guarded repository has it then, or it is made again, which gives the same commit."""
+        try:
+            self.repository.must_have(f"staged/{test.branch}", test.commit)
+        except GitFailed:
+            order = self.journal.stage_order_of(test.batch)
+            if order is None or self.repository.merge_batch(order.body, self.journal.time_of(order)).commit != test.commit:
+                raise
+
+    def merge_and_move(self, order: Order) -> Merged:
         """Merges a batch, and moves the branch on which it is tested. What stood there and isn't the host's is kept."""
-        merged = self.repository.merge_batch(body, int(self.journal.fact("clock") or 0))
+        body = order.body
+        merged = self.repository.merge_batch(body, self.journal.time_of(order))
         if merged.commit:
             before = self.repository.branches().get(self.repository.staged_on[body["branch"]])
             with self.journal.step():
@@ -292,6 +312,7 @@ class Host:
         """Moves the main branch from exactly the base to exactly the commit, or reports that it doesn't go. If git can't do it, that is
         no refusal: the order stays open, and holds up everything else."""
         try:
+            self.bring(Test("staging", order.body["batch"], order.body["commit"]))
             is_on_main = self.repository.land(order.body)
         except GitFailed as fault:
             raise GitFailed(f"batch {order.body['batch']} can't be landed yet: {fault}") from fault
@@ -366,6 +387,8 @@ class Host:
         own = [self.repository.main, *self.repository.staged_on.values()]
         in_way = [f"{name} is in the way of {branch}; rename it" for branch in own for name in blocking(branches, branch)]
         aliases = [f"{name} is another name of {it.of}, and a push to it moves that" for name, it in branches.items() if it.of in own]
+        if (self.places.repository / "commondir").exists():
+            in_way.append(f"{self.places.repository}/commondir has git read another repository; remove it")
         if self.journal.fact("base") and self.repository.main not in branches:
             in_way.append(f"the branch {self.repository.main} isn't there any more")
         if in_way or aliases:
@@ -420,10 +443,13 @@ class Host:
         for move in self.journal.unknown_moves():
             if self.may_be_told_yet(self.moves_since.setdefault(move.target, self.rounds)):
                 continue
-            person = self.mover_of(move)
             with self.journal.step():
-                self.journal.set_mover(move.number, person)
+                self.journal.set_mover(move.number, self.mover_of(move))
             self.moves_since.pop(move.target, None)
+        if not self.journal.unknown_moves() and not self.spool.has_more and time.monotonic() >= self.next_forgetting:
+            self.next_forgetting = time.monotonic() + SECONDS_OF_PUSH
+            with self.journal.step():
+                self.journal.drop_said_moves(int(time.time()) - SECONDS_OF_PUSH)
         strays = self.journal.strays()
         if strays:
             self.trouble("moves", "; ".join(map(words.stray, strays)))
@@ -439,6 +465,8 @@ class Host:
             target, last = steps.pop()
             for before, person in self.journal.said_to_move(target):
                 if person in may_push and before == move.before:
+                    for used in seen:
+                        self.journal.drop_said_move(used)
                     return last or person
                 if person in may_push and before not in seen:
                     seen.add(before)
@@ -448,7 +476,12 @@ class Host:
     def look_at_changes(self, heads: Dict[int, str]) -> None:
         """Hands in which changes are new, have moved, or are gone."""
         known = self.journal.changes()
-        self.fetch(known, heads)
+        new = [change for change, head in sorted(heads.items()) if known.get(change, ("", ""))[1] != head]
+        if len(new) > MOST_CHANGES_AT_ONCE:
+            heads = {change: head for change, head in heads.items() if change not in new[MOST_CHANGES_AT_ONCE:]}
+            self.next_look = 0.0
+        later = self.later = set(new[MOST_CHANGES_AT_ONCE:])
+        self.fetch(known, heads, later)
         self.unclaimed = {(change, head): since for (change, head), since in self.unclaimed.items() if heads.get(change) == head}
         for change, head in sorted(heads.items()):
             phase, before = known.get(change, ("closed", ""))
@@ -459,15 +492,16 @@ class Host:
             elif head != before:
                 self.deliver("pushed", lambda: self.keep_head(change, head), change=change, head=head)
         for change, (phase, head) in known.items():
-            if phase == "open" and change not in heads:
+            if phase == "open" and change not in heads and change not in later:
                 self.deliver("closed", lambda: self.journal.set_change(change, "closed", head), change=change)
 
-    def fetch(self, known: Dict[int, Tuple[str, str]], heads: Dict[int, str]) -> None:
+    def fetch(self, known: Dict[int, Tuple[str, str]], heads: Dict[int, str], later: Set[int]) -> None:
         """Brings new heads into the mirror, at once. One that can't come is brought when it is needed, or told then."""
         new = {f"change/{change}": head for change, head in heads.items() if known.get(change, ("", ""))[1] != head}
         for name, why in self.repository.fetch(new).items():
             complain(f"the head of {name} can't be read whole: {why}")
-        self.repository.forget(f"change/{change}" for change, (phase, _) in known.items() if phase == "open" and change not in heads)
+        gone = [change for change, (phase, _) in known.items() if phase == "open" and change not in heads and change not in later]
+        self.repository.forget(f"change/{change}" for change in gone)
 
     def open(self, change: int, head: str) -> None:
         """Opens a change for whoever pushed it. A hook tells of that before the branch moves, so its note is there in the next round at
@@ -511,7 +545,7 @@ class Host:
                     for change, head in filter(is_claim, heads):
                         self.journal.claim(change, head, note.person)
                     for before, after in filter(is_move, moves):
-                        self.journal.say_moved(before, after, note.person)
+                        self.journal.say_moved(int(time.time()), before, after, note.person)
 
     def take_comment(self, note: Note) -> bool:
         """Takes a comment. False if it has to wait for its change, which is opened in the next round."""
@@ -523,7 +557,7 @@ class Host:
         if is_whole and self.journal.change(change):
             self.hand_in_comment(note, change, text)
             return True
-        if is_whole and any(change == unclaimed for unclaimed, _ in self.unclaimed):
+        if is_whole and (any(change == unclaimed for unclaimed, _ in self.unclaimed) or change in self.later):
             return False
         complain(f"a note of {note.person} is no comment on a change")
         return True
@@ -613,7 +647,7 @@ class Host:
         """Writes the reports. They tell what is, and nothing rests on them but whether the time is told."""
         self.is_report_due = False
         self.next_report = time.monotonic() + REPORT_SECONDS
-        if self.bot is None:
+        if not has_file(self.places):
             return
         try:
             self.reports.refresh(self.remarks())
@@ -656,6 +690,28 @@ def is_move(move) -> bool:
 
 def is_commit(text) -> bool:
     return isinstance(text, str) and re.fullmatch(r"[0-9a-f]{40}", text) is not None
+
+
+def take_lock_of_git(places: Places) -> bool:
+    """A lock that each git of this host keeps. True if no git of an earlier host has it any more."""
+    file = os.open(places.records / "git.lock", os.O_RDWR | os.O_CREAT | os.O_CLOEXEC, 0o600)
+    try:
+        fcntl.flock(file, fcntl.LOCK_EX | fcntl.LOCK_NB)
+        is_alone = True
+    except OSError:
+        is_alone = False
+    fcntl.flock(file, fcntl.LOCK_SH)
+    HELD[:] = [file]
+    return is_alone
+
+
+def is_locked(places: Places) -> bool:
+    """Whether a host runs, as only the owner can tell."""
+    try:
+        os.close(take_lock(places))
+    except Trouble:
+        return True
+    return False
 
 
 def take_lock(places: Places) -> int:

@@ -89,6 +89,12 @@ class Places:
     def owner(self) -> int:
         return self.folder.stat().st_uid
 
+    def is_shared(self) -> bool:
+        """Whether others may write files of the repository."""
+        names = (".", "refs", "refs/heads", "objects", "config", "logs")
+        modes = [os.stat(self.repository / name).st_mode for name in names if (self.repository / name).exists()]
+        return any(mode & 0o022 for mode in modes)
+
 
 def name_of_user(number: int) -> Optional[str]:
     """The name of a user of the system as the bot takes it, or none if there is no such user or it can't be such a name."""
@@ -150,7 +156,11 @@ def trusted_text(path: Path, owner: int) -> str:
 
 
 def must_be_safe(places: Places) -> None:
-    """Refuses a folder that isn't the user's own, or that others may write: they could put other files in place of the host's."""
+    """Refuses a folder that isn't the user's own, or that others may write: they could put other files in place of the host's. Others may
+    write the repository's own folder if it is sticky: then they can't put another folder in the place of one of the owner's."""
+    found = os.lstat(places.repository)
+    if found.st_mode & 0o022 and not found.st_mode & stat.S_ISVTX:
+        raise Trouble(f"others may write {places.repository}, and could exchange its folders; gate-host init {places.repository} mends it")
     for folder in (places.folder, places.records, places.reports, places.spool):
         found = os.lstat(folder) if folder.exists() else None
         if found is None or not stat.S_ISDIR(found.st_mode):
@@ -216,10 +226,16 @@ def pointed_to(repository: Path, name: str) -> Tuple[Optional[str], str]:
 
 
 def text_of_reference(path: Path) -> Optional[str]:
+    """The text of a small file, without waiting for what is no file."""
     try:
-        return path.read_text(encoding="utf-8", errors="replace").strip()
+        file = os.open(path, os.O_RDONLY | os.O_NONBLOCK | os.O_CLOEXEC)
     except OSError:
         return None
+    try:
+        is_file = stat.S_ISREG(os.fstat(file).st_mode)
+        return read_up_to(file, MOST_BYTES).decode(errors="replace").strip() if is_file else None
+    finally:
+        os.close(file)
 
 
 def packed(repository: Path, name: str) -> Optional[str]:

@@ -47,7 +47,7 @@ class Repository:
         self.mirror, self.window = places.mirror, places.window
         settings = settings_in_file(places.repository / "config")
         make_mirror(self.mirror)
-        make_window(self.window, places.repository, logs_of(settings), shared_by(settings))
+        make_window(self.window, places.repository, logs_of(settings), shared_by(settings), places.is_shared())
 
     def ask(self, *arguments: str, **more) -> str:
         """What git writes of the mirror."""
@@ -71,21 +71,31 @@ class Repository:
     def fetch(self, heads: Mapping[str, str]) -> Dict[str, str]:
         """Brings commits with all that belongs to them into the mirror, each under a name. What can't come is given with the reason, by
         its name. Git computes the name of each object anew, so what comes is what was named."""
-        wanted = {name: commit for name, commit in heads.items() if not self.has_fetched(name, commit)}
+        there = self.all_fetched() if len(heads) > 1 else None
+        wanted = {name: commit for name, commit in heads.items() if not self.has_fetched(name, commit, there)}
         if not wanted or self.fetched(wanted).status == 0:
             return {}
         failed = {name: self.fetched({name: commit}) for name, commit in wanted.items()}
         return {name: ran.said or "git says no more" for name, ran in failed.items() if ran.status != 0}
 
     def fetched(self, heads: Mapping[str, str]) -> Ran:
+        if self.places.is_shared() and (self.places.repository / "objects/info/alternates").exists():
+            raise GitFailed("objects/info/alternates names objects elsewhere, which the owner may read and others not; remove it")
         places = "".join(f"+{commit}:{FETCHED}{name}\n" for name, commit in heads.items())
         return run_git(
             self.mirror, "fetch", "--quiet", "--no-tags", "--no-write-fetch-head", "--stdin", str(self.window), given=places.encode(),
             seconds=SECONDS_FOR_OBJECTS,
         )
 
-    def has_fetched(self, name: str, commit: str) -> bool:
+    def all_fetched(self) -> Dict[str, str]:
+        """What the mirror has fetched, by the names."""
+        lines = self.ask("for-each-ref", "--format=%(refname) %(objectname)", FETCHED).splitlines()
+        return dict(line[len(FETCHED):].split(" ") for line in lines)
+
+    def has_fetched(self, name: str, commit: str, there: Optional[Mapping[str, str]] = None) -> bool:
         """Whether the mirror has this commit under this name, and so all that belongs to it."""
+        if there is not None:
+            return there.get(name) == commit
         return run_git(self.mirror, "rev-parse", "--verify", "--quiet", FETCHED + name).output.strip() == commit
 
     def forget(self, names: Iterable[str]) -> None:
@@ -99,11 +109,15 @@ class Repository:
         for why in self.fetch({name: commit}).values():
             raise GitFailed(f"{commit} can't be read whole in the repository: {why}")
 
+    def remove_locks(self) -> None:
+        """Removes what a git that has died has left in the mirror. Only for a host that knows that none runs."""
+        for path in [*self.mirror.glob("*.lock"), *self.mirror.glob("refs/**/*.lock")]:
+            path.unlink(missing_ok=True)
+
     def tidy(self, is_needed: Callable[[str], bool]) -> None:
         """Drops the names in the mirror that aren't needed any more. Puts its objects together if many lie there by themselves. None is
         thrown away."""
-        names = (line[len(FETCHED):] for line in self.ask("for-each-ref", "--format=%(refname)", FETCHED).splitlines())
-        self.forget(name for name in names if not is_needed(name))
+        self.forget(name for name in self.all_fetched() if not is_needed(name))
         counted = dict(line.split(": ") for line in self.ask("count-objects", "-v").splitlines())
         if int(counted["count"]) > MOST_LOOSE or int(counted["packs"]) > MOST_PACKS:
             self.ask("repack", "-a", "-d", "--keep-unreachable", "--quiet", seconds=SECONDS_FOR_OBJECTS)
@@ -164,6 +178,8 @@ class Repository:
         """Moves a branch on which the host stages, if it is where it was before. What stands there and isn't the host's own is kept under
         another name, which is given."""
         branch = self.staged_on[name]
+        self.must_be_one(branch)
+        self.ask("update-ref", f"{FETCHED}staged/{name}", commit)
         kept = None
         if before and before != commit and not is_own:
             kept = f"{KEPT}{name}/{before}"
@@ -173,6 +189,12 @@ class Repository:
             if ran.status != 0:
                 raise GitFailed(f"{branch} can't be moved: {reason_in(ran)}")
         return kept
+
+    def must_be_one(self, branch: str) -> None:
+        """A branch that is another name of one isn't moved: that would move the other one."""
+        found = self.all_branches().get(branch)
+        if found and found.of:
+            raise GitFailed(f"{branch} is another name of {found.of}")
 
     def land(self, order: dict) -> bool:
         """Moves the main branch if it is at exactly the base. True if the commit is on it then, as it may be since before; and false only
@@ -184,6 +206,7 @@ class Repository:
                 fcntl.flock(lock, fcntl.LOCK_EX | fcntl.LOCK_NB)
             except OSError:
                 raise GitFailed(f"a git that was started before may still move {self.main}; it has {lock.name} open") from None
+            self.must_be_one(self.main)
             ran = self.push(order["commit"], self.main, order["base"], [lock.fileno()])
         now = self.branches().get(self.main)
         if now == order["commit"]:

@@ -5,13 +5,16 @@ import subprocess
 from dataclasses import dataclass
 from functools import lru_cache
 from pathlib import Path
-from typing import Iterator, List, Tuple
+from typing import Dict, Iterator, List, Mapping, Tuple
 
 from places import Places, Trouble
 from settings import Settings
 
 # What of the system a check sees. It can't write there.
 OF_SYSTEM = ("/usr", "/bin", "/sbin", "/lib", "/lib32", "/lib64", "/libx32", "/etc", "/opt", "/nix")
+# What of its environment the host hands on.
+KEPT = ("PATH", "LANG", "LANGUAGE", "TZ", "TERM", "USER", "LOGNAME")
+KEPT_BEGINNINGS = ("LC_", "GATE_", "GIT_NO_REPLACE_OBJECTS")
 # Where the clone stands for a check.
 CLONE = "/checkout"
 
@@ -58,18 +61,27 @@ def sandbox_of(settings: Settings) -> Sandbox:
 
 def words_before(places: Places, settings: Settings, clone: Path, scratch: Path) -> List[str]:
     """The words that have a command run in the sandbox, in its clone. What is bound later lies over what was bound before."""
-    words = ["bwrap", *UNSHARED, *(["--share-net"] if settings.sandbox_network else []), "--proc", "/proc", "--dev", "/dev"]
+    words = ["bwrap", *UNSHARED, *(["--share-net"] if settings.sandbox_network else []), "--dev", "/dev", "--proc", "/proc"]
+    # If root runs the host, the check is root for the kernel, and could write its settings.
+    for path in ("/proc/sys", "/proc/sysrq-trigger"):
+        words += ["--ro-bind-try", path, path]
     for path in (*OF_SYSTEM, *network_files(settings), *settings.sandbox_reads):
         words += ["--ro-bind-try", path, path]
     for path, is_folder in hidden_files():
         words += ["--tmpfs", path] if is_folder else ["--ro-bind", "/dev/null", path]
     for path in settings.sandbox_writes:
         words += ["--bind-try", path, path]
+    words += ["--bind", str(scratch), "/tmp"]
     # The guarded repository may stand below one of these.
     objects = str(places.mirror / "objects")
     words += ["--tmpfs", str(places.repository), "--ro-bind", objects, objects, "--remount-ro", str(places.repository)]
-    words += ["--bind", str(scratch), "/tmp", "--bind", str(clone), CLONE, "--chdir", CLONE, "--setenv", "HOME", "/tmp"]
-    return words
+    return [*words, "--bind", str(clone), CLONE, "--chdir", CLONE]
+
+
+def environment_within(environment: Mapping[str, str]) -> Dict[str, str]:
+    """What a check in the sandbox gets of the host's environment, which may have secrets of its owner."""
+    kept = {name: value for name, value in environment.items() if name in KEPT or name.startswith(KEPT_BEGINNINGS)}
+    return {**kept, "HOME": "/tmp"}
 
 
 def network_files(settings: Settings) -> Tuple[str, ...]:
@@ -80,15 +92,20 @@ def network_files(settings: Settings) -> Tuple[str, ...]:
 
 @lru_cache(maxsize=None)
 def hidden_files() -> Tuple[Tuple[str, bool], ...]:
-    """What of /etc root alone may read, if the host runs as root: a check isn't to read it."""
-    return tuple(unreadable_in("/etc")) if os.geteuid() == 0 else ()
+    """What of the system not everybody may read, as files of the owner: a check isn't to read it either."""
+    return tuple(hidden for folder in ("/etc", "/opt", "/usr/local") if os.path.isdir(folder) for hidden in unreadable_in(folder))
 
 
 def unreadable_in(folder: str) -> Iterator[Tuple[str, bool]]:
-    for entry in os.scandir(folder):
+    try:
+        entries = sorted(os.scandir(folder), key=lambda entry: entry.name)
+    except OSError:
+        # Then a check can't read it either.
+        return
+    for entry in entries:
         if entry.is_symlink():
             continue
-        is_folder, mode = entry.is_dir(), entry.stat().st_mode
+        is_folder, mode = entry.is_dir(), entry.stat(follow_symlinks=False).st_mode
         if (is_folder and mode & 0o005 != 0o005) or (entry.is_file() and not mode & 0o004):
             yield entry.path, is_folder
         elif is_folder:

@@ -2,12 +2,14 @@
 import argparse
 import os
 import shlex
+import stat
 import subprocess
 import sys
 from pathlib import Path
 from typing import List, Optional
 
-from hook import SCRIPT, hook_command
+from git import ask_git
+from hook import MARK, SCRIPT, hook_command, hook_text
 from inspection import findings, kind_of_repository, must_be_guarded, names_of_branches, settings_of_git
 from journal import Journal
 from loop import MOST_IN_SETTINGS, complain
@@ -17,7 +19,6 @@ from settings import FIRST_ROLES, FIRST_SETTINGS, Settings, read_roles, read_set
 from spool import leave
 
 PROGRAM = SCRIPT.parent.parent / "crates/gate_bot/out/gate_bot"
-MARK = "# Made by gate-host init."
 
 
 def set_up(repository: Path, arguments: argparse.Namespace) -> None:
@@ -30,13 +31,14 @@ def set_up(repository: Path, arguments: argparse.Namespace) -> None:
     roles = first_roles(arguments) if is_new or not places.roles.exists() else with_people(places, arguments)
     kept = settings_in(settings)
     must_be_free(places, kept, arguments.take)
+    close_to_others(repository)
     make_folders(places)
     make_identity(places)
     for path, text in ((places.settings, settings), (places.roles, roles)):
         replace(path, text, 0o644)
     must_be_safe(places)
     write_hook(repository)
-    found = findings(places, kept, hook_command())
+    found = findings(places, kept)
     must_be_guarded(found)
     for finding in found:
         complain(finding.said)
@@ -146,6 +148,19 @@ def with_lines(text: str, reviewers: List[str], members: List[str]) -> str:
 # Folders, hook and branches
 
 
+def close_to_others(repository: Path) -> None:
+    """In a repository that others may write, nobody else may exchange the folders of the owner, or write the hooks. Then git can't put
+    branches together in one file there, which it would replace."""
+    mode = repository.stat().st_mode
+    if mode & 0o022:
+        repository.chmod(stat.S_IMODE(mode) | stat.S_ISVTX)
+        ask_git(None, "config", "--file", str(repository / "config"), "gc.packRefs", "false")
+    (repository / "hooks").mkdir(exist_ok=True)
+    for path in (repository / "hooks", repository / "hooks/pre-receive"):
+        if path.exists():
+            path.chmod(stat.S_IMODE(path.stat().st_mode) & ~0o022)
+
+
 def make_folders(places: Places) -> None:
     """Makes the folders. In the spool everybody may leave a file, and nobody but the owner sees which are there."""
     modes = [(places.folder, 0o755), (places.records, 0o700), (places.reports, 0o755), (places.outputs, 0o755), (places.spool, 0o1733)]
@@ -180,7 +195,7 @@ def write_hook(repository: Path) -> None:
         raise Trouble(f"{path} is there already; have it run this, with its input and its status, and init again: {command}")
     if MARK in found:
         path.parent.mkdir(exist_ok=True)
-        replace(path, f"#!/bin/sh\n{MARK}\nexec {command}\n", 0o755)
+        replace(path, hook_text(python_for_all()), 0o755)
         path.chmod(0o755)
 
 

@@ -456,6 +456,7 @@ class OutOfTheSandbox(Attack):
     """A check in the sandbox reads nothing of the owner's, writes nothing outside, sees no other process and no network."""
 
     sandbox = "auto"
+    of_owner = {"MY_SECRET": "secret"}
 
     def set_sandbox(self):
         self.set("sandbox_writes =", f"sandbox_writes = {self.room / 'given'}")
@@ -502,12 +503,117 @@ git update-ref refs/heads/main HEAD && git push {self.repository} HEAD:main && s
 ls {home}/.ssh {home}/.bashrc && say 'saw the home folder'
 test "$(ls /proc | grep -c '^[0-9]')" -gt 12 && say 'saw other processes'
 cat /etc/shadow && say 'saw the passwords'
+env | grep secret && say 'saw a secret of the environment'
+old=$(cat /proc/sys/vm/swappiness) && echo "$old" >/proc/sys/vm/swappiness && say 'could set up the kernel'
 test "$(ls /sys/class/net 2>/dev/null | grep -vc '^lo$')" -gt 0 && say 'saw a network'
 git log -1 >/dev/null && git status >/dev/null || say 'git does not work'
 echo x >file && test -s file && echo x >/tmp/file && test -w "$HOME" || say 'cannot write where it should'
 setsid sleep 4242.4242 &
 say ended
 """
+
+
+class OtherNameOfTrying(Attack):
+    """The branch trying is made another name of the main one, so a try would move that."""
+
+    def happen(self):
+        self.push("otto", 1, {"parts/bad": "test 1 -gt 2\n"})
+        self.until("the change is open", lambda: self.report("change-1"))
+        self.must_git("symbolic-ref", "refs/heads/trying", "refs/heads/main")
+        self.say("milo", 1, "bors try")
+        self.told(1, "refs/heads/trying is another name of refs/heads/main")
+        want("where main is", self.git("rev-parse", "main"), self.first)
+        self.must_git("symbolic-ref", "--delete", "refs/heads/trying")
+        self.told(1, "TryFailed")
+
+
+class OtherRepository(Attack):
+    """A file has git read the branches, settings and hooks of another repository. It is told at once, and no host starts with it."""
+
+    def happen(self):
+        self.keep_running()
+        self.until("the host runs", lambda: self.report("process"))
+        other = self.room / "other.git"
+        self.must_git("clone", "--quiet", "--bare", str(self.repository), str(other), at=self.room)
+        path = self.repository / "commondir"
+        path.write_text(f"{other}\n", encoding="utf-8")
+        self.until("the queue says so", lambda: "commondir has git read" in self.report("queue"))
+        want("how the doctor ends", self.doctor()[0], 1)
+        self.stop()
+        self.start_fails("commondir")
+        path.unlink()
+
+
+class LostMirror(Attack):
+    """The records were put back, or are of an older host: the mirror is empty while a batch is tested. No change is blamed for that."""
+
+    def happen(self):
+        wait = self.room / "wait"
+        wait.touch()
+        self.push("otto", 1, {"parts/good": f"while test -e {wait}; do sleep 0.1; done\n"})
+        self.until("the change is open", lambda: self.report("change-1"))
+        self.say("rosa", 1, "bors r+")
+        self.until("it is staged", lambda: "staging staged" in self.report("queue"))
+        for is_there in (True, False):
+            self.stop()
+            shutil.rmtree(self.repository / "gate/records/mirror")
+            if not is_there:
+                # Nor has the guarded repository the commit, so it is made again.
+                self.must_git("update-ref", "-d", "refs/heads/staging")
+                self.must_git("-c", "gc.reflogExpire=now", "gc", "--quiet", "--prune=now")
+            self.keep_running()
+            self.until("it is tested again", lambda: any((self.repository / "gate/records/clones").glob("*/clone/parts/good")))
+        wait.unlink()
+        self.told(1, "Landed on main")
+        want("how often it was staged", len(self.events("staged")), 1)
+
+
+class LockInMirror(Attack):
+    """A git of the host's has died, and left locks in the mirror. The next host takes them away."""
+
+    def happen(self):
+        self.keep_running()
+        self.until("there is a base", lambda: f"base {self.first}" in self.report("queue"))
+        self.stop()
+        mirror = self.repository / "gate/records/mirror"
+        for name in ("refs/gate/main.lock", "refs/gate/change/1.lock", "packed-refs.lock"):
+            (mirror / name).parent.mkdir(parents=True, exist_ok=True)
+            (mirror / name).touch()
+        self.push("otto", 1, {"parts/good": "test 1 -gt 0\n"})
+        self.until("the change is open", lambda: self.report("change-1"))
+        self.say("rosa", 1, "bors r+")
+        self.told(1, "Landed on main")
+
+
+class HiddenStray(Attack):
+    """Somebody who may pushes a commit to the main branch and takes it back. That somebody else brings it there again is told."""
+
+    def happen(self):
+        self.keep_running()
+        self.until("there is a base", lambda: f"base {self.first}" in self.report("queue"))
+        commit = self.commit(["--detach", self.first], {"past": "1\n"}, "past")
+        for target in (commit, self.first):
+            self.must_git("push", "--quiet", "--force", "origin", f"{target}:main", at=self.clone, person="ines")
+            self.until("the host has seen it", lambda: f"base {target}" in self.report("queue"))
+            time.sleep(WATCHED)
+        must(f"whether none is told, by {self.report('queue')}", "trouble" not in self.report("queue"))
+        self.must_git("update-ref", "refs/heads/main", commit)
+        self.until("the queue says so", lambda: f"trouble: the main branch was moved from {self.first} to {commit}" in self.report("queue"))
+
+
+class ManyBranches(Attack):
+    """A push of many branches. A comment on another change is answered meanwhile."""
+
+    def happen(self):
+        self.push("otto", 1, {"parts/good": "test 1 -gt 0\n"})
+        self.until("the change is open", lambda: self.report("change-1"))
+        many = [f"HEAD:refs/heads/change/{number}" for number in range(1000, 1400)]
+        self.must_git("push", "--quiet", "origin", *many, at=self.clone, person="otto")
+        self.until("some of them are open", lambda: self.report("change-1000"))
+        self.say("milo", 1, "bors ping")
+        self.told(1, "gate: done")
+        must("whether not all of them were open by then", not self.report("change-1399"))
+        self.until("all of them are open", lambda: self.report("change-1399"))
 
 
 class CannotBeCheckedOut(Attack):
@@ -570,6 +676,7 @@ def without_sandbox():
 
 ATTACKS = [
     ReplacedHead, ReplacedFile, ForgedObject, Graft, OtherName, NoHook, Stray, NamedCommand, BranchInTheWay, OwnStaging, OtherNames,
-    StaleLock, StalledGit, OlderFile, OfAnotherHistory, TryReachesOut, OutOfTheSandbox, CannotBeCheckedOut, LastNumber,
+    StaleLock, StalledGit, OlderFile, OfAnotherHistory, TryReachesOut, OutOfTheSandbox, OtherNameOfTrying, OtherRepository, LostMirror,
+    LockInMirror, HiddenStray, ManyBranches, CannotBeCheckedOut, LastNumber,
 ]
 CASES = [checker_finds_a_replaced_head]

@@ -45,12 +45,18 @@ def share(village: Village) -> None:
         for name in (".", *folders, *files):
             path = Path(folder, name)
             path.chmod(path.stat().st_mode | (0o077 if path.is_dir() else 0o066))
+    # As the start and `init` ask for it.
+    village.stop()
+    village.initialise_again()
+    village.start()
 
 
 def script_names_commands(village: Village) -> list:
     """The attacker names commands wherever git looks for some, and gives the marks that they leave. Each would make a reviewer of him."""
     share(village)
     marks = []
+    config = village.repository / "config"
+    settings = []
     for number, (name, value) in enumerate((
         ("remote.evil.uploadpack", "{}"), ("filter.evil.smudge", "{}; cat"), ("filter.evil.clean", "{}; cat"), ("core.fsmonitor", "{}"),
         ("core.sshCommand", "{}"), ("core.alternateRefsCommand", "{}"), ("merge.evil.driver", "{}"), ("core.pager", "{}"),
@@ -58,14 +64,52 @@ def script_names_commands(village: Village) -> list:
     )):
         mark = village.homes[village.owner] / f"run-{number}"
         command = f"touch {mark}; echo {village.attacker} reviewer >>{village.repository}/gate/roles"
-        village.must_git(village.attacker, village.repository, "config", name, value.format(f"sh -c '{command}'"))
+        settings.append((name, value.format(f"sh -c '{command}'")))
         marks.append(mark)
     for name, value in (("core.repositoryFormatVersion", "1"), ("extensions.partialClone", "evil"), ("remote.evil.promisor", "true"),
                         ("remote.evil.url", f"file://{village.work}")):
-        village.must_git(village.attacker, village.repository, "config", name, value)
+        settings.append((name, value))
+    # Git itself would put another file in the place of this one, which a sticky folder doesn't let others do.
+    lines = "".join(line_of_config(name, value) for name, value in settings)
+    village.must_run(village.attacker, "sh", "-c", f"cat >>{config}", input=lines)
     attributes = village.repository / "info/attributes"
     village.must_run(village.attacker, "sh", "-c", f"echo '* filter=evil merge=evil diff=evil' >{attributes}")
     return marks
+
+
+def line_of_config(name: str, value: str) -> str:
+    """A setting as it stands in a file of git's."""
+    section, _, key = name.rpartition(".")
+    first, _, second = section.partition(".")
+    heading = f'[{first} "{second}"]' if second else f"[{first}]"
+    escaped = value.replace("\\", "\\\\").replace('"', '\\"')
+    return f'{heading}\n    {key} = "{escaped}"\n'
+
+
+def folders_of_the_owner_stay(village: Village) -> None:
+    """Who may write the repository's folder can't put others in the place of those of the host and of its hooks."""
+    share(village)
+    for name in ("gate", "hooks", "refs", "objects"):
+        ran = village.run(village.attacker, "mv", village.repository / name, village.repository / f"{name}-away")
+        must(f"whether {name} stays", ran.returncode != 0 and (village.repository / name).is_dir())
+        ran = village.run(village.attacker, "touch", village.repository / "hooks/pre-receive")
+        must("whether the hook stays", ran.returncode != 0)
+
+
+def no_log_leads_to_a_file_of_the_host(village: Village) -> None:
+    """Git writes no log through a link that somebody put there."""
+    share(village)
+    roles = (village.repository / "gate/roles").read_text(encoding="utf-8")
+    config = village.repository / "config"
+    logs = village.repository / "logs"
+    setting = line_of_config("core.logAllRefUpdates", "true")
+    village.must_run(village.attacker, "sh", "-c", f"cat >>{config}", input=setting)
+    village.must_run(village.attacker, "sh", "-c", f"mkdir -p {logs}/refs/heads && ln -s ../../../gate/roles {logs}/refs/heads/trying")
+    village.stop()
+    village.start()
+    village.must_say(village.reviewer, "bors try")
+    village.told("The try has passed")
+    want("the roles", (village.repository / "gate/roles").read_text(encoding="utf-8"), roles)
 
 
 def no_command_of_the_repository_is_run(village: Village) -> None:
@@ -132,4 +176,7 @@ def a_note_counts_once(village: Village) -> None:
     want("how often it was said", village.report("log-1").count("bors ping"), 1)
 
 
-ATTACKS = [no_command_of_the_repository_is_run, files_of_the_host_are_the_owners, nobody_speaks_for_others, a_note_counts_once]
+ATTACKS = [
+    folders_of_the_owner_stay, no_log_leads_to_a_file_of_the_host, no_command_of_the_repository_is_run, files_of_the_host_are_the_owners,
+    nobody_speaks_for_others, a_note_counts_once,
+]

@@ -9,14 +9,12 @@ attacker's.
 """
 import hashlib
 import io
-import os
 import pwd
 import subprocess
 import tarfile
 import time
-from contextlib import suppress
 from pathlib import Path
-from typing import Dict, List, Tuple
+from typing import Dict, Tuple
 
 from stories import must, want
 from users import PYTHON, Village, as_user, in_bytes, make_folder
@@ -187,41 +185,24 @@ def attack_link_to_spool(village: Village) -> None:
 
 
 def attack_folder_becomes_link(village: Village) -> None:
-    """While the command of the reviewer looks at the attacker's repository, a folder above it becomes a link to that of the project. The
-    command waits meanwhile, since the head of the change is a pipe."""
-    attacker, home = village.attacker, village.homes[village.attacker]
-    make_folder(home / "above", attacker, 0o755)
+    """While the command of the reviewer, who means the attacker's repository, waits for its text, a folder above that becomes a link to
+    that of the project."""
+    home = village.homes[village.attacker]
+    make_folder(home / "above", village.attacker, 0o755)
     evil = evil_repository(village, f"above/{village.repository.name}")
-    head = evil / "refs/heads/change/1"
-    village.must_run(attacker, "rm", head)
-    village.must_run(attacker, "mkfifo", head)
-    command = [PYTHON, str(village.host / "gate-host"), "say", "1", "bors r+", "--repository", str(evil)]
-    given = {**as_user(village.reviewer, village.room), "stdout": subprocess.DEVNULL, "stderr": subprocess.PIPE}
+    command = [PYTHON, str(village.host / "gate-host"), "say", "1", "-", "--repository", str(evil)]
+    given = {**as_user(village.reviewer, village.room), "stdin": subprocess.PIPE, "stdout": subprocess.DEVNULL, "stderr": subprocess.PIPE}
     with subprocess.Popen(command, **given) as saying:
         try:
-            pipe = opened_for_writing(village, head)
+            waits_in = Path(f"/proc/{saying.pid}/wchan")
+            village.until("the command reads its text", lambda: "pipe_read" in waits_in.read_text(encoding="utf-8"))
             (home / "above").rename(home / "aside")
             (home / "above").symlink_to(village.homes[village.owner])
-            os.write(pipe, f"{village.head}\n".encode())
-            os.close(pipe)
-            said = saying.communicate(timeout=60)[1]
+            said = saying.communicate(b"bors r+", timeout=60)[1]
         finally:
             saying.kill()
-    must(f"whether it came to the end with the head, by {said!r}", b"no branch" not in said)
+    must(f"whether it looked for the change, by {said!r}", b"no branch" not in said)
     village.must_have_said_nothing()
-
-
-def opened_for_writing(village: Village, pipe: Path) -> int:
-    """A pipe, as soon as somebody reads it."""
-    found: List[int] = []
-
-    def is_read() -> bool:
-        with suppress(OSError):
-            found.append(os.open(pipe, os.O_WRONLY | os.O_NONBLOCK))
-        return bool(found)
-
-    village.until("the command reads the head", is_read)
-    return found[0]
 
 
 # --- A file of the reviewer's with a text of the attacker's

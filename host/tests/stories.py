@@ -74,6 +74,8 @@ class Story:
     changes = range(1, 11)
     # The checks of the stories write down outside of their clones what they find.
     sandbox = "off"
+    # What the environment of the host has besides.
+    of_owner = {}
 
     def __init__(self, program, room):
         self.program, self.room = str(program), Path(room)
@@ -225,7 +227,7 @@ echo >>beside && {git} add beside && {git} commit --quiet -m beside && {git} pus
         if self.process and self.process.poll() is None:
             return
         self.starts += 1
-        environment = {**ENVIRONMENT, "PATH": f"{self.tools}:{ENVIRONMENT['PATH']}"}
+        environment = {**ENVIRONMENT, "PATH": f"{self.tools}:{ENVIRONMENT['PATH']}", **self.of_owner}
         with open(self.errors, "ab") as errors:
             command = [str(it) for it in self.host_command()]
             self.process = subprocess.Popen(command, env=environment, stdin=subprocess.DEVNULL, stdout=errors, stderr=errors)

@@ -20,7 +20,7 @@ from bot_file import lacks_answers  # noqa: E402
 from journal import Journal  # noqa: E402
 from loop import Host, free_number  # noqa: E402
 from places import Places, Trouble, make_identity, name_of_user  # noqa: E402
-from sandbox import sandbox_of, words_before  # noqa: E402
+from sandbox import environment_within, sandbox_of, unreadable_in, words_before  # noqa: E402
 from settings import FIRST_SETTINGS, settings_in  # noqa: E402
 from setting_up import is_for_all, python_for_all  # noqa: E402
 
@@ -123,6 +123,19 @@ class InitTests(InRepository):
         for folder in (self.path, self.path / "refs"):
             ran = self.run_host("say", "1", "bors r+", at=folder)
             self.assertEqual(ran.returncode, 0, ran.stderr)
+
+    def test_others_cannot_exchange_the_folders_of_the_owner(self):
+        for mode, due in ((0o775, 0o1775), (0o755, 0o755), (0o1777, 0o1777)):
+            self.path.chmod(mode)
+            (self.path / "hooks").chmod(0o775)
+            self.assertEqual(self.init("--check=build=true").returncode, 0)
+            self.assertEqual(self.path.stat().st_mode & 0o7777, due)
+            self.assertEqual((self.path / "hooks").stat().st_mode & 0o022, 0)
+            self.path.chmod(0o755)
+        self.path.chmod(0o775)
+        ran = self.run_host("run", str(self.path))
+        self.assertEqual(ran.returncode, 1)
+        self.assertIn("could exchange its folders", ran.stderr)
 
     def test_the_hook_runs_a_python_that_all_can_run(self):
         self.set_up()
@@ -294,12 +307,30 @@ class LoopTests(InRepository):
         a, b, c, d = (digit * 40 for digit in "abcd")
         host = SimpleNamespace(settings=SimpleNamespace(may_push={"ines"}), owner=os.geteuid(), journal=journal)
         with journal.step():
-            for before, after, person in ((a, b, "ines"), (b, c, "ines"), (a, d, "eve"), (d, b, "eve"), (c, c, "ines")):
-                journal.say_moved(before, after, person)
             for before, after in ((a, b), (a, c), (a, d), (d, b), (d, c), (b, a)):
                 journal.add_move(1, before, after)
-        found = {(move.before[0], move.target[0]): Host.mover_of(host, move) for move in journal.unknown_moves()}
-        self.assertEqual(found, {("a", "b"): "ines", ("a", "c"): "ines", ("a", "d"): "", ("d", "b"): "", ("d", "c"): "", ("b", "a"): ""})
+        found = {}
+        for move in journal.unknown_moves():
+            with journal.step():
+                for before, after, person in ((a, b, "ines"), (b, c, "ines"), (a, d, "eve"), (d, b, "eve"), (c, c, "ines")):
+                    journal.say_moved(1, before, after, person)
+                found[move.before[0] + move.target[0]] = Host.mover_of(host, move)
+        self.assertEqual(found, {"ab": "ines", "ac": "ines", "ad": "", "db": "", "dc": "", "ba": ""})
+
+    def test_what_was_said_of_a_push_counts_once_and_not_for_long(self):
+        journal = self.journal()
+        a, b = "a" * 40, "b" * 40
+        host = SimpleNamespace(settings=SimpleNamespace(may_push={"ines"}), owner=os.geteuid(), journal=journal)
+        with journal.step():
+            journal.say_moved(1, a, b, "ines")
+            journal.add_move(1, a, b)
+            move = journal.unknown_moves()[0]
+            self.assertEqual([Host.mover_of(host, move), Host.mover_of(host, move)], ["ines", ""])
+            journal.say_moved(5, a, b, "ines")
+            journal.drop_said_moves(4)
+            self.assertEqual(journal.said_to_move(b), [(a, "ines")])
+            journal.drop_said_moves(5)
+            self.assertEqual(Host.mover_of(host, move), "")
 
     def test_free_numbers(self):
         for taken, due in ((set(), 1), ({1, 2, 4}, 3), ({4294967295}, 1), ({2}, 1)):
@@ -373,6 +404,20 @@ class SandboxTests(InRepository):
         for value, is_given in (("no", False), ("yes", True)):
             words = words_before(self.places, self.settings(sandbox_network=value), self.room, self.room)
             self.assertEqual("--share-net" in words, is_given)
+
+    def test_the_environment_of_the_host_stays_outside(self):
+        given = {"PATH": "/bin", "LC_ALL": "C", "GATE_COMMIT": "x", "MY_TOKEN": "secret", "SSH_AUTH_SOCK": "/x", "HOME": "/root"}
+        self.assertEqual(environment_within(given), {"PATH": "/bin", "LC_ALL": "C", "GATE_COMMIT": "x", "HOME": "/tmp"})
+
+    def test_what_not_everybody_may_read_is_hidden(self):
+        for name, mode in (("open", 0o644), ("closed", 0o600)):
+            (self.room / name).touch()
+            (self.room / name).chmod(mode)
+        (self.room / "folder").mkdir(mode=0o700)
+        (self.room / "link").symlink_to("closed")
+        shutil.rmtree(self.path)
+        self.program.unlink()
+        self.assertEqual(list(unreadable_in(str(self.room))), [(f"{self.room}/closed", False), (f"{self.room}/folder", True)])
 
     def test_what_is_written_lies_over_what_is_read_and_the_repository_over_both(self):
         settings = self.settings(sandbox_reads=self.room, sandbox_writes=self.room)

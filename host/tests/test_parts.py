@@ -74,6 +74,11 @@ class PlacesTests(InFolder):
         with self.assertRaises(Trouble):
             must_be_safe(places)
         places.folder.chmod(0o755)
+        self.room.chmod(0o775)
+        with self.assertRaisesRegex(Trouble, "could exchange its folders"):
+            must_be_safe(places)
+        self.room.chmod(0o1775)
+        must_be_safe(places)
         places.records.rename(self.room / "elsewhere")
         places.records.symlink_to(self.room / "elsewhere")
         with self.assertRaises(Trouble):
@@ -277,6 +282,8 @@ class ChecksTests(InFolder):
         folder.mkdir(parents=True)
         (folder / "file").touch()
         (folder / "link").symlink_to("/")
+        (folder / "closed/within").mkdir(parents=True)
+        (folder / "closed").chmod(0o000)
         folder.chmod(0o555)
         remove_tree(self.room / "worktree")
         self.assertEqual(list(self.room.iterdir()), [])

@@ -12,7 +12,7 @@ from unittest import mock
 sys.path.insert(0, str(Path(__file__).resolve().parent.parent))
 
 from git import GitFailed, ask_git, run_git  # noqa: E402
-from hook import hook_command  # noqa: E402
+from hook import hook_command, hook_text  # noqa: E402
 from inspection import findings  # noqa: E402
 from places import Places, pointed_to  # noqa: E402
 from repository import KEPT, NOTHING, Repository  # noqa: E402
@@ -172,6 +172,43 @@ class MoveTests(InRepository):
         self.git("update-ref", "-d", "refs/heads/main")
         self.assertFalse(self.repository.land(land))
 
+    def test_a_branch_that_is_another_name_of_one_is_not_moved(self):
+        made = self.made(self.one)
+        self.git("symbolic-ref", "refs/heads/staging", "refs/heads/main")
+        with self.assertRaisesRegex(GitFailed, "refs/heads/staging is another name of refs/heads/main"):
+            self.repository.stage("staging", made, self.base, True)
+        self.git("symbolic-ref", "--delete", "refs/heads/staging")
+        self.git("update-ref", "refs/heads/other", self.base)
+        self.git("update-ref", "-d", "refs/heads/main")
+        self.git("symbolic-ref", "refs/heads/main", "refs/heads/other")
+        with self.assertRaisesRegex(GitFailed, "refs/heads/main is another name of refs/heads/other"):
+            self.repository.land({"order": "land", "batch": 3, "base": self.base, "commit": made})
+        self.assertEqual(self.git("rev-parse", "other"), self.base)
+
+    def test_locks_that_were_left_are_removed(self):
+        self.repository.fetch({"change/1": self.one})
+        for name in ("refs/gate/change/1.lock", "packed-refs.lock"):
+            (self.places.mirror / name).touch()
+        self.repository.remove_locks()
+        self.assertEqual([it for it in self.places.mirror.rglob("*.lock")], [])
+
+    def test_no_objects_of_elsewhere_are_read_if_others_may_name_them(self):
+        (self.path / "objects/info/alternates").write_text(f"{self.room}/secret/objects\n", encoding="utf-8")
+        self.assertEqual(self.repository.fetch({"change/1": self.one}), {})
+        (self.path / "config").chmod(0o664)
+        with self.assertRaisesRegex(GitFailed, "alternates"):
+            self.repository.fetch({"change/2": self.two})
+
+    def test_no_log_is_written_if_others_may_put_links_there(self):
+        self.git("config", "core.logAllRefUpdates", "true")
+        secret = self.room / "secret"
+        secret.touch()
+        (self.path / "logs/refs/heads").mkdir(parents=True, exist_ok=True)
+        (self.path / "logs/refs/heads/staging").symlink_to(secret)
+        (self.path / "refs").chmod(0o775)
+        Repository(self.places, "main").stage("staging", self.made(self.one), None, True)
+        self.assertEqual(secret.read_text(encoding="utf-8"), "")
+
     def test_a_landing_that_git_cannot_do_is_no_refusal(self):
         land = {"order": "land", "batch": 3, "base": self.base, "commit": self.made(self.one)}
         lock = self.path / "refs/heads/main.lock"
@@ -250,22 +287,24 @@ class InspectionTests(InRepository):
     def setUp(self):
         super().setUp()
         self.hook = self.path / "hooks/pre-receive"
-        self.hook.write_text(f"#!/bin/sh\nexec python3 {hook_command()}\n", encoding="utf-8")
+        self.hook.write_text(hook_text("python3"), encoding="utf-8")
         self.hook.chmod(0o755)
 
     def found(self, *words, is_grave):
         """One thing is found, and said with these words."""
-        found = findings(self.places, SETTINGS, hook_command())
+        found = findings(self.places, SETTINGS)
         self.assertEqual([it.is_grave for it in found], [is_grave], found)
         for word in words:
             self.assertIn(word, found[0].said)
 
     def test_a_sound_repository(self):
-        self.assertEqual(findings(self.places, SETTINGS, hook_command()), [])
+        self.assertEqual(findings(self.places, SETTINGS), [])
         self.git("config", "core.hooksPath", "hooks")
         self.git("pack-refs", "--all")
         self.git("update-ref", "refs/heads/change/7", self.one)
-        self.assertEqual(findings(self.places, SETTINGS, hook_command()), [])
+        self.assertEqual(findings(self.places, SETTINGS), [])
+        self.git("config", "core.bare", "yes")
+        self.assertEqual(findings(self.places, SETTINGS), [])
 
     def test_settings_of_git(self):
         for name, value, word, is_grave in (
@@ -273,6 +312,7 @@ class InspectionTests(InRepository):
             ("extensions.objectFormat", "sha256", "SHA-1", True), ("extensions.refStorage", "reftable", "in another way", True),
             ("filter.a.b.smudge", "evil", "filter.a.b.smudge", False), ("remote.x.uploadpack", "evil", "remote.x.uploadpack", False),
             ("extensions.partialClone", "x", "extensions.partialclone", False), ("core.sshCommand", "x", "core.sshcommand", False),
+            ("includeIf.gitdir:/**.path", "x", "count only at times", True),
         ):
             config = (self.path / "config").read_bytes()
             ask_git(None, "config", "--file", str(self.path / "config"), name, value)
@@ -287,9 +327,18 @@ class InspectionTests(InRepository):
     def test_hooks(self):
         self.hook.chmod(0o644)
         self.found("can't be executed", is_grave=True)
-        self.hook.write_text("#!/bin/sh\n", encoding="utf-8")
-        self.hook.chmod(0o755)
-        self.found("doesn't run gate-host", is_grave=True)
+        command = f"{hook_command()} --repository ."
+        for text in ("#!/bin/sh\n", f"#!/bin/sh\n# {command}\nexit 0\n", hook_text("python3") + "exit 0\n", f"exit 0\n{hook_text('x')}"):
+            self.hook.write_text(text, encoding="utf-8")
+            self.hook.chmod(0o755)
+            self.found("doesn't run gate-host", is_grave=True)
+        for text in (f"#!/bin/sh\npython3 {command} || exit\nexit 0\n", hook_text("/other/python 3")):
+            self.hook.write_text(text, encoding="utf-8")
+            self.assertEqual(findings(self.places, SETTINGS), [], text)
+        for path in (self.hook, self.hook.parent):
+            path.chmod(0o775)
+            self.found("others may write the hook", is_grave=True)
+            path.chmod(0o755)
         self.hook.unlink()
         self.found("isn't there", is_grave=True)
 
@@ -319,7 +368,9 @@ class InspectionTests(InRepository):
         self.git("pack-refs", "--all")
         self.found("refs/replace", is_grave=False)
         self.git("replace", "--delete", self.one)
-        for name, is_grave in (("info/grafts", False), ("objects/info/alternates", False), ("info/attributes", False), ("shallow", True)):
+        for name, is_grave in (
+            ("info/grafts", False), ("objects/info/alternates", False), ("info/attributes", False), ("shallow", True), ("commondir", True),
+        ):
             path = self.path / name
             path.parent.mkdir(exist_ok=True)
             path.write_text("\n", encoding="utf-8")
@@ -340,6 +391,9 @@ class ReferenceTests(InRepository):
         self.git("symbolic-ref", "refs/heads/a", "refs/heads/b")
         self.git("symbolic-ref", "refs/heads/b", "refs/heads/a")
         self.assertIsNone(pointed_to(self.path, "refs/heads/a")[0])
+        os.mkfifo(self.path / "refs/heads/pipe")
+        self.assertEqual(pointed_to(self.path, "refs/heads/pipe"), (None, "refs/heads/pipe"))
+        (self.path / "refs/heads/pipe").unlink()
         (self.path / "refs/heads/odd").write_text("x" * 40, encoding="utf-8")
         self.assertEqual(pointed_to(self.path, "refs/heads/odd"), (None, "refs/heads/odd"))
         self.assertNotEqual(pointed_to(self.path, "refs/heads/main")[0], NOTHING)

@@ -125,6 +125,10 @@ class Village:
         more = ["--reviewer", self.reviewer, "--program", self.program, "--check", "build=true"]
         self.must_run(user, PYTHON, self.host / "gate-host", "init", repository, *more)
 
+    def initialise_again(self) -> None:
+        """Has `gate-host init` make what is missing in the village's repository."""
+        self.must_run(self.owner, PYTHON, self.host / "gate-host", "init", self.repository)
+
     # The repository and the host
 
     def make_repository(self) -> None:
