@@ -14,7 +14,7 @@ import time
 from contextlib import closing
 from pathlib import Path
 
-from stories import GIT, TESTS, Failed, Story, must, run, want
+from stories import GIT, HOST, TESTS, Failed, Story, must, run, want
 
 # How long a host that must not do something is watched.
 WATCHED = 2.0
@@ -513,6 +513,38 @@ say ended
 """
 
 
+class JumpingClock(Attack):
+    """The clock is ten days ahead for a moment, while a batch is tested. It isn't timed out by that."""
+
+    def jump(self):
+        return self.room / "jump"
+
+    def make_repository(self):
+        super().make_repository()
+        self.set("tick_seconds = 0.4", "tick_seconds = 2")
+
+    def host_command(self):
+        return [sys.executable, TESTS / "jumping_host.py", HOST.parent, self.jump(), "run", self.repository]
+
+    def happen(self):
+        wait = self.room / "wait"
+        wait.touch()
+        self.push("otto", 1, {"parts/good": f"while test -e {wait}; do sleep 0.1; done\n"})
+        self.until("the change is open", lambda: self.report("change-1"))
+        self.say("rosa", 1, "bors r+")
+        self.until("it is staged", lambda: "staging staged" in self.report("queue"))
+        begin = time.time()
+        self.jump().touch()
+        self.until("it is told", lambda: self.complained("days ahead") or self.last_tick() > begin + 86400)
+        self.jump().unlink()
+        time.sleep(WATCHED)
+        wait.unlink()
+        self.told(1, "Landed on main")
+
+    def last_tick(self):
+        return max(it["now"] for it in self.events("tick"))
+
+
 class OtherNameOfTrying(Attack):
     """The branch trying is made another name of the main one, so a try would move that."""
 
@@ -677,6 +709,6 @@ def without_sandbox():
 ATTACKS = [
     ReplacedHead, ReplacedFile, ForgedObject, Graft, OtherName, NoHook, Stray, NamedCommand, BranchInTheWay, OwnStaging, OtherNames,
     StaleLock, StalledGit, OlderFile, OfAnotherHistory, TryReachesOut, OutOfTheSandbox, OtherNameOfTrying, OtherRepository, LostMirror,
-    LockInMirror, HiddenStray, ManyBranches, CannotBeCheckedOut, LastNumber,
+    LockInMirror, HiddenStray, ManyBranches, JumpingClock, CannotBeCheckedOut, LastNumber,
 ]
 CASES = [checker_finds_a_replaced_head]

@@ -24,7 +24,7 @@ from commands import must_read_tables  # noqa: E402
 from journal import Journal  # noqa: E402
 from loop import Host, is_claim, is_commit  # noqa: E402
 from places import Places, Trouble, must_be_safe, name_of_user, person, person_here, trusted_text  # noqa: E402
-from reports import log_text  # noqa: E402
+from reports import Reports, log_text  # noqa: E402
 from settings import roles_in, settings_in  # noqa: E402
 
 RUNNER = Path(__file__).resolve().parent.parent / "check_runner.py"
@@ -287,6 +287,51 @@ class ChecksTests(InFolder):
         folder.chmod(0o555)
         remove_tree(self.room / "worktree")
         self.assertEqual(list(self.room.iterdir()), [])
+
+
+class LogTests(InFolder):
+    """The logs of changes, which are written at their end."""
+
+    def setUp(self):
+        super().setUp()
+        self.places = Places(self.room)
+        self.places.reports.mkdir(parents=True)
+        self.places.records.mkdir()
+        self.journal = Journal(self.places.records / "journal.db")
+        self.addCleanup(self.journal.close)
+        self.log = self.places.reports / "log-7"
+
+    def tell(self, *texts):
+        with self.journal.step():
+            for text in texts:
+                self.journal.tell(7, 0, text)
+
+    def test_a_log_is_written_at_its_end(self):
+        reports = Reports(self.places, self.journal)
+        written = []
+        with mock.patch("reports.write", lambda path, text: written.append(path.name) or path.write_text(text, encoding="utf-8")):
+            for number in range(3):
+                self.tell(f"{number}", f"{number}\nmore")
+                reports.write_logs()
+                self.assertEqual(self.log.read_text(encoding="utf-8"), log_text(self.journal.told(7)))
+            reports.write_logs()
+        self.assertEqual(written, ["log-7"])
+
+    def test_a_log_is_whole_after_a_start_and_after_a_failure(self):
+        reports = Reports(self.places, self.journal)
+        self.tell("one")
+        reports.write_logs()
+        # A host has died while it wrote.
+        self.tell("two")
+        with open(self.log, "a", encoding="utf-8") as log:
+            log.write("19")
+        Reports(self.places, self.journal).write_logs()
+        self.assertEqual(self.log.read_text(encoding="utf-8"), log_text(self.journal.told(7)))
+        self.tell("three")
+        with mock.patch("reports.log_text", mock.Mock(side_effect=OSError)), self.assertRaises(OSError):
+            reports.write_logs()
+        reports.write_logs()
+        self.assertEqual(self.log.read_text(encoding="utf-8"), log_text(self.journal.told(7)))
 
 
 class EndingTests(unittest.TestCase):
