@@ -7,7 +7,6 @@ import json
 import os
 import re
 import secrets
-import shutil
 import signal
 import subprocess
 import sys
@@ -53,8 +52,9 @@ class Running:
     name: str = ""
     output: str = ""
     process: Optional[subprocess.Popen] = field(default=None)
-    # Why the commit can't be checked out, if it can't.
+    # Why the commit can't be checked out, if it can't; and whether its check runs in the sandbox.
     why_not: Optional[str] = None
+    is_within: bool = False
 
     @property
     def clone(self) -> Path:
@@ -132,9 +132,9 @@ class Checks:
         if running.why_not:
             (self.places.outputs / running.output).write_text(f"{running.why_not}\n", encoding="utf-8")
             return
-        is_within = sandbox_of(settings).is_on
-        before = words_before(self.places, settings, running.clone, running.scratch) if is_within else []
-        environment = environment_within(environment_of(running)) if is_within else environment_of(running)
+        running.is_within = sandbox_of(settings).is_on
+        before = words_before(self.places, settings, running.clone, running.scratch) if running.is_within else []
+        environment = environment_within(environment_of(running)) if running.is_within else environment_of(running)
         command = [sys.executable, str(RUNNER), f"{settings.check_seconds:g}", str(self.places.outputs / running.output)]
         running.process = subprocess.Popen(
             [*command, *before, "/bin/sh", "-c", settings.checks[name]], cwd=running.clone, env=environment,
@@ -155,7 +155,16 @@ class Checks:
             verdict = json.loads(end_group(process))
         except ValueError:
             verdict = {"state": "error", "said": "it was killed"}
+        if running.is_within and verdict["state"] == "failure" and self.is_of_sandbox(running.output):
+            self.complain(f"the sandbox for the check {name} of batch {running.test.batch} can't be made; its output says why")
+            self.next_start = time.monotonic() + RETRY_SECONDS
+            return None
         return Result(running.test, name, verdict["state"], verdict["said"], running.output)
+
+    def is_of_sandbox(self, output: str) -> bool:
+        """Whether nothing was run: then there is what bubblewrap says, and no more. A check that says so itself begins anew."""
+        with open(self.places.outputs / output, "rb") as file:
+            return file.read(7) == b"bwrap: "
 
     def stop(self, branch: str) -> None:
         """Ends what runs for a branch, and removes its clone."""
@@ -177,16 +186,10 @@ class Checks:
 
 
 def remove_tree(path: Path) -> None:
-    """Removes a folder with all that it has, also if some of it was made unwritable. What is of somebody else stays."""
-    with suppress(OSError):
-        os.chmod(path, 0o700)
-    for folder, names, _ in os.walk(path):
-        for name in names:
-            # A folder is listed after this.
-            if not os.path.islink(os.path.join(folder, name)):
-                with suppress(OSError):
-                    os.chmod(os.path.join(folder, name), 0o700)
-    shutil.rmtree(path, ignore_errors=True)
+    """Removes a folder with all that it has, however deep, also if some of it was made unwritable. What is of somebody else stays."""
+    if path.exists():
+        for command in (["chmod", "-R", "u+rwX"], ["rm", "-rf"]):
+            subprocess.run([*command, "--", str(path)], stdin=subprocess.DEVNULL, capture_output=True, check=False)
 
 
 def has_ended(process: subprocess.Popen) -> bool:

@@ -37,8 +37,17 @@ def is_hook(text: str) -> bool:
     """Whether a hook runs this: it is that of `init`, with any Python, or it has the command on a line that is no comment."""
     lines = text.split("\n")
     if MARK in lines:
-        return len(lines) == 4 and text == hook_text((shlex.split(lines[2]) + ["", ""])[1])
+        words = shlex_words(lines[2][len("exec "):-len(f" {hook_command()} --repository .")]) if len(lines) == 4 else []
+        return len(words) == 1 and text == hook_text(words[0])
     return any(hook_command() in line and not line.lstrip().startswith("#") for line in lines)
+
+
+def shlex_words(text: str) -> List[str]:
+    """The words of a text as the shell reads them, or none if it has an open quotation."""
+    try:
+        return shlex.split(text)
+    except ValueError:
+        return []
 
 
 def change_in(branch: str) -> int:

@@ -31,11 +31,18 @@ class Finding:
 
 
 def findings(places: Places, settings: Settings) -> List[Finding]:
-    """All that was found in a repository."""
+    """All that was found in a repository. What can't be looked at is found as such."""
+    try:
+        return all_findings(places, settings)
+    except OSError as fault:
+        return [Finding(f"something in {places.repository} can't be looked at: {fault}", True)]
+
+
+def all_findings(places: Places, settings: Settings) -> List[Finding]:
     given = settings_of_git(places.repository)
     return [
         *kind_of_repository(places.repository, given), *hooks_of(places.repository, given), *names_of_main(places, settings),
-        *names_in_the_way(places, settings), *what_git_reads_besides(places, given), *links_in(places.repository),
+        *names_in_the_way(places, settings), *what_git_reads_besides(places.repository, given), *links_in(places.repository),
     ]
 
 
@@ -60,9 +67,9 @@ def kind_of_repository(repository: Path, given: Mapping[str, str]) -> Iterator[F
         yield Finding(f"{repository} has names of commits that the bot doesn't take; they have to be SHA-1", True)
     if given.get("extensions.refstorage", "files") != "files":
         yield Finding(f"{repository} keeps its branches in another way than in files, which the host can't read", True)
-    if (repository / "shallow").exists():
+    if os.path.lexists(repository / "shallow"):
         yield Finding(f"{repository} is shallow: it lacks the history. git fetch --unshallow brings it", True)
-    if (repository / "commondir").exists():
+    if os.path.lexists(repository / "commondir"):
         yield Finding(f"{repository}/commondir has git read branches, settings and hooks of another repository; remove it", True)
     conditions = sorted(name for name in given if name.startswith("includeif."))
     if conditions:
@@ -85,7 +92,7 @@ def hooks_of(repository: Path, given: Mapping[str, str]) -> Iterator[Finding]:
         yield Finding(f"the hook {path} doesn't run gate-host; gate-host init {repository} says what it needs", True)
     if mode & 0o111 != 0o111 or not os.access(path, os.X_OK):
         yield Finding(f"the hook {path} can't be executed by all; chmod a+rx it", True)
-    if (mode | folder.stat().st_mode) & 0o022 or {user, folder.stat().st_uid} != {repository.stat().st_uid}:
+    if (mode | folder.stat().st_mode) & 0o022 or not {user, folder.stat().st_uid} <= {0, repository.stat().st_uid}:
         yield Finding(f"others may write the hook {path}; gate-host init {repository} mends that", True)
 
 
@@ -136,20 +143,18 @@ def names_of_branches(repository: Path) -> List[str]:
     return sorted(name for name in found if not name.endswith(".lock"))
 
 
-def what_git_reads_besides(places: Places, given: Mapping[str, str]) -> Iterator[Finding]:
+def what_git_reads_besides(repository: Path, given: Mapping[str, str]) -> Iterator[Finding]:
     """What has git read other objects than those that are named. The host and its checks read none of it but alternates, which the owner
     alone may set; others who work there may."""
-    repository = places.repository
     replaced = repository / "refs/replace"
     packed = (repository / "packed-refs").read_text(encoding="utf-8", errors="replace") if (repository / "packed-refs").is_file() else ""
     if (replaced.is_dir() and any(replaced.iterdir())) or " refs/replace/" in packed:
         yield Finding(f"{replaced} has objects that stand for others: with them git shows other commits than those that are tested")
-    if (repository / "info/grafts").exists():
+    if os.path.lexists(repository / "info/grafts"):
         yield Finding(f"{repository}/info/grafts has git show other parents of commits than they have")
-    if (repository / "objects/info/alternates").exists():
-        said = f"{repository}/objects/info/alternates has git read objects from elsewhere"
-        yield Finding(f"{said}; {'remove it, since others may write it' if places.is_shared() else 'if they go, commits are lost'}")
-    if (repository / "info/attributes").exists():
+    if os.path.lexists(repository / "objects/info/alternates"):
+        yield Finding(f"{repository}/objects/info/alternates has git read objects from elsewhere; if they go, commits are lost")
+    if os.path.lexists(repository / "info/attributes"):
         yield Finding(f"{repository}/info/attributes counts for git there, and not for the merges and checks of the host")
     named = sorted(filter(COMMANDS.fullmatch, given))
     if named:

@@ -8,7 +8,7 @@ import sqlite3
 import sys
 import time
 from itertools import count
-from typing import Callable, Container, Dict, List, Optional, Set, Tuple
+from typing import Callable, Container, Dict, List, Optional, Tuple
 
 import words
 from checks import Checks, Result
@@ -37,8 +37,8 @@ MOST_IN_SETTINGS = 10000
 COMMAND_LINE = re.compile(r"bors[ :]", re.IGNORECASE)
 SECONDS_TO_TIDY = 86400
 # So long after a hook has told of a push to the main branch git has moved it, or refused.
-SECONDS_OF_PUSH = 60
-# So many changes are looked at before other news is, so that a push of many holds nobody up.
+SECONDS_OF_PUSH = 600
+# So many changes are opened before there is other news, so that a push of many holds nobody up.
 MOST_CHANGES_AT_ONCE = 50
 # A clock that goes ahead by more has jumped.
 SECONDS_OF_JUMP = 86400
@@ -80,8 +80,8 @@ class Host:
         self.jumped_to: Optional[int] = None
         # The last good reading, and for how long the system had been running by then.
         self.clock_seen: Optional[Tuple[int, float]] = None
-        # Changes that were seen, and that later looks take.
-        self.later: Set[int] = set()
+        # Changes that were seen, and that later looks open.
+        self.later: List[int] = []
         # The heads of changes at the last look.
         self.heads: Dict[int, str] = {}
         # In which round a move of the main branch was seen first, that nobody has looked into yet.
@@ -312,7 +312,7 @@ class Host:
         """Moves the main branch from exactly the base to exactly the commit, or reports that it doesn't go. If git can't do it, that is
         no refusal: the order stays open, and holds up everything else."""
         try:
-            self.bring(Test("staging", order.body["batch"], order.body["commit"]))
+            self.bring_for_landing(order)
             is_on_main = self.repository.land(order.body)
         except GitFailed as fault:
             raise GitFailed(f"batch {order.body['batch']} can't be landed yet: {fault}") from fault
@@ -323,6 +323,14 @@ class Host:
             else:
                 self.journal.note("refused", order.report, batch=order.body["batch"])
             self.journal.mark_done(order)
+
+    def bring_for_landing(self, order: Order) -> None:
+        """Has a commit that is to be landed in the mirror. If it can't come, that matters only while the main branch is at the base."""
+        try:
+            self.bring(Test("staging", order.body["batch"], order.body["commit"]))
+        except GitFailed:
+            if self.repository.branches().get(self.repository.main) == order.body["base"]:
+                raise
 
     # What an answer means for the host
 
@@ -387,7 +395,7 @@ class Host:
         own = [self.repository.main, *self.repository.staged_on.values()]
         in_way = [f"{name} is in the way of {branch}; rename it" for branch in own for name in blocking(branches, branch)]
         aliases = [f"{name} is another name of {it.of}, and a push to it moves that" for name, it in branches.items() if it.of in own]
-        if (self.places.repository / "commondir").exists():
+        if os.path.lexists(self.places.repository / "commondir"):
             in_way.append(f"{self.places.repository}/commondir has git read another repository; remove it")
         if self.journal.fact("base") and self.repository.main not in branches:
             in_way.append(f"the branch {self.repository.main} isn't there any more")
@@ -446,7 +454,7 @@ class Host:
             with self.journal.step():
                 self.journal.set_mover(move.number, self.mover_of(move))
             self.moves_since.pop(move.target, None)
-        if not self.journal.unknown_moves() and not self.spool.has_more and time.monotonic() >= self.next_forgetting:
+        if not self.journal.unknown_moves() and time.monotonic() >= self.next_forgetting:
             self.next_forgetting = time.monotonic() + SECONDS_OF_PUSH
             with self.journal.step():
                 self.journal.drop_said_moves(int(time.time()) - SECONDS_OF_PUSH)
@@ -474,14 +482,16 @@ class Host:
         return ""
 
     def look_at_changes(self, heads: Dict[int, str]) -> None:
-        """Hands in which changes are new, have moved, or are gone."""
+        """Hands in which changes are new, have moved, or are gone. Of those that are new later looks take the rest. Those that have moved
+        don't wait: that ends their approval."""
         known = self.journal.changes()
-        new = [change for change, head in sorted(heads.items()) if known.get(change, ("", ""))[1] != head]
-        if len(new) > MOST_CHANGES_AT_ONCE:
-            heads = {change: head for change, head in heads.items() if change not in new[MOST_CHANGES_AT_ONCE:]}
+        new = {change for change in heads if known.get(change, ("closed", ""))[0] == "closed"}
+        waiting = [change for change in self.later if change in new]
+        self.later = [*waiting, *sorted(new - set(waiting))][MOST_CHANGES_AT_ONCE:]
+        if self.later:
+            heads = {change: head for change, head in heads.items() if change not in self.later}
             self.next_look = 0.0
-        later = self.later = set(new[MOST_CHANGES_AT_ONCE:])
-        self.fetch(known, heads, later)
+        self.fetch(known, heads)
         self.unclaimed = {(change, head): since for (change, head), since in self.unclaimed.items() if heads.get(change) == head}
         for change, head in sorted(heads.items()):
             phase, before = known.get(change, ("closed", ""))
@@ -492,16 +502,15 @@ class Host:
             elif head != before:
                 self.deliver("pushed", lambda: self.keep_head(change, head), change=change, head=head)
         for change, (phase, head) in known.items():
-            if phase == "open" and change not in heads and change not in later:
+            if phase == "open" and change not in heads:
                 self.deliver("closed", lambda: self.journal.set_change(change, "closed", head), change=change)
 
-    def fetch(self, known: Dict[int, Tuple[str, str]], heads: Dict[int, str], later: Set[int]) -> None:
+    def fetch(self, known: Dict[int, Tuple[str, str]], heads: Dict[int, str]) -> None:
         """Brings new heads into the mirror, at once. One that can't come is brought when it is needed, or told then."""
         new = {f"change/{change}": head for change, head in heads.items() if known.get(change, ("", ""))[1] != head}
         for name, why in self.repository.fetch(new).items():
             complain(f"the head of {name} can't be read whole: {why}")
-        gone = [change for change, (phase, _) in known.items() if phase == "open" and change not in heads and change not in later]
-        self.repository.forget(f"change/{change}" for change in gone)
+        self.repository.forget(f"change/{change}" for change, (phase, _) in known.items() if phase == "open" and change not in heads)
 
     def open(self, change: int, head: str) -> None:
         """Opens a change for whoever pushed it. A hook tells of that before the branch moves, so its note is there in the next round at
@@ -554,11 +563,11 @@ class Host:
             return True
         change, text = note.body.get("change"), note.body.get("text")
         is_whole = is_number(change) and isinstance(text, str) and len(text) <= MOST_IN_COMMENT
+        if is_whole and (change in self.later or any(change == unclaimed for unclaimed, _ in self.unclaimed)):
+            return False
         if is_whole and self.journal.change(change):
             self.hand_in_comment(note, change, text)
             return True
-        if is_whole and (any(change == unclaimed for unclaimed, _ in self.unclaimed) or change in self.later):
-            return False
         complain(f"a note of {note.person} is no comment on a change")
         return True
 

@@ -92,8 +92,8 @@ class Places:
     def is_shared(self) -> bool:
         """Whether others may write files of the repository."""
         names = (".", "refs", "refs/heads", "objects", "config", "logs")
-        modes = [os.stat(self.repository / name).st_mode for name in names if (self.repository / name).exists()]
-        return any(mode & 0o022 for mode in modes)
+        paths = [self.repository / name for name in names if os.path.lexists(self.repository / name)]
+        return any(path.is_symlink() or is_open_to_others(path) for path in paths)
 
 
 def name_of_user(number: int) -> Optional[str]:
@@ -155,12 +155,26 @@ def trusted_text(path: Path, owner: int) -> str:
         raise Trouble(f"{path} isn't written in UTF-8") from fault
 
 
+def is_open_to_others(path: Path) -> bool:
+    """Whether others may write a file or folder, as far as that can be told. One that isn't there isn't written."""
+    try:
+        return os.lstat(path).st_mode & 0o022 != 0
+    except FileNotFoundError:
+        return False
+    except OSError:
+        return True
+
+
 def must_be_safe(places: Places) -> None:
     """Refuses a folder that isn't the user's own, or that others may write: they could put other files in place of the host's. Others may
-    write the repository's own folder if it is sticky: then they can't put another folder in the place of one of the owner's."""
-    found = os.lstat(places.repository)
-    if found.st_mode & 0o022 and not found.st_mode & stat.S_ISVTX:
-        raise Trouble(f"others may write {places.repository}, and could exchange its folders; gate-host init {places.repository} mends it")
+    write the repository's folder and that of its objects if these are sticky: then they can't exchange what is the owner's. In the folder
+    `info` of the objects a file would have git read other ones."""
+    objects = places.repository / "objects"
+    exchanged = [path for path in (places.repository, objects) if is_open_to_others(path) and not os.lstat(path).st_mode & stat.S_ISVTX]
+    if is_open_to_others(objects / "info"):
+        exchanged.append(objects / "info")
+    for path in exchanged:
+        raise Trouble(f"others may write {path}, and could exchange what is in it; gate-host init {places.repository} mends that")
     for folder in (places.folder, places.records, places.reports, places.spool):
         found = os.lstat(folder) if folder.exists() else None
         if found is None or not stat.S_ISDIR(found.st_mode):

@@ -79,8 +79,6 @@ class Repository:
         return {name: ran.said or "git says no more" for name, ran in failed.items() if ran.status != 0}
 
     def fetched(self, heads: Mapping[str, str]) -> Ran:
-        if self.places.is_shared() and (self.places.repository / "objects/info/alternates").exists():
-            raise GitFailed("objects/info/alternates names objects elsewhere, which the owner may read and others not; remove it")
         places = "".join(f"+{commit}:{FETCHED}{name}\n" for name, commit in heads.items())
         return run_git(
             self.mirror, "fetch", "--quiet", "--no-tags", "--no-write-fetch-head", "--stdin", str(self.window), given=places.encode(),
@@ -216,6 +214,9 @@ class Repository:
         if now is None:
             return False
         self.must_have("main", now)
+        if run_git(self.mirror, "cat-file", "-e", order["commit"]).status != 0:
+            # All that belongs to the branch is here, and the commit isn't.
+            return False
         looked = run_git(self.mirror, "merge-base", "--is-ancestor", order["commit"], now)
         if looked.status not in (0, 1):
             raise GitFailed(f"git merge-base: {looked.said}")

@@ -1,11 +1,14 @@
 """The sandbox in which a check runs: bubblewrap's. Without it a check can do what the owner of the repository can."""
 import os
 import shutil
+import stat
 import subprocess
+import time
+from contextlib import suppress
 from dataclasses import dataclass
 from functools import lru_cache
 from pathlib import Path
-from typing import Dict, Iterator, List, Mapping, Tuple
+from typing import Dict, List, Mapping, Tuple
 
 from places import Places, Trouble
 from settings import Settings
@@ -15,6 +18,11 @@ OF_SYSTEM = ("/usr", "/bin", "/sbin", "/lib", "/lib32", "/lib64", "/libx32", "/e
 # What of its environment the host hands on.
 KEPT = ("PATH", "LANG", "LANGUAGE", "TZ", "TERM", "USER", "LOGNAME")
 KEPT_BEGINNINGS = ("LC_", "GATE_", "GIT_NO_REPLACE_OBJECTS")
+# The files that are hidden, and until when they needn't be looked for again. bubblewrap takes some thousand of them.
+HIDDEN: List[Tuple[str, bool]] = []
+HIDDEN_UNTIL = [0.0]
+SECONDS_OF_HIDDEN = 300
+MOST_HIDDEN = 50
 # Where the clone stands for a check.
 CLONE = "/checkout"
 
@@ -65,10 +73,12 @@ def words_before(places: Places, settings: Settings, clone: Path, scratch: Path)
     # If root runs the host, the check is root for the kernel, and could write its settings.
     for path in ("/proc/sys", "/proc/sysrq-trigger"):
         words += ["--ro-bind-try", path, path]
-    for path in (*OF_SYSTEM, *network_files(settings), *settings.sandbox_reads):
+    for path in (*OF_SYSTEM, *network_files(settings)):
         words += ["--ro-bind-try", path, path]
     for path, is_folder in hidden_files():
         words += ["--tmpfs", path] if is_folder else ["--ro-bind", "/dev/null", path]
+    for path in settings.sandbox_reads:
+        words += ["--ro-bind-try", path, path]
     for path in settings.sandbox_writes:
         words += ["--bind-try", path, path]
     words += ["--bind", str(scratch), "/tmp"]
@@ -90,23 +100,28 @@ def network_files(settings: Settings) -> Tuple[str, ...]:
     return (str(resolver.resolve().parent),) if settings.sandbox_network and resolver.is_symlink() else ()
 
 
-@lru_cache(maxsize=None)
-def hidden_files() -> Tuple[Tuple[str, bool], ...]:
-    """What of the system not everybody may read, as files of the owner: a check isn't to read it either."""
-    return tuple(hidden for folder in ("/etc", "/opt", "/usr/local") if os.path.isdir(folder) for hidden in unreadable_in(folder))
+def hidden_files() -> List[Tuple[str, bool]]:
+    """What of the system not everybody may read, as files of the owner: a check isn't to read it either. Looked for anew after a while."""
+    if not HIDDEN or time.monotonic() > HIDDEN_UNTIL[0]:
+        folders = [folder for folder in ("/etc", "/opt", "/usr/local") if os.path.isdir(folder) and not os.path.islink(folder)]
+        HIDDEN[:] = [hidden for folder in folders for hidden in unreadable_in(folder)]
+        HIDDEN_UNTIL[0] = time.monotonic() + SECONDS_OF_HIDDEN
+    return [(path, is_folder) for path, is_folder in HIDDEN if os.path.lexists(path)]
 
 
-def unreadable_in(folder: str) -> Iterator[Tuple[str, bool]]:
+def unreadable_in(folder: str) -> List[Tuple[str, bool]]:
+    """The files and folders below a folder that not everybody may read. If there are many, it is the folder itself."""
     try:
         entries = sorted(os.scandir(folder), key=lambda entry: entry.name)
     except OSError:
         # Then a check can't read it either.
-        return
+        return []
+    found: List[Tuple[str, bool]] = []
     for entry in entries:
-        if entry.is_symlink():
-            continue
-        is_folder, mode = entry.is_dir(), entry.stat(follow_symlinks=False).st_mode
-        if (is_folder and mode & 0o005 != 0o005) or (entry.is_file() and not mode & 0o004):
-            yield entry.path, is_folder
-        elif is_folder:
-            yield from unreadable_in(entry.path)
+        with suppress(OSError):
+            mode = entry.stat(follow_symlinks=False).st_mode
+            if stat.S_ISDIR(mode):
+                found += unreadable_in(entry.path) if mode & 0o005 == 0o005 else [(entry.path, True)]
+            elif stat.S_ISREG(mode) and not mode & 0o004:
+                found.append((entry.path, False))
+    return found if len(found) <= MOST_HIDDEN else [(folder, True)]

@@ -13,7 +13,7 @@ from hook import MARK, SCRIPT, hook_command, hook_text
 from inspection import findings, kind_of_repository, must_be_guarded, names_of_branches, settings_of_git
 from journal import Journal
 from loop import MOST_IN_SETTINGS, complain
-from places import Places, Trouble, make_identity, must_be_safe, name_of_user, person, pointed_to
+from places import Places, Trouble, is_open_to_others, make_identity, must_be_safe, name_of_user, person, pointed_to
 from repository import BRANCHES, Repository
 from settings import FIRST_ROLES, FIRST_SETTINGS, Settings, read_roles, read_settings, roles_in, settings_in
 from spool import leave
@@ -151,13 +151,15 @@ def with_lines(text: str, reviewers: List[str], members: List[str]) -> str:
 def close_to_others(repository: Path) -> None:
     """In a repository that others may write, nobody else may exchange the folders of the owner, or write the hooks. Then git can't put
     branches together in one file there, which it would replace."""
-    mode = repository.stat().st_mode
-    if mode & 0o022:
-        repository.chmod(stat.S_IMODE(mode) | stat.S_ISVTX)
-        ask_git(None, "config", "--file", str(repository / "config"), "gc.packRefs", "false")
-    (repository / "hooks").mkdir(exist_ok=True)
-    for path in (repository / "hooks", repository / "hooks/pre-receive"):
-        if path.exists():
+    for path in (repository, repository / "objects"):
+        if is_open_to_others(path):
+            path.chmod(stat.S_IMODE(path.stat().st_mode) | stat.S_ISVTX)
+            ask_git(None, "config", "--file", str(repository / "config"), "gc.packRefs", "false")
+    for name in ("hooks", "objects/info"):
+        (repository / name).mkdir(exist_ok=True)
+    for name in ("hooks", "hooks/pre-receive", "objects/info"):
+        path = repository / name
+        if path.exists() and is_open_to_others(path):
             path.chmod(stat.S_IMODE(path.stat().st_mode) & ~0o022)
 
 
@@ -193,6 +195,8 @@ def write_hook(repository: Path) -> None:
     found = path.read_text(encoding="utf-8", errors="replace") if path.exists() else MARK
     if MARK not in found and hook_command() not in found:
         raise Trouble(f"{path} is there already; have it run this, with its input and its status, and init again: {command}")
+    if MARK in found and found.count("\n") != 3 and found != MARK:
+        raise Trouble(f"{path} has more than what init wrote; to keep it as a hook of your own, take out the line {MARK!r}")
     if MARK in found:
         path.parent.mkdir(exist_ok=True)
         replace(path, hook_text(python_for_all()), 0o755)

@@ -639,13 +639,14 @@ class ManyBranches(Attack):
     def happen(self):
         self.push("otto", 1, {"parts/good": "test 1 -gt 0\n"})
         self.until("the change is open", lambda: self.report("change-1"))
-        many = [f"HEAD:refs/heads/change/{number}" for number in range(1000, 1400)]
+        many = [f"HEAD:refs/heads/change/{number}" for number in range(1000, 2200)]
         self.must_git("push", "--quiet", "origin", *many, at=self.clone, person="otto")
-        self.until("some of them are open", lambda: self.report("change-1000"))
         self.say("milo", 1, "bors ping")
+        self.until("all of them are open", lambda: self.report("change-2199"))
         self.told(1, "gate: done")
-        must("whether not all of them were open by then", not self.report("change-1399"))
-        self.until("all of them are open", lambda: self.report("change-1399"))
+        events = [it["event"] for it, _ in self.recorded()]
+        later = events[events.index("comment"):].count("opened")
+        must(f"whether the comment came before others, and not before {later}", later > 100)
 
 
 class CannotBeCheckedOut(Attack):

@@ -89,6 +89,9 @@ def line_of_config(name: str, value: str) -> str:
 def folders_of_the_owner_stay(village: Village) -> None:
     """Who may write the repository's folder can't put others in the place of those of the host and of its hooks."""
     share(village)
+    info = village.repository / "objects/info"
+    for words in (f"echo /x >{info}/alternates", f"mv {info} {info}-away", f"rm -r {info}"):
+        must(f"whether {words} is refused", village.run(village.attacker, "sh", "-c", words).returncode != 0 and info.is_dir())
     for name in ("gate", "hooks", "refs", "objects"):
         ran = village.run(village.attacker, "mv", village.repository / name, village.repository / f"{name}-away")
         must(f"whether {name} stays", ran.returncode != 0 and (village.repository / name).is_dir())

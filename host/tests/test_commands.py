@@ -135,7 +135,16 @@ class InitTests(InRepository):
         self.path.chmod(0o775)
         ran = self.run_host("run", str(self.path))
         self.assertEqual(ran.returncode, 1)
-        self.assertIn("could exchange its folders", ran.stderr)
+        self.assertIn("could exchange what is in it", ran.stderr)
+
+    def test_a_hook_to_which_something_was_added_is_kept(self):
+        self.set_up()
+        path = self.path / "hooks/pre-receive"
+        text = path.read_text(encoding="utf-8") + "echo more\n"
+        path.write_text(text, encoding="utf-8")
+        ran = self.init()
+        self.assertEqual((ran.returncode, path.read_text(encoding="utf-8")), (1, text))
+        self.assertIn("take out the line", ran.stderr)
 
     def test_the_hook_runs_a_python_that_all_can_run(self):
         self.set_up()
@@ -417,7 +426,11 @@ class SandboxTests(InRepository):
         (self.room / "link").symlink_to("closed")
         shutil.rmtree(self.path)
         self.program.unlink()
-        self.assertEqual(list(unreadable_in(str(self.room))), [(f"{self.room}/closed", False), (f"{self.room}/folder", True)])
+        self.assertEqual(unreadable_in(str(self.room)), [(f"{self.room}/closed", False), (f"{self.room}/folder", True)])
+        for number in range(60):
+            (self.room / f"closed-{number}").touch(0o600)
+        self.assertEqual(unreadable_in(str(self.room)), [(str(self.room), True)])
+        self.assertEqual(unreadable_in(str(self.room / "none")), [])
 
     def test_what_is_written_lies_over_what_is_read_and_the_repository_over_both(self):
         settings = self.settings(sandbox_reads=self.room, sandbox_writes=self.room)

@@ -75,9 +75,17 @@ class PlacesTests(InFolder):
             must_be_safe(places)
         places.folder.chmod(0o755)
         self.room.chmod(0o775)
-        with self.assertRaisesRegex(Trouble, "could exchange its folders"):
+        with self.assertRaisesRegex(Trouble, "could exchange what is in it"):
             must_be_safe(places)
         self.room.chmod(0o1775)
+        must_be_safe(places)
+        (self.room / "objects/info").mkdir(parents=True)
+        for name, mode in (("objects", 0o775), ("objects/info", 0o775)):
+            (self.room / name).chmod(mode)
+            with self.assertRaisesRegex(Trouble, "could exchange what is in it"):
+                must_be_safe(places)
+            (self.room / name).chmod(0o755)
+        (self.room / "objects").chmod(0o1775)
         must_be_safe(places)
         places.records.rename(self.room / "elsewhere")
         places.records.symlink_to(self.room / "elsewhere")
@@ -283,6 +291,9 @@ class ChecksTests(InFolder):
         (folder / "file").touch()
         (folder / "link").symlink_to("/")
         (folder / "closed/within").mkdir(parents=True)
+        # Deeper than a path may be long, and than a function may call itself.
+        deep = 'import os\nfor _ in range(3000):\n    os.mkdir("d")\n    os.chdir("d")'
+        subprocess.run([sys.executable, "-c", deep], cwd=folder, check=True, timeout=60)
         (folder / "closed").chmod(0o000)
         folder.chmod(0o555)
         remove_tree(self.room / "worktree")

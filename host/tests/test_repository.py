@@ -192,13 +192,6 @@ class MoveTests(InRepository):
         self.repository.remove_locks()
         self.assertEqual([it for it in self.places.mirror.rglob("*.lock")], [])
 
-    def test_no_objects_of_elsewhere_are_read_if_others_may_name_them(self):
-        (self.path / "objects/info/alternates").write_text(f"{self.room}/secret/objects\n", encoding="utf-8")
-        self.assertEqual(self.repository.fetch({"change/1": self.one}), {})
-        (self.path / "config").chmod(0o664)
-        with self.assertRaisesRegex(GitFailed, "alternates"):
-            self.repository.fetch({"change/2": self.two})
-
     def test_no_log_is_written_if_others_may_put_links_there(self):
         self.git("config", "core.logAllRefUpdates", "true")
         secret = self.room / "secret"
@@ -208,6 +201,10 @@ class MoveTests(InRepository):
         (self.path / "refs").chmod(0o775)
         Repository(self.places, "main").stage("staging", self.made(self.one), None, True)
         self.assertEqual(secret.read_text(encoding="utf-8"), "")
+
+    def test_a_commit_that_is_gone_is_refused_once_the_main_branch_is_elsewhere(self):
+        self.git("update-ref", "refs/heads/main", self.two)
+        self.assertFalse(self.repository.land({"order": "land", "batch": 3, "base": self.base, "commit": "7" * 40}))
 
     def test_a_landing_that_git_cannot_do_is_no_refusal(self):
         land = {"order": "land", "batch": 3, "base": self.base, "commit": self.made(self.one)}
@@ -328,7 +325,9 @@ class InspectionTests(InRepository):
         self.hook.chmod(0o644)
         self.found("can't be executed", is_grave=True)
         command = f"{hook_command()} --repository ."
-        for text in ("#!/bin/sh\n", f"#!/bin/sh\n# {command}\nexit 0\n", hook_text("python3") + "exit 0\n", f"exit 0\n{hook_text('x')}"):
+        own = hook_text("python3")
+        more = (own + "exit 0\n", f"exit 0\n{own}", own.replace("python3", "'"), own.replace("python3", "true;"))
+        for text in ("#!/bin/sh\n", f"#!/bin/sh\n# {command}\nexit 0\n", *more):
             self.hook.write_text(text, encoding="utf-8")
             self.hook.chmod(0o755)
             self.found("doesn't run gate-host", is_grave=True)
