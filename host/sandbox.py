@@ -102,21 +102,23 @@ def network_files(settings: Settings) -> Tuple[str, ...]:
 
 def hidden_files() -> List[Tuple[str, bool]]:
     """What of the system not everybody may read, as files of the owner: a check isn't to read it either. Looked for anew after a while."""
-    if not HIDDEN or time.monotonic() > HIDDEN_UNTIL[0]:
+    if time.monotonic() > HIDDEN_UNTIL[0]:
         folders = [folder for folder in ("/etc", "/opt", "/usr/local") if os.path.isdir(folder) and not os.path.islink(folder)]
-        HIDDEN[:] = [hidden for folder in folders for hidden in unreadable_in(folder)]
+        HIDDEN[:] = [hidden for folder in folders for hidden in unreadable_in(folder, is_needed=True)]
         HIDDEN_UNTIL[0] = time.monotonic() + SECONDS_OF_HIDDEN
     return [(path, is_folder) for path, is_folder in HIDDEN if os.path.lexists(path)]
 
 
-def unreadable_in(folder: str) -> List[Tuple[str, bool]]:
-    """The files and folders below a folder that not everybody may read. If there are many, it is the folder itself."""
+def unreadable_in(folder: str, is_needed: bool = False) -> List[Tuple[str, bool]]:
+    """The files and folders below a folder that not everybody may read. If many files of the folder are so, it is the folder itself, unless
+    checks need that."""
     try:
         entries = sorted(os.scandir(folder), key=lambda entry: entry.name)
     except OSError:
         # Then a check can't read it either.
         return []
     found: List[Tuple[str, bool]] = []
+    files = 0
     for entry in entries:
         with suppress(OSError):
             mode = entry.stat(follow_symlinks=False).st_mode
@@ -124,4 +126,5 @@ def unreadable_in(folder: str) -> List[Tuple[str, bool]]:
                 found += unreadable_in(entry.path) if mode & 0o005 == 0o005 else [(entry.path, True)]
             elif stat.S_ISREG(mode) and not mode & 0o004:
                 found.append((entry.path, False))
-    return found if len(found) <= MOST_HIDDEN else [(folder, True)]
+                files += 1
+    return found if is_needed or files <= MOST_HIDDEN else [(folder, True)]

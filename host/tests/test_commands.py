@@ -430,6 +430,7 @@ class SandboxTests(InRepository):
         for number in range(60):
             (self.room / f"closed-{number}").touch(0o600)
         self.assertEqual(unreadable_in(str(self.room)), [(str(self.room), True)])
+        self.assertEqual(len(unreadable_in(str(self.room), is_needed=True)), 62)
         self.assertEqual(unreadable_in(str(self.room / "none")), [])
 
     def test_what_is_written_lies_over_what_is_read_and_the_repository_over_both(self):
