@@ -16,6 +16,8 @@ from typing import List, Tuple
 # Of a longer output the beginning and the end are kept.
 MOST_AT_FRONT = 65536
 MOST_AT_END = 196608
+# The state of a check that bubblewrap couldn't run.
+UNMADE = "unmade"
 
 
 class Output:
@@ -47,9 +49,15 @@ class Output:
 
 
 def run(seconds: float, output: Output, words: List[str]) -> Tuple[str, str]:
-    """Runs the command to its end, and gives the state of its status and how it ended."""
+    """Runs the command to its end, and gives the state of its status and how it ended. If bubblewrap couldn't make the sandbox, so that
+    nothing was run, the state is none of a status."""
     start = time.monotonic()
-    child = subprocess.Popen(words, stdin=subprocess.DEVNULL, stdout=subprocess.PIPE, stderr=subprocess.STDOUT)
+    told: List[int] = []
+    if words[0] == "bwrap":
+        # There it tells that the command has ended. It hands the file on to nothing that it runs.
+        told = [os.memfd_create("sandbox")]
+        words = ["bwrap", "--json-status-fd", str(told[0]), *words[1:]]
+    child = subprocess.Popen(words, stdin=subprocess.DEVNULL, stdout=subprocess.PIPE, stderr=subprocess.STDOUT, pass_fds=told)
     pipe = child.stdout.fileno()
     os.set_blocking(pipe, False)
     watched = [pipe, sys.stdin.fileno()]
@@ -65,6 +73,8 @@ def run(seconds: float, output: Output, words: List[str]) -> Tuple[str, str]:
             watched.remove(pipe)
     read(pipe, output)
     took = f"after {time.monotonic() - start:.0f} seconds"
+    if child.returncode == 1 and told and b"exit-code" not in os.pread(told[0], 65536, 0):
+        return UNMADE, "the sandbox couldn't be made"
     if child.returncode < 0:
         return "error", f"it was ended by signal {-child.returncode} {took}"
     return ("success" if child.returncode == 0 else "failure"), f"it ended with status {child.returncode} {took}"

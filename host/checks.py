@@ -16,11 +16,12 @@ from dataclasses import dataclass, field
 from pathlib import Path
 from typing import Callable, Dict, List, Optional
 
+from check_runner import UNMADE
 from git import GitFailed, clean_environment
 from journal import Test
 from places import Places, Trouble
 from repository import Repository
-from sandbox import Sandbox, environment_within, sandbox_of, words_before
+from sandbox import Sandbox, environment_within, look_again_for_hidden, sandbox_of, words_before
 from settings import Settings
 
 RUNNER = Path(__file__).resolve().with_name("check_runner.py")
@@ -28,6 +29,8 @@ RUNNER = Path(__file__).resolve().with_name("check_runner.py")
 MOST_OUTPUTS = 500
 SECONDS_FOR_CLONE = 600
 RETRY_SECONDS = 5
+# So often a sandbox that can't be made is tried again.
+MOST_ATTEMPTS = 3
 # What keeps a commit from being checked out and is no fault of it.
 OF_SYSTEM = (errno.ENOSPC, errno.EDQUOT, errno.EIO, errno.EMFILE, errno.ENFILE, errno.ENOMEM, errno.EROFS)
 
@@ -52,9 +55,10 @@ class Running:
     name: str = ""
     output: str = ""
     process: Optional[subprocess.Popen] = field(default=None)
-    # Why the commit can't be checked out, if it can't; and whether its check runs in the sandbox.
+    # Why the commit can't be checked out, if it can't.
     why_not: Optional[str] = None
-    is_within: bool = False
+    # How often the sandbox couldn't be made.
+    attempts: int = 0
 
     @property
     def clone(self) -> Path:
@@ -76,8 +80,8 @@ class Checks:
         self.bring = bring
         self.complain = complain
         self.running: Dict[str, Running] = {}
-        # When a check that couldn't be started is tried again.
-        self.next_start = 0.0
+        # When a check that couldn't be started is tried again, by the branch.
+        self.next_start: Dict[str, float] = {}
 
     def clear(self) -> None:
         """Removes the clones that an earlier host has left. What ran there ends by itself."""
@@ -100,7 +104,7 @@ class Checks:
     def begin(self, test: Test, settings: Settings, done: Dict[str, str]) -> None:
         """Starts the next check of a commit, if none runs and one is left."""
         running = self.running.get(test.branch)
-        if (running and running.name) or time.monotonic() < self.next_start:
+        if (running and running.name) or time.monotonic() < self.next_start.get(test.branch, 0.0):
             return
         name = next((name for name in settings.checks if name not in done), None)
         if name is None:
@@ -111,7 +115,7 @@ class Checks:
         except (GitFailed, OSError, Trouble) as fault:
             self.complain(f"the check {name} of batch {test.batch} can't be started: {fault}")
             self.stop(test.branch)
-            self.next_start = time.monotonic() + RETRY_SECONDS
+            self.next_start[test.branch] = time.monotonic() + RETRY_SECONDS
 
     def check_out(self, test: Test) -> Running:
         """Makes the clone of a commit. If git can't check it out, its checks fail at once, unless it is the disk that is full."""
@@ -132,9 +136,9 @@ class Checks:
         if running.why_not:
             (self.places.outputs / running.output).write_text(f"{running.why_not}\n", encoding="utf-8")
             return
-        running.is_within = sandbox_of(settings).is_on
-        before = words_before(self.places, settings, running.clone, running.scratch) if running.is_within else []
-        environment = environment_within(environment_of(running)) if running.is_within else environment_of(running)
+        is_within = sandbox_of(settings).is_on
+        before = words_before(self.places, settings, running.clone, running.scratch) if is_within else []
+        environment = environment_within(environment_of(running)) if is_within else environment_of(running)
         command = [sys.executable, str(RUNNER), f"{settings.check_seconds:g}", str(self.places.outputs / running.output)]
         running.process = subprocess.Popen(
             [*command, *before, "/bin/sh", "-c", settings.checks[name]], cwd=running.clone, env=environment,
@@ -155,16 +159,14 @@ class Checks:
             verdict = json.loads(end_group(process))
         except ValueError:
             verdict = {"state": "error", "said": "it was killed"}
-        if running.is_within and verdict["state"] == "failure" and self.is_of_sandbox(running.output):
+        if verdict["state"] == UNMADE and running.attempts < MOST_ATTEMPTS:
+            running.attempts += 1
+            look_again_for_hidden()
             self.complain(f"the sandbox for the check {name} of batch {running.test.batch} can't be made; its output says why")
-            self.next_start = time.monotonic() + RETRY_SECONDS
+            self.next_start[running.test.branch] = time.monotonic() + RETRY_SECONDS
             return None
-        return Result(running.test, name, verdict["state"], verdict["said"], running.output)
-
-    def is_of_sandbox(self, output: str) -> bool:
-        """Whether nothing was run: then there is what bubblewrap says, and no more. A check that says so itself begins anew."""
-        with open(self.places.outputs / output, "rb") as file:
-            return file.read(7) == b"bwrap: "
+        state = "error" if verdict["state"] == UNMADE else verdict["state"]
+        return Result(running.test, name, state, verdict["said"], running.output)
 
     def stop(self, branch: str) -> None:
         """Ends what runs for a branch, and removes its clone."""
@@ -187,7 +189,9 @@ class Checks:
 
 def remove_tree(path: Path) -> None:
     """Removes a folder with all that it has, however deep, also if some of it was made unwritable. What is of somebody else stays."""
-    if path.exists():
+    if path.is_symlink():
+        path.unlink()
+    elif path.exists():
         for command in (["chmod", "-R", "u+rwX"], ["rm", "-rf"]):
             subprocess.run([*command, "--", str(path)], stdin=subprocess.DEVNULL, capture_output=True, check=False)
 

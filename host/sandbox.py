@@ -109,6 +109,11 @@ def hidden_files() -> List[Tuple[str, bool]]:
     return [(path, is_folder) for path, is_folder in HIDDEN if os.path.lexists(path)]
 
 
+def look_again_for_hidden() -> None:
+    """Has what is hidden be looked for at the next check: something of it may be another thing by now."""
+    HIDDEN_UNTIL[0] = 0.0
+
+
 def unreadable_in(folder: str, is_needed: bool = False) -> List[Tuple[str, bool]]:
     """The files and folders below a folder that not everybody may read. If many files of the folder are so, it is the folder itself, unless
     checks need that."""

@@ -153,14 +153,21 @@ def close_to_others(repository: Path) -> None:
     branches together in one file there, which it would replace."""
     for path in (repository, repository / "objects"):
         if is_open_to_others(path):
-            path.chmod(stat.S_IMODE(path.stat().st_mode) | stat.S_ISVTX)
+            change_mode(path, stat.S_IMODE(path.stat().st_mode) | stat.S_ISVTX)
             ask_git(None, "config", "--file", str(repository / "config"), "gc.packRefs", "false")
     for name in ("hooks", "objects/info"):
         (repository / name).mkdir(exist_ok=True)
     for name in ("hooks", "hooks/pre-receive", "objects/info"):
         path = repository / name
         if path.exists() and is_open_to_others(path):
-            path.chmod(stat.S_IMODE(path.stat().st_mode) & ~0o022)
+            change_mode(path, stat.S_IMODE(path.stat().st_mode) & ~0o022)
+
+
+def change_mode(path: Path, mode: int) -> None:
+    try:
+        path.chmod(mode)
+    except PermissionError:
+        raise Trouble(f"{path} has to have the mode {mode:o}, and belongs to user {path.stat().st_uid}, who has to change that") from None
 
 
 def make_folders(places: Places) -> None:
@@ -200,7 +207,8 @@ def write_hook(repository: Path) -> None:
     if MARK in found:
         path.parent.mkdir(exist_ok=True)
         replace(path, hook_text(python_for_all()), 0o755)
-        path.chmod(0o755)
+        if stat.S_IMODE(path.stat().st_mode) != 0o755:
+            change_mode(path, 0o755)
 
 
 def others_branches(places: Places, settings: Settings) -> List[str]:

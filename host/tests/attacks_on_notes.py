@@ -62,7 +62,7 @@ LENGTH = 1024
 # What a pipe of tar is read by.
 RECORD = 10240
 # So long a note of the reviewer's may take with a flood, besides ten times of what one takes without.
-SECONDS_FOR_REVIEWER = 5
+SECONDS_FOR_REVIEWER = 30
 
 
 # --- What the attacker makes

@@ -2,6 +2,8 @@
 import json
 import os
 import pwd
+import shlex
+import shutil
 import signal
 import sqlite3
 import subprocess
@@ -218,7 +220,10 @@ class ClientTests(InFolder):
 
 class CheckRunnerTests(InFolder):
     def start(self, command, seconds=20):
-        arguments = [sys.executable, str(RUNNER), str(seconds), str(self.room / "output"), "/bin/sh", "-c", command]
+        return self.start_words(["/bin/sh", "-c", command], seconds)
+
+    def start_words(self, words, seconds=20):
+        arguments = [sys.executable, str(RUNNER), str(seconds), str(self.room / "output"), *words]
         return subprocess.Popen(arguments, cwd=self.room, stdin=subprocess.PIPE, stdout=subprocess.PIPE, start_new_session=True)
 
     def verdict_of(self, command, **more):
@@ -239,6 +244,19 @@ class CheckRunnerTests(InFolder):
             found = self.verdict_of(command)
             self.assertEqual(found[0], state)
             self.assertIn(said, found[1])
+
+    @unittest.skipUnless(shutil.which("bwrap"), "bubblewrap isn't installed")
+    def test_a_sandbox_that_cannot_be_made_is_told_apart(self):
+        for given, due in (
+            ("--bind /none /x /bin/true", "unmade"), ("--ro-bind / / sh -c 'echo bwrap: no; exit 1'", "failure"),
+            ("--ro-bind / / true", "success"),
+        ):
+            process = self.start_words(["bwrap", *shlex.split(given)])
+            said = process.stdout.read()
+            process.wait(30)
+            process.stdin.close()
+            process.stdout.close()
+            self.assertEqual(json.loads(said)["state"], due, given)
 
     def test_no_signal_is_ignored_within(self):
         for number in (signal.SIGTERM, signal.SIGINT, signal.SIGHUP):
@@ -296,7 +314,14 @@ class ChecksTests(InFolder):
         subprocess.run([sys.executable, "-c", deep], cwd=folder, check=True, timeout=60)
         (folder / "closed").chmod(0o000)
         folder.chmod(0o555)
-        remove_tree(self.room / "worktree")
+        outside = Path(tempfile.mkdtemp())
+        self.addCleanup(outside.rmdir)
+        outside.chmod(0o500)
+        (self.room / "worktree/outside").symlink_to(outside)
+        (self.room / "outside").symlink_to(outside)
+        for name in ("worktree", "outside"):
+            remove_tree(self.room / name)
+        self.assertEqual(outside.stat().st_mode & 0o777, 0o500)
         self.assertEqual(list(self.room.iterdir()), [])
 
 

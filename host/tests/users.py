@@ -170,7 +170,7 @@ class Village:
         self.process.terminate()
         want("how the host ends", self.process.wait(SECONDS), 0)
 
-    def until(self, what: str, is_so: Callable[[], bool], seconds: float = 30) -> None:
+    def until(self, what: str, is_so: Callable[[], bool], seconds: float = 150) -> None:
         late = time.monotonic() + seconds
         while not is_so():
             if time.monotonic() > late:
@@ -193,7 +193,7 @@ class Village:
 
     # What is due
 
-    def told(self, words: str, seconds: float = 30) -> None:
+    def told(self, words: str, seconds: float = 150) -> None:
         self.until(f"the log of the change says {words!r}", lambda: words in self.report("log-1"), seconds)
 
     def must_have_said_nothing(self) -> None:
