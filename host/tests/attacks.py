@@ -14,7 +14,7 @@ import time
 from contextlib import closing
 from pathlib import Path
 
-from stories import GIT, HOST, TESTS, Failed, Story, must, run, want
+from stories import GIT, HOST, TESTS, Failed, Story, must, run, want, why_not
 
 # How long a host that must not do something is watched.
 WATCHED = 2.0
@@ -706,7 +706,7 @@ def checker_finds_a_replaced_head(program, room):
 
 def without_sandbox():
     """The attacks that can't be played here."""
-    return [] if shutil.which("bwrap") else [OutOfTheSandbox]
+    return [OutOfTheSandbox] if why_not() else []
 
 
 ATTACKS = [

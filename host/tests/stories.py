@@ -18,6 +18,7 @@ sys.path.insert(0, str(TOP / "host"))
 
 import spool  # noqa: E402
 from places import Places  # noqa: E402
+from sandbox import why_not  # noqa: E402
 
 # Another host than the one of this tree may be tested, as an older one.
 HOST = Path(os.environ.get("GATE_HOST", TOP / "host/gate-host"))
@@ -299,7 +300,7 @@ echo >>beside && {git} add beside && {git} commit --quiet -m beside && {git} pus
 class Calm(Story):
     """Nothing else happens. The checks run in the sandbox."""
 
-    sandbox = "required" if shutil.which("bwrap") else "off"
+    sandbox = "off" if why_not() else "required"
 
 
 class Killed(Story):

@@ -3,7 +3,6 @@ import json
 import os
 import pwd
 import shlex
-import shutil
 import signal
 import sqlite3
 import subprocess
@@ -27,6 +26,7 @@ from journal import Journal  # noqa: E402
 from loop import Host, is_claim, is_commit  # noqa: E402
 from places import Places, Trouble, must_be_safe, name_of_user, person, person_here, trusted_text  # noqa: E402
 from reports import Reports, log_text  # noqa: E402
+from sandbox import why_not  # noqa: E402
 from settings import roles_in, settings_in  # noqa: E402
 
 RUNNER = Path(__file__).resolve().parent.parent / "check_runner.py"
@@ -245,7 +245,7 @@ class CheckRunnerTests(InFolder):
             self.assertEqual(found[0], state)
             self.assertIn(said, found[1])
 
-    @unittest.skipUnless(shutil.which("bwrap"), "bubblewrap isn't installed")
+    @unittest.skipIf(why_not(), why_not())
     def test_a_sandbox_that_cannot_be_made_is_told_apart(self):
         for given, due in (
             ("--bind /none /x /bin/true", "unmade"), ("--ro-bind / / sh -c 'echo bwrap: no; exit 1'", "failure"),
