@@ -21,7 +21,7 @@ from git import GitFailed, clean_environment
 from journal import Test
 from places import Places, Trouble
 from repository import Repository
-from sandbox import Sandbox, environment_within, look_again_for_hidden, sandbox_of, words_before
+from sandbox import environment_within, look_again_for_hidden, sandbox_of, words_before
 from settings import Settings
 
 RUNNER = Path(__file__).resolve().with_name("check_runner.py")
@@ -89,9 +89,6 @@ class Checks:
         # So they were called by the first version.
         remove_tree(self.places.records / "worktrees")
         self.places.clones.mkdir(mode=0o700, exist_ok=True)
-
-    def sandbox_of(self, settings: Settings) -> Sandbox:
-        return sandbox_of(settings)
 
     def ended(self, wanted: List[Test]) -> List[Result]:
         """The checks that have ended since the last look. What is tested and isn't wanted any more is stopped."""

@@ -184,9 +184,9 @@ class Journal:
         self.database.execute("UPDATE orders SET done = 1 WHERE delivery = ? AND place = ?", (order.delivery, order.place))
 
     def stage_order(self, batch: int) -> Optional[dict]:
-        """The order by which a batch was staged. The number of a batch is never used again."""
-        body = self.one("SELECT body FROM orders WHERE batch = ? AND kind = 'stage'", batch)
-        return json.loads(body) if body else None
+        """What the order to stage a batch says. The number of a batch is never used again."""
+        order = self.stage_order_of(batch)
+        return order.body if order else None
 
     def landing_reported_by(self, id: str) -> Optional[dict]:
         """The order to land that a base reports, or none if the base reports no order."""

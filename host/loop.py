@@ -21,6 +21,7 @@ from journal import Delivery, Journal, Move, Order, Test
 from places import Places, Trouble, must_be_safe, name_of_user
 from reports import Reports
 from repository import Branch, Merged, Repository, heads_of, listed
+from sandbox import sandbox_of
 from settings import read_roles, read_settings
 from spool import ROUNDS_FOR_ALL, Note, Spool
 
@@ -103,7 +104,7 @@ class Host:
         self.checks.clear()
         self.tidy()
         (self.places.reports / "process").write_text(f"{os.getpid()}\n", encoding="utf-8")
-        complain(f"guards {self.settings.main} of {self.places.repository}; checks run {self.checks.sandbox_of(self.settings).said}")
+        complain(f"guards {self.settings.main} of {self.places.repository}; checks run {sandbox_of(self.settings).said}")
         while not self.ending:
             try:
                 self.round()

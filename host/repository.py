@@ -16,7 +16,6 @@ BRANCHES = "refs/heads/"
 # Under these names the mirror keeps what it has fetched, and the guarded repository what stood on a branch that the host took.
 FETCHED = "refs/gate/"
 KEPT = "refs/gate/kept/"
-NOTHING = "0" * 40
 
 
 @dataclass(frozen=True)

@@ -46,6 +46,16 @@ class Attack(Story):
         want(f"how git {arguments} ends, which says {ran.stderr}", ran.returncode, 0)
         return ran.stdout.strip()
 
+    def stage_what_waits(self):
+        """Has change 1 approved and staged. Its check waits until a file is gone, which is given."""
+        wait = self.room / "wait"
+        wait.touch()
+        self.push("otto", 1, {"parts/good": f"while test -e {wait}; do sleep 0.1; done\n"})
+        self.until("the change is open", lambda: self.report("change-1"))
+        self.say("rosa", 1, "bors r+")
+        self.until("it is staged", lambda: "staging staged" in self.report("queue"))
+        return wait
+
     def start_fails(self, *words):
         """A host that is started ends at once with status 1, and says why."""
         try:
@@ -355,12 +365,7 @@ class OlderFile(Attack):
     """An older file of the bot is put back. What was done since is done again: an approval that was taken back stays so."""
 
     def happen(self):
-        wait = self.room / "wait"
-        wait.touch()
-        self.push("otto", 1, {"parts/good": f"while test -e {wait}; do sleep 0.1; done\n"})
-        self.until("the change is open", lambda: self.report("change-1"))
-        self.say("rosa", 1, "bors r+")
-        self.until("it is staged", lambda: "staging staged" in self.report("queue"))
+        wait = self.stage_what_waits()
         self.stop()
         records = self.repository / "gate/records"
         for name in ("bot.db", "bot.db-wal"):
@@ -463,7 +468,8 @@ class OutOfTheSandbox(Attack):
     of_owner = {"MY_SECRET": "secret"}
 
     def set_sandbox(self):
-        self.set("sandbox_writes =", f"sandbox_writes = {self.room / 'given'}")
+        if "sandbox_writes =" in (self.repository / "gate/settings").read_text(encoding="utf-8"):
+            self.set("sandbox_writes =", f"sandbox_writes = {self.room / 'given'}")
 
     def make_check(self, name):
         """A program that stands where the check may read."""
@@ -531,12 +537,7 @@ class JumpingClock(Attack):
         return [sys.executable, TESTS / "jumping_host.py", HOST.parent, self.jump(), "run", self.repository]
 
     def happen(self):
-        wait = self.room / "wait"
-        wait.touch()
-        self.push("otto", 1, {"parts/good": f"while test -e {wait}; do sleep 0.1; done\n"})
-        self.until("the change is open", lambda: self.report("change-1"))
-        self.say("rosa", 1, "bors r+")
-        self.until("it is staged", lambda: "staging staged" in self.report("queue"))
+        wait = self.stage_what_waits()
         begin = time.time()
         self.jump().touch()
         self.until("it is told", lambda: self.complained("days ahead") or self.last_tick() > begin + 86400)
@@ -557,7 +558,9 @@ class OtherNameOfTrying(Attack):
         self.until("the change is open", lambda: self.report("change-1"))
         self.must_git("symbolic-ref", "refs/heads/trying", "refs/heads/main")
         self.say("milo", 1, "bors try")
-        self.told(1, "refs/heads/trying is another name of refs/heads/main")
+        self.until("main moves, or the log says why not", lambda: (
+            self.git("rev-parse", "main") != self.first or "refs/heads/trying is another name of" in self.report("log-1")
+        ))
         want("where main is", self.git("rev-parse", "main"), self.first)
         self.must_git("symbolic-ref", "--delete", "refs/heads/trying")
         self.told(1, "TryFailed")
@@ -584,12 +587,7 @@ class LostMirror(Attack):
     """The records were put back, or are of an older host: the mirror is empty while a batch is tested. No change is blamed for that."""
 
     def happen(self):
-        wait = self.room / "wait"
-        wait.touch()
-        self.push("otto", 1, {"parts/good": f"while test -e {wait}; do sleep 0.1; done\n"})
-        self.until("the change is open", lambda: self.report("change-1"))
-        self.say("rosa", 1, "bors r+")
-        self.until("it is staged", lambda: "staging staged" in self.report("queue"))
+        wait = self.stage_what_waits()
         for is_there in (True, False):
             self.stop()
             shutil.rmtree(self.repository / "gate/records/mirror")

@@ -15,7 +15,7 @@ from git import GitFailed, ask_git, run_git  # noqa: E402
 from hook import hook_command, hook_text  # noqa: E402
 from inspection import findings  # noqa: E402
 from places import Places, pointed_to  # noqa: E402
-from repository import KEPT, NOTHING, Repository  # noqa: E402
+from repository import KEPT, Repository  # noqa: E402
 from settings import FIRST_SETTINGS, settings_in  # noqa: E402
 
 SETTINGS = settings_in(FIRST_SETTINGS.format(main="main", staging="staging", trying="trying", program="/gate", may_push="", checks=""))
@@ -395,7 +395,6 @@ class ReferenceTests(InRepository):
         (self.path / "refs/heads/pipe").unlink()
         (self.path / "refs/heads/odd").write_text("x" * 40, encoding="utf-8")
         self.assertEqual(pointed_to(self.path, "refs/heads/odd"), (None, "refs/heads/odd"))
-        self.assertNotEqual(pointed_to(self.path, "refs/heads/main")[0], NOTHING)
 
 
 if __name__ == "__main__":
