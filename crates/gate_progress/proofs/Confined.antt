@@ -209,7 +209,7 @@ module _ (change size : ℕ) where
   staged_confined Trying now commit s is = is
 
   -- each step of a status and of a tick
-  confining : EachStep (λ few s o. Confined s.queue.staging → Confined o.state.queue.staging)
+  pub confining : EachStep (λ few s o. Confined s.queue.staging → Confined o.state.queue.staging)
   confining = record {
     nothing = λ few s is. is;
     both = λ s first next one other is. other (one is);

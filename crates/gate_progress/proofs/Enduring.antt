@@ -57,7 +57,7 @@ module _ (waits runs : Test) (low : ℕ) (branch : Branch) (new : (number : ℕ)
   abbrev Still : Queue → Type 0
   Still queue = Endures waits runs low branch queue
 
-  followed_still : (was is moved : Bool) (size : Option ℕ) (priority : ℤ) (change : ℕ) (queue : Queue) → Still queue → Still (followed was is moved size priority change queue)
+  pub followed_still : (was is moved : Bool) (size : Option ℕ) (priority : ℤ) (change : ℕ) (queue : Queue) → Still queue → Still (followed was is moved size priority change queue)
   followed_still was is moved size priority change queue still = grind (arith, placed_pass, joined_pass, left_pass, new)
 
   tried_by_still : (was is : Bool) (change : ℕ) (queue : Queue) → Still queue → Still (tried_by was is change queue)

@@ -26,7 +26,7 @@ module _ (change : ℕ) where
   abbrev holds : Batch → ℕ
   holds batch = held_by of_any_priority change batch
 
-  wait_if_none : (size : ℕ) (waiting : List Batch) → sum_by holds waiting ≡ 0 → AllWait change size waiting
+  pub wait_if_none : (size : ℕ) (waiting : List Batch) → sum_by holds waiting ≡ 0 → AllWait change size waiting
   wait_if_none size [] none = All-nil (Waits change size)
   wait_if_none size (first ∷ waiting) none =
       let sum = sum_by-cons holds first waiting in
@@ -45,7 +45,7 @@ module _ (change : ℕ) where
       omega (arith, sum_by-cons holds first waiting, none_there change first.changes (not_in first (λ there. (here there).1)), none_if_wait waiting (All-tail (Waits change 0) first waiting all))
 
   -- so that it isn't approved, and no batch fails with it
-  none_held : (lane : Lane) → IsConfined change 0 lane → (held of_any_priority change lane ≡ 0) × (has_running (is_in change) lane ≡ false)
+  pub none_held : (lane : Lane) → IsConfined change 0 lane → (held of_any_priority change lane ≡ 0) × (has_running (is_in change) lane ≡ false)
   none_held lane is =
       by_option (λ running. IfSome running (IsSmall change 0) → (held of_any_priority change (beside running) ≡ 0) × (has_running (is_in change) (beside running) ≡ false)) (λ small. (waits, refl))
       (λ batch small. let out = not_in batch small in (omega (arith, sum_by-cons holds batch lane.waiting, none_there change batch.changes out, waits), out)) lane.running is.running where
@@ -56,7 +56,7 @@ module _ (change : ℕ) where
         waits = none_if_wait lane.waiting is.waiting
 
   -- A change is in one batch at the most.
-  held_once : (s : State) → IsState s → held of_any_priority change s.queue.staging ≤ 1
+  pub held_once : (s : State) → IsState s → held of_any_priority change s.queue.staging ≤ 1
   held_once s is = let places = is.queue.staging.places change in grind arith
 
   none_beside : (batch : Batch) (waiting : List Batch) → held of_any_priority change (record { running = Some batch; waiting = waiting }) ≤ 1 → is_in change batch ≡ true → sum_by holds waiting ≡ 0
@@ -120,6 +120,15 @@ module _ (change : ℕ) where
             let lane = failed_halves change (largest (suc left)) (largest left) s.queue.next s.queue.staging (halves left) (held_once change s is) (parts so).1 confined in
             next true (suc left) left so (omega arith) (rest left (after_failure s (IsConfined change (largest left)) lane (started_confined change (largest left)) act (parts so).0))
 
+-- A change in the batch that runs is confined to so many changes as that has.
+pub confined_at_first : (change size : ℕ) (s : State) (batch : Batch) → IsState s → s.queue.staging.running ≡ Some batch → is_in change batch ≡ true → length batch.changes ≤ size → IsConfined change size s.queue.staging
+confined_at_first change size s batch is runs there small =
+    let once = subst (λ (running : Option Batch). held of_any_priority change (record { running = running; waiting = s.queue.staging.waiting }) ≤ 1) runs (held_once change s is) in
+    record {
+      running = subst (λ (running : Option Batch). IfSome running (IsSmall change size)) (sym runs) (λ so. small);
+      waiting = wait_if_none change size s.queue.staging.waiting (none_beside change batch s.queue.staging.waiting once there);
+    }
+
 pub halving_law : LawOfHalving
 halving_law s batch change steps acts is can runs there small others = record {
   most = omega (arith, left.few);
@@ -129,16 +138,8 @@ halving_law s batch change steps acts is can runs there small others = record {
       let places = (still_states s acts is can).queue.staging.places change in
       grind (arith, none.0);
 } where
-  start : IsConfined change (2 ^ steps) s.queue.staging
-  start =
-      let once = subst (λ (running : Option Batch). held of_any_priority change (record { running = running; waiting = s.queue.staging.waiting }) ≤ 1) runs (held_once change s is) in
-      record {
-        running = subst (λ (running : Option Batch). IfSome running (IsSmall change (2 ^ steps))) (sym runs) (λ so. small);
-        waiting = wait_if_none change (2 ^ steps) s.queue.staging.waiting (none_beside change batch s.queue.staging.waiting once there);
-      }
-
   left : StaysHalved change (suc steps) s acts
-  left = stays_halved change (suc steps) s acts is can others start
+  left = stays_halved change (suc steps) s acts is can others (confined_at_first change (2 ^ steps) s batch is runs there small)
 
 -- WHAT IS SPARED
 module _ (blamed change : ℕ) (differs : eqb blamed change ≡ false) where

@@ -1,7 +1,12 @@
+mod Coming
 mod Confined
 mod Courses
 mod Enduring
+mod Finding
 mod Halving
+mod Priced
 mod Sparing
 mod Successes
 mod Turns
+mod Work
+mod Worked

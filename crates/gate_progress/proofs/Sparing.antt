@@ -52,10 +52,10 @@ module _ (change : ℕ) where
     lone_stands desk one is = by_option (λ one. Stands (lone_altered alter desk one)) is (λ number. altered_stands desk number is) one
 
   -- A BATCH ENDS: if it is on `Staging`, it hasn't the change alone.
-  abbrev is_its_lone : Option Batch → Bool
+  abbrev pub is_its_lone : Option Batch → Bool
   is_its_lone running = option_map_or (λ one. eqb change one) (lone running) false
 
-  abbrev is_alone : Branch → State → Bool
+  abbrev pub is_alone : Branch → State → Bool
   is_alone Staging s = is_its_lone s.queue.staging.running
   is_alone Trying s = false
 

@@ -41,7 +41,7 @@ behind : (front waiting : List Batch) → IsInService (front ++ waiting) → IsI
 behind [] waiting is = is
 behind (first ∷ front) waiting is = behind front waiting (behind_first first (front ++ waiting) is)
 
-goes_before_all : (first : Batch) (waiting : List Batch) → IsInService (first ∷ waiting) → list_all (goes_before first) waiting ≡ true
+pub goes_before_all : (first : Batch) (waiting : List Batch) → IsInService (first ∷ waiting) → list_all (goes_before first) waiting ≡ true
 goes_before_all first waiting is = list_all-from_AllPass (goes_before first) waiting (λ j d within. is 0 (suc j) d (omega arith) (omega arith))
 
 pub turns_law : LawOfTurns
@@ -52,7 +52,7 @@ turns_law s branch front middle back one other is at same again =
     grind (arith, nat_tests)
 
 -- What follows from a batch that passes some tests, follows if one batch passes the last of them and all pass the others.
-one_of : (p q r : Batch → Bool) (so : Bool) → ((it : Batch) → p it ≡ true → q it ≡ true → r it ≡ true → so ≡ true) → (batches : List Batch)
+pub one_of : (p q r : Batch → Bool) (so : Bool) → ((it : Batch) → p it ≡ true → q it ≡ true → r it ≡ true → so ≡ true) → (batches : List Batch)
     → list_all p batches ≡ true → list_all q batches ≡ true → list_any r batches ≡ true → so ≡ true
 one_of p q r so follows [] ps qs some = cc some
 one_of p q r so follows (first ∷ batches) ps qs some = grind (arith, follows first, one_of p q r so follows batches)
@@ -64,33 +64,33 @@ module _ (batch : Batch) (was : ℕ → Bool) where
   alike number priority again = record batch { number = number; priority = priority; again = again }
 
   -- what may be served before it
-  abbrev may_precede : Test
+  abbrev pub may_precede : Test
   may_precede number priority again = was number || overtakes (alike number priority again) batch
 
   -- what may wait as long as it does: itself, what may be served before it, and what stands behind it
-  abbrev may_wait : Test
+  abbrev pub may_wait : Test
   may_wait number priority again =
       if eqb number batch.number then int_eq priority batch.priority && beq again batch.again
       else (may_precede number priority again || goes_before batch (alike number priority again))
 
   -- what there may be once it is gone: anything else waits, and anything runs
-  abbrev is_other : Test
+  abbrev pub is_other : Test
   is_other number priority again = not (eqb number batch.number)
 
-  abbrev any : Test
+  abbrev pub any : Test
   any number priority again = true
 
   -- A new batch has a greater number, so that it overtakes this one or stands behind it.
-  new_may_wait : (number : ℕ) (priority : ℤ) (again : Bool) → suc batch.number ≤ number → may_wait number priority again ≡ true
+  pub new_may_wait : (number : ℕ) (priority : ℤ) (again : Bool) → suc batch.number ≤ number → may_wait number priority again ≡ true
   new_may_wait number priority again new = grind (arith, nat_tests, signed_Decides)
 
-  new_is_other : (number : ℕ) (priority : ℤ) (again : Bool) → suc batch.number ≤ number → is_other number priority again ≡ true
+  pub new_is_other : (number : ℕ) (priority : ℤ) (again : Bool) → suc batch.number ≤ number → is_other number priority again ≡ true
   new_is_other number priority again new = grind (arith, nat_tests)
 
   abbrev is_there : List Batch → Bool
   is_there batches = list_any (λ other. eqb other.number batch.number) batches
 
-  others : (batches : List Batch) → all_pass is_other batches ≡ not (is_there batches)
+  pub others : (batches : List Batch) → all_pass is_other batches ≡ not (is_there batches)
   others [] = refl
   others (first ∷ batches) = grind (arith, others batches)
 
@@ -116,7 +116,7 @@ module _ (batch : Batch) (was : ℕ → Bool) where
   started_keeps now (Some running) waiting is so = or_left _ _ so
 
   -- AT FIRST: it waits once, what is in front of it was before it, and all others stand behind it
-  there_once : (waiting : List Batch) → Contains waiting batch → 1 ≤ uses batch.number waiting
+  pub there_once : (waiting : List Batch) → Contains waiting batch → 1 ≤ uses batch.number waiting
   there_once waiting (k, within, at) = grind (arith, nat_tests, at, get_or-le-sum_by (has_number batch.number) waiting k batch within)
 
   itself : (one : Batch) → one ≡ batch → meets may_wait one ≡ true
@@ -153,7 +153,7 @@ module _ (batch : Batch) (was : ℕ → Bool) where
       let later = all_may_wait waiting (behind_first first waiting is) there (omega arith) (λ one so. before one (grind (arith, other, so))) in
       grind (arith, here, later)
 
-  begins : (running : Option Batch) (waiting : List Batch) → IsInService waiting → Contains waiting batch → uses batch.number (batches_of (record { running = running; waiting = waiting })) ≤ 1
+  pub begins : (running : Option Batch) (waiting : List Batch) → IsInService waiting → Contains waiting batch → uses batch.number (batches_of (record { running = running; waiting = waiting })) ≤ 1
       → IsBefore (batches_of (record { running = running; waiting = waiting })) → stands may_wait may_precede (record { running = running; waiting = waiting }) ≡ true
   begins None waiting is there once before = grind (arith, all_may_wait waiting is there once before)
   begins (Some running) waiting is there once before =
@@ -196,7 +196,7 @@ module _ (batch : Batch) (was : ℕ → Bool) where
         starts now Trying _ ((queue_law queue ended.queue.order).start Staging now) (starts now Staging queue ended.queue.order (unstarted_keeps s (Other (Tick now)) is))
     done_keeps s act holds limit allowed is = unstarted_keeps s act is
 
-    after_keeps : (s : State) (act : Act) → IsState s → ActKeepsLimits act → Keeps s.queue → Keeps (after s act).queue
+    pub after_keeps : (s : State) (act : Act) → IsState s → ActKeepsLimits act → Keeps s.queue → Keeps (after s act).queue
     after_keeps s act is limit so =
         let means = meaning (look s.desk) act in
         by_option (λ rule. denial s act ≡ rule → Keeps (unless_denied rule s (done s means).state).queue)

@@ -1,4 +1,6 @@
+ghost use Rattle.gate_progress.specs.Coming.{LawOfComing};
 ghost use Rattle.gate_progress.specs.Courses.{LawOfCourses, LawOfSuccesses};
+ghost use Rattle.gate_progress.specs.Finding.{LawOfFinding};
 ghost use Rattle.gate_progress.specs.Halving.{LawOfHalving, LawOfSparing};
 ghost use Rattle.gate_progress.specs.Turns.{LawOfOvertaking, LawOfTurns};
 
@@ -26,6 +28,12 @@ pub fn law_of_overtaking()
     ensures { LawOfOvertaking }
 {}
 
+/// The law of coming: as long as a batch waits, each batch that fails or lands lowers the work before it (`work_before`), and nothing
+/// raises it, over any list of acts that queue nothing above its priority. If none is left, it is the first to be served.
+pub fn law_of_coming()
+    ensures { LawOfComing }
+{}
+
 /// The law of halving: each failure halves the batch that has a change, until the change is alone, and the next one ends its approval. So
 /// a batch of up to 2ⁿ changes fails `n + 1` times at the most, over any list of acts that leave approval and priority of the change.
 pub fn law_of_halving()
@@ -36,4 +44,10 @@ pub fn law_of_halving()
 /// list of acts of which no deed and no settings end its approval.
 pub fn law_of_sparing()
     ensures { LawOfSparing }
+{}
+
+/// The law of finding: a change of the running batch is found, by a failure of a batch that has no other, or has landed, once as many
+/// batches have failed or landed as its work allows (`work_until`), over any list of acts that leave it alone and queue nothing above.
+pub fn law_of_finding()
+    ensures { LawOfFinding }
 {}

@@ -5,6 +5,6 @@
 mod laws;
 
 pub use laws::{
-    law_of_courses, law_of_halving, law_of_overtaking, law_of_sparing, law_of_successes,
-    law_of_turns,
+    law_of_coming, law_of_courses, law_of_finding, law_of_halving, law_of_overtaking,
+    law_of_sparing, law_of_successes, law_of_turns,
 };
