@@ -39,20 +39,25 @@ module _ (change : ℕ) where
   given_up_priced Trying c = refl
 
   ending_priced : (branch : Branch) (why : Why) (s : State) → Priced (ending branch why s).state.desk s.desk
-  ending_priced branch why s = lone_same (given_up branch) s.desk (lone_on branch s) (λ (c : Change). c.priority) (pos 0) (given_up_priced branch) change
+  ending_priced branch why s =
+      lone_same (given_up branch) s.desk (lone_on branch s) (λ (c : Change). c.priority) (pos 0) (given_up_priced branch) change
 
   released_priced : (base : Option (List ℕ)) (desk : DeskView) (running : Option Batch) → Priced (released_on base desk running) desk
   released_priced base desk None = refl
   released_priced base desk (Some batch) = at batch.stage where
     at : (stage : StageOf) → Priced (released_on base desk (Some (record batch { stage = stage }))) desk
-    at (Landing commit) = let there = ap (λ (l : Look). l.change change) (all_look (released base commit) (released_twice base commit) batch.changes desk) in grind arith
+    at (Landing commit) =
+        let there = ap (λ (l : Look). l.change change) (all_look (released base commit) (released_twice base commit) batch.changes desk)
+        in grind arith
     at other = refl
 
   landing_priced : (batch : Batch) (s : State) → Priced (to_land batch s).state.desk s.desk
-  landing_priced batch s = let there = ap (λ (l : Look). l.change change) (all_look (with_landing true) (λ c. refl) batch.changes s.desk) in grind arith
+  landing_priced batch s =
+      let there = ap (λ (l : Look). l.change change) (all_look (with_landing true) (λ c. refl) batch.changes s.desk) in grind arith
 
   heads_priced : (commit name : List ℕ) (said : StatusState) (s : State) → Priced (heads_told commit name said s).desk s.desk
-  heads_priced commit name said s = let at = get-mapped nat_cmp (told_at commit name (is_good said)) nat_cmp_total s.desk.changes change in grind arith
+  heads_priced commit name said s =
+      let at = get-mapped nat_cmp (told_at commit name (is_good said)) nat_cmp_total s.desk.changes change in grind arith
 
   -- each step of a status and of a tick
   pub pricing : EachStep (λ few s o. Priced o.state.desk s.desk)
@@ -71,20 +76,25 @@ module _ (change : ℕ) where
   fact_priced s (Base commit) = released_priced (Some commit) s.desk s.queue.staging.running
   fact_priced s (Staged batch commit) = refl
   fact_priced s (Conflict batch) = ending_priced (ordered_on batch s.queue) (told_as (ordered_on batch s.queue) why.Conflict) s
-  fact_priced s (Status commit name said) = told_so pricing commit name said (heads_told commit name said s) ∙ heads_priced commit name said s
+  fact_priced s (Status commit name said) =
+      told_so pricing commit name said (heads_told commit name said s) ∙ heads_priced commit name said s
   fact_priced s (Refused batch) = released_priced None s.desk s.queue.staging.running
   fact_priced s (Tick now) = timed_out_both_so pricing now (with_desk s (with_clock s.desk now))
 
   pub after_priced : (s : State) (act : Act) → IsState s → leaves_alone change s act ≡ true → Priced (after s act).desk s.desk
   after_priced s (Other fact) is left =
-      by_option (λ rule. Priced (unless_denied rule s (acted s (Other fact)).state).desk s.desk) (fact_priced s fact) (λ rule. refl) (denial s (Other fact))
+      by_option (λ rule. Priced (unless_denied rule s (acted s (Other fact)).state).desk s.desk) (fact_priced s fact) (λ rule. refl)
+      (denial s (Other fact))
   after_priced s (On other deed) is left = by (eqb change other) refl where
     by : (here : Bool) → eqb change other ≡ here → Priced (after s (On other deed)).desk s.desk
     by false elsewhere =
-        let same = by_option (λ rule. (may_unless_denied rule (may_do s (On other deed))).change change ≡ false) (grind (arith, nat_tests, elsewhere)) (λ rule. refl) (denial s (On other deed)) in
-        ap (λ (o : Option Change). option_map_or (λ (c : Change). c.priority) o (pos 0)) ((untouched_law s (On other deed) is).changes change same)
+        let same = by_option (λ rule. (may_unless_denied rule (may_do s (On other deed))).change change ≡ false)
+        (grind (arith, nat_tests, elsewhere)) (λ rule. refl) (denial s (On other deed)) in
+        ap (λ (o : Option Change). option_map_or (λ (c : Change). c.priority) o (pos 0))
+        ((untouched_law s (On other deed) is).changes change same)
     by true at =
         let t = after s (On other deed) in
         let it : all_but change other ≡ false = grind (arith, nat_tests, at) in
-        let keeps = and_parts (beq (approved_on s.desk change) (approved_on t.desk change)) (int_eq (priority_on s.desk change) (priority_on t.desk change)) (ap (λ (b : Bool). b || keeps_place s change t) (sym it) ∙ left) in
+        let keeps = and_parts (beq (approved_on s.desk change) (approved_on t.desk change))
+        (int_eq (priority_on s.desk change) (priority_on t.desk change)) (ap (λ (b : Bool). b || keeps_place s change t) (sym it) ∙ left) in
         sym ((signed_Decides (priority_on s.desk change) (priority_on t.desk change)).0 keeps.1)

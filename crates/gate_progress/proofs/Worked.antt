@@ -65,16 +65,20 @@ landed : (lands (on empty_desk landing) (Other (Base a)) ≡ true) × (lands (on
     × (lands (on (with_base empty_desk a) landing) (Other (Base a)) ≡ false) × (lands (on empty_desk lane) (Other (Base a)) ≡ false)
 landed = (refl, refl, refl, refl)
 
--- A change that is approved under 0 is queued above 0 by another priority, but not above that one. What a rule denies, and a `ping`, queue nothing.
-module _ (desk : DeskView) (change : Change) (there : finite.get desk.changes 6 ≡ Some change) (approved : is_some change.approved ≡ true) (low : change.priority ≡ pos 0) where
+-- A change that is approved under 0 comes above 0 by another priority, but not above that one. What a rule denies, and a `ping`, brings
+-- nothing anywhere.
+module _ (desk : DeskView) (change : Change) (there : finite.get desk.changes 6 ≡ Some change) (approved : is_some change.approved ≡ true)
+    (low : change.priority ≡ pos 0) where
   abbrev says : Command → Act
   says command = On 6 (Said alice (Known command))
 
   raised : denial (on desk lane) (says (Priority (pos 5))) ≡ None
-      → (queues_none_above (pos 0) (on desk lane) (says (Priority (pos 5))) ≡ false) × (queues_none_above (pos 5) (on desk lane) (says (Priority (pos 5))) ≡ true)
+      → (queues_none_above (pos 0) (on desk lane) (says (Priority (pos 5))) ≡ false)
+      × (queues_none_above (pos 5) (on desk lane) (says (Priority (pos 5))) ≡ true)
   raised allowed = let at = altered_here desk 6 (with_priority (pos 5)) in (grind arith, grind arith)
 
-  denied : (rule : Rule) → denial (on desk lane) (says (Priority (pos 5))) ≡ Some rule → queues_none_above (pos 0) (on desk lane) (says (Priority (pos 5))) ≡ true
+  denied : (rule : Rule) → denial (on desk lane) (says (Priority (pos 5))) ≡ Some rule
+      → queues_none_above (pos 0) (on desk lane) (says (Priority (pos 5))) ≡ true
   denied rule so = let same = (signed_Decides (pos 0) (pos 0)).1 refl in grind arith
 
   pinged : queues_none_above (pos 0) (on desk lane) (says Ping) ≡ true

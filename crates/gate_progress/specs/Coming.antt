@@ -38,8 +38,8 @@ work_of batch = 2 * length batch.changes - 1
 abbrev pub work_before : Batch → Lane → ℕ
 work_before batch lane = of_running work_of lane + sum_by (λ one. if goes_before one batch then work_of one else 0) lane.waiting
 
--- WHAT COMES ABOVE a priority: a change that is approved with a greater one after an act, and whose approval or priority was another before.
--- Only deeds bring one there.
+-- WHAT COMES ABOVE a priority: a change that is approved with a greater one after an act, and whose approval or priority was another
+-- before. Only deeds bring one there.
 abbrev pub comes_above : ℤ → State → ℕ → State → Bool
 comes_above priority s change t = approved_on t.desk change && int_lt priority (priority_on t.desk change) && not (keeps_place s change t)
 
@@ -48,10 +48,10 @@ queues_none_above priority s (On change deed) = not (comes_above priority s chan
 queues_none_above priority s (Other fact) = true
 
 -- WHAT WAITS COMES TO RUN, if nothing comes above its priority: each ending lowers the work before a batch, and no other act raises it, as
--- long as the batch waits. Once there have been as many endings as there was work, the next tick orders it.
+-- long as the batch waits. If none is left, as after as many endings as there was work, the next tick orders it.
 pub record Comes (s : State) (batch : Batch) (acts : List Act) : Type 0 where
   pub work : endings s acts + work_before batch (after_all s acts).queue.staging ≤ work_before batch s.queue.staging
-  pub runs : work_before batch s.queue.staging ≤ endings s acts → (now : ℕ) → (after_all s acts).desk.clock ≤ now
+  pub runs : work_before batch (after_all s acts).queue.staging ≡ 0 → (now : ℕ) → (after_all s acts).desk.clock ≤ now
       → runs_on Staging batch.number (after (after_all s acts) (Other (Tick now))) ≡ true
 
 abbrev pub LawOfComing : Type 0

@@ -1,5 +1,5 @@
 -- FINDING: halving comes to its end, so that a change which makes its batches fail is found.
-use Rattle.std.specs.Prelude.{◌≡◌, ◌≤◌, ◌<◌, ◌==◌, ◌&&◌, ◌||◌, ℕ, Bool, true, false, List, [], ◌∷◌, length, Some}
+use Rattle.std.specs.Prelude.{◌≡◌, ◌<◌, ◌==◌, ◌&&◌, ◌||◌, ℕ, Bool, true, false, List, [], ◌∷◌, length, Some}
 use Rattle.gate_rules.specs.Rules.{is_landed}
 use Rattle.gate_state.specs.Lanes.{fresh}
 use Rattle.gate_state.specs.State.{IsState, approved_on}
@@ -29,11 +29,11 @@ some_of test s (act ∷ acts) = test s act || some_of test (after s act) acts
 abbrev pub work_until : ℕ → Batch → State → ℕ
 work_until change batch s = work_before (fresh 0 batch.priority change) s.queue.staging
 
--- HALVING ENDS. There have been fewer endings as long as the change is approved. After as many it was found, or it has landed, if no settings
--- end its approval.
+-- HALVING ENDS. As long as the change is approved, there are fewer endings than that. Once it isn't, it was found, or it has landed, if no
+-- settings have ended its approval.
 pub record IsFound (s : State) (batch : Batch) (change : ℕ) (acts : List Act) : Type 0 where
   pub fewer : approved_on (after_all s acts).desk change ≡ true → endings s acts < work_until change batch s
-  pub found : each_of (is_spared_by change) s acts ≡ true → work_until change batch s ≤ endings s acts
+  pub found : each_of (is_spared_by change) s acts ≡ true → approved_on (after_all s acts).desk change ≡ false
       → (some_of (finds change) s acts || is_landed (look (after_all s acts).desk) change) ≡ true
 
 abbrev pub LawOfFinding : Type 0

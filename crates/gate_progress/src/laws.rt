@@ -29,7 +29,7 @@ pub fn law_of_overtaking()
 {}
 
 /// The law of coming: as long as a batch waits, each batch that fails or lands lowers the work before it (`work_before`), and nothing
-/// raises it, over any list of acts that queue nothing above its priority. If none is left, it is the first to be served.
+/// raises it, over any list of acts that queue nothing above its priority. If none is left, the next tick orders it.
 pub fn law_of_coming()
     ensures { LawOfComing }
 {}
@@ -46,8 +46,9 @@ pub fn law_of_sparing()
     ensures { LawOfSparing }
 {}
 
-/// The law of finding: a change of the running batch is found, by a failure of a batch that has no other, or has landed, once as many
-/// batches have failed or landed as its work allows (`work_until`), over any list of acts that leave it alone and queue nothing above.
+/// The law of finding: as long as a change of the running batch is approved, fewer batches fail or land than its work allows
+/// (`work_until`), over any list of acts that leave it alone and queue nothing above its priority. Once it isn't, a batch that had no other
+/// change has failed, or it has landed.
 pub fn law_of_finding()
     ensures { LawOfFinding }
 {}
