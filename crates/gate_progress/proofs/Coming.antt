@@ -11,7 +11,7 @@ use Rattle.std.specs.Option.{option_map_or}
 use Rattle.std.specs.Ordering.{int_eq}
 use Rattle.gate_text.specs.LastWhere.{last_where}
 use Rattle.gate_queue.specs.Machine.{acted, after, all_but, approval_followed, broken, denial, done, effect, followed, meaning, missing, size_on, unless_denied, with_desk}
-use Rattle.gate_queue.specs.Progress.{CanCome, after_all, each_of, runs_on}
+use Rattle.gate_queue.specs.Progress.{CanCome, after_all, each_of}
 use Rattle.gate_progress.specs.Coming.{LawOfComing, endings, ends, comes_above, queues_none_above, work_of}
 use Rattle.gate_progress.specs.Turns.{has_numbered}
 use Rattle.gate_queue.specs.Vocabulary.{Act, Batch, Branch, ClockBack, Lane, On, Other, Queue, Rule, Staging, State, Tick, Trying, look, with_clock}
@@ -151,6 +151,32 @@ is_in : (p : Batch → Bool) (waiting : List Batch) (place : ℕ) (one : Batch) 
 is_in p [] place one all at = cc at
 is_in p (first ∷ waiting) zero one all at = grind (arith, all, at)
 is_in p (first ∷ waiting) (suc place) one all at = grind (arith, all, is_in p waiting place one)
+
+-- THE FIRST BATCH OF A STATE is ordered by a tick: there is a base, since its changes are approved.
+pub first_ordered : (s : State) → IsState s → (first : Batch) (others : List Batch)
+    → s.queue.staging ≡ record { running = None; waiting = first ∷ others } → (now : ℕ) → s.desk.clock ≤ now
+    → (after s (Other (Tick now))).queue.staging.running ≡ Some (lanes.ordered_at now first)
+first_ordered s is first others leading now past = by s.desk.base refl based where
+  holds : Holds s
+  holds = record { desk = is.desk; queue = is.queue }
+
+  some : has_changes first ≡ true
+  some =
+      let all = subst (λ (l : Lane). All (IsWaiting Staging) l.waiting) leading is.queue.staging.waiting in
+      (All-head (IsWaiting Staging) first others all).changes
+
+  queued : (change : ℕ) → list_any (eqb change) first.changes ≡ true → (approved_on s.desk change || landing_on s.desk change) ≡ true
+  queued change here = queued_held s holds change
+      (subst (λ (l : Lane). 1 ≤ held of_any_priority change l) (sym leading)
+      (omega (arith, sum_by-cons (held_by of_any_priority change) first others, some_there change first.changes here)))
+
+  based : is_some s.desk.base ≡ true
+  based = (ready s holds first.changes some queued).1
+
+  by : (base : Option (List ℕ)) → s.desk.base ≡ base → is_some base ≡ true
+      → (after s (Other (Tick now))).queue.staging.running ≡ Some (lanes.ordered_at now first)
+  by None at so = cc so
+  by (Some base) at so = (firsts_law s Staging first others base now at leading past).1
 
 -- A BATCH THAT WAITS
 module _ (batch : Batch) where
@@ -396,35 +422,6 @@ module _ (batch : Batch) where
           some_work batch first (All-head (λ one. has_changes one ≡ true) first waiting some),
         ))
 
-  -- so that a tick orders it: there is a base, since its changes are approved
-  first_runs : (s : State) → IsState s → (first : Batch) (others : List Batch)
-      → s.queue.staging ≡ record { running = None; waiting = first ∷ others } → first.number ≡ batch.number → (now : ℕ) → s.desk.clock ≤ now
-      → runs_on Staging batch.number (after s (Other (Tick now))) ≡ true
-  first_runs s is first others leading itself now past = by s.desk.base refl based where
-    holds : Holds s
-    holds = record { desk = is.desk; queue = is.queue }
-
-    some : has_changes first ≡ true
-    some =
-        (All-head (IsWaiting Staging) first others
-        (subst (λ (l : Lane). All (IsWaiting Staging) l.waiting) leading is.queue.staging.waiting)).changes
-
-    queued : (change : ℕ) → list_any (eqb change) first.changes ≡ true → (approved_on s.desk change || landing_on s.desk change) ≡ true
-    queued change here = queued_held s holds change
-        (subst (λ (l : Lane). 1 ≤ held of_any_priority change l) (sym leading)
-        (omega (arith, sum_by-cons (held_by of_any_priority change) first others, some_there change first.changes here)))
-
-    based : is_some s.desk.base ≡ true
-    based = (ready s holds first.changes some queued).1
-
-    by : (base : Option (List ℕ)) → s.desk.base ≡ base → is_some base ≡ true
-        → runs_on Staging batch.number (after s (Other (Tick now))) ≡ true
-    by None at so = cc so
-    by (Some base) at so =
-        ap (λ (running : Option Batch). option_map_or (λ (one : Batch). eqb batch.number one.number) running false)
-        (firsts_law s Staging first others base now at leading past).1
-        ∙ (Decides-eqb batch.number first.number).1 (sym itself)
-
 pub coming_law : LawOfComing
 coming_law s batch acts is can there none waits = record {
   work = all.0;
@@ -433,7 +430,9 @@ coming_law s batch acts is can there none waits = record {
       (All-weaker (IsWaiting Staging) (λ one. has_changes one ≡ true) (λ one is. is.changes) end.queue.staging.waiting
       last.queue.staging.waiting)
       last.queue.order.staging.service (all_may batch end.queue all.1) waits (omega (arith, none_left)) in
-      first_runs batch end last leading.first leading.others leading.leading leading.itself now past;
+      ap (λ (running : Option Batch). option_map_or (λ (one : Batch). eqb batch.number one.number) running false)
+      (first_ordered end last leading.first leading.others leading.leading now past)
+      ∙ (Decides-eqb batch.number leading.first.number).1 (sym leading.itself);
 } where
   end : State
   end = after_all s acts

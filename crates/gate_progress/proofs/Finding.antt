@@ -1,5 +1,5 @@
 -- A change that is in the running batch is found, or lands, after few endings: as long as a batch has it, the first to be served counts.
-use Rattle.std.proofs.Common.{◌≡◌, ◌≤◌, ◌<◌, ◌+◌, ◌-◌, ◌*◌, ◌&&◌, ◌||◌, if◌then◌else◌, int_lt, ℕ, zero, suc, ℤ, eqb, leb, Bool, true, false, List, [], ◌∷◌, length, Option, Some, None, IfSome, refl, sym, ◌∙◌, ap, subst, arith}
+use Rattle.std.proofs.Common.{◌≡◌, ◌≤◌, ◌<◌, ◌+◌, ◌-◌, ◌*◌, ◌&&◌, ◌||◌, if◌then◌else◌, int_lt, ℕ, zero, suc, ℤ, eqb, leb, Bool, true, false, List, [], ◌∷◌, length, Option, Some, None, IfSome, is_some, refl, sym, ◌∙◌, ap, subst, arith}
 use Rattle.std.proofs.lemmas.Bool.{and_parts, leb-true}
 use Rattle.std.proofs.lemmas.Bool.Decides.{nat_tests}
 use Rattle.std.proofs.lemmas.List.Elements.{All-head, All-tail}
@@ -14,7 +14,7 @@ use Rattle.gate_queue.specs.Progress.{CanCome, after_all, each_of, fails}
 use Rattle.gate_progress.specs.Coming.{endings, ends, queues_none_above, work_of}
 use Rattle.gate_progress.specs.Finding.{LawOfFinding, finds, is_alone_in, some_of, work_until}
 use Rattle.gate_progress.specs.Halving.{IsConfined, is_in, is_spared_by, leaves_alone}
-use Rattle.gate_queue.specs.Vocabulary.{Act, Batch, ClockBack, On, Other, Queue, Staging, State, Tick, look, with_clock}
+use Rattle.gate_queue.specs.Vocabulary.{Act, Batch, ClockBack, Lane, On, Other, Queue, Staging, State, Tick, look, with_clock}
 use Rattle.gate_state.specs.Acts.{ActKeepsLimits}
 use Rattle.gate_state.specs.Counts.{held, held_by, of_any_priority}
 use Rattle.gate_state.specs.Lanes.{fresh, goes_before, has_changes, is_fresh_of}
@@ -25,10 +25,10 @@ use Rattle.gate_queue.proofs.Fitness.{passed}
 use Rattle.gate_queue.proofs.Held.{Holds}
 use Rattle.gate_queue.proofs.Keeping.{none_there, some_there}
 use Rattle.gate_queue.proofs.Meaning.{meaning_allowed, meaning_limits}
-use Rattle.gate_queue.proofs.States.{clock_holds, holding, still_state}
+use Rattle.gate_queue.proofs.States.{clock_holds, holding, still_state, still_states}
 use Rattle.gate_queue.proofs.Told.{timed_out_both_so}
 use Rattle.gate_queue.proofs.Wording.{none_both}
-use Rattle.gate_progress.proofs.Coming.{EntersBy, LeadsBy, after_falls, is_last, may_enter}
+use Rattle.gate_progress.proofs.Coming.{EntersBy, LeadsBy, after_falls, first_ordered, is_last, may_enter}
 use Rattle.gate_progress.proofs.Confined.{AllWait, Waits, after_confined, confining}
 use Rattle.gate_progress.proofs.Enduring.{unstarted}
 use Rattle.gate_progress.proofs.Halving.{confined_at_first, none_held, wait_if_none}
@@ -268,11 +268,28 @@ module _ (change : ℕ) (priority : ℤ) where
         neither false other so = (refl, so)
         neither true other so = cc so
 
+-- As long as it is approved, it is in a batch, so that the next tick orders one if none runs.
+ordered_next : (change : ℕ) (s : State) → IsState s → approved_on s.desk change ≡ true → (running : Option Batch) (waiting : List Batch)
+    → s.queue.staging ≡ record { running = running; waiting = waiting } → running ≡ None → (now : ℕ) → s.desk.clock ≤ now
+    → is_some (after s (Other (Tick now))).queue.staging.running ≡ true
+ordered_next change s is approved (Some one) waiting at free now past = cc free
+ordered_next change s is approved None [] at free now past =
+    let places = is.queue.staging.places change in
+    let none = ap (λ (l : Lane). held of_any_priority change l) at in
+    let out : approved_on s.desk change ≡ false = grind (arith, places, none) in
+    cc (sym approved ∙ out)
+ordered_next change s is approved None (first ∷ others) at free now past = ap is_some (first_ordered s is first others at now past)
+
 pub finding_law : LawOfFinding
 finding_law s batch change acts is can runs there approved left none = record {
   fewer = less;
+  next = λ still none_runs now past.
+      ordered_next change end (still_states s acts is can) still end.queue.staging.running end.queue.staging.waiting refl none_runs now past;
   found = λ spared gone. by spared gone (some_of (finds change) s acts) refl;
 } where
+  end : State
+  end = after_all s acts
+
   occurs_there : 1 ≤ held_by of_any_priority change batch
   occurs_there = some_there change batch.changes there
 

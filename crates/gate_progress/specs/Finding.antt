@@ -1,9 +1,11 @@
 -- FINDING: halving comes to its end, so that a change which makes its batches fail is found.
-use Rattle.std.specs.Prelude.{◌≡◌, ◌<◌, ◌==◌, ◌&&◌, ◌||◌, ℕ, Bool, true, false, List, [], ◌∷◌, length, Some}
+use Rattle.std.specs.Prelude.{◌≡◌, ◌≤◌, ◌<◌, ◌==◌, ◌&&◌, ◌||◌, ℕ, Bool, true, false, List, [], ◌∷◌, length, Some, None, is_some}
 use Rattle.gate_rules.specs.Rules.{is_landed}
 use Rattle.gate_state.specs.Lanes.{fresh}
 use Rattle.gate_state.specs.State.{IsState, approved_on}
+use Rattle.gate_state.specs.declared.act.Act.TheVariants.{Other}
 use Rattle.gate_state.specs.declared.act.Act.{Act}
+use Rattle.gate_state.specs.declared.act.Fact.TheVariants.{Tick}
 use Rattle.gate_state.specs.declared.batch.Batch.{Batch}
 use Rattle.gate_state.specs.declared.state.State.{State}
 use Rattle.gate_queue.specs.Machine.{after, has_running}
@@ -29,10 +31,13 @@ some_of test s (act ∷ acts) = test s act || some_of test (after s act) acts
 abbrev pub work_until : ℕ → Batch → State → ℕ
 work_until change batch s = work_before (fresh 0 batch.priority change) s.queue.staging
 
--- HALVING ENDS. As long as the change is approved, there are fewer endings than that. Once it isn't, it was found, or it has landed, if no
--- settings have ended its approval.
+-- HALVING ENDS. As long as the change is approved, there are fewer endings than that; and if no batch runs, the next tick orders one. Once
+-- the change isn't approved, it was found, or it has landed, if no settings have ended its approval.
 pub record IsFound (s : State) (batch : Batch) (change : ℕ) (acts : List Act) : Type 0 where
   pub fewer : approved_on (after_all s acts).desk change ≡ true → endings s acts < work_until change batch s
+  pub next : approved_on (after_all s acts).desk change ≡ true → (after_all s acts).queue.staging.running ≡ None
+      → (now : ℕ) → (after_all s acts).desk.clock ≤ now
+      → is_some (after (after_all s acts) (Other (Tick now))).queue.staging.running ≡ true
   pub found : each_of (is_spared_by change) s acts ≡ true → approved_on (after_all s acts).desk change ≡ false
       → (some_of (finds change) s acts || is_landed (look (after_all s acts).desk) change) ≡ true
 
