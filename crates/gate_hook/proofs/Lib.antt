@@ -3,6 +3,7 @@ pub mod Bearing
 pub mod Ending
 pub mod FirstDenials
 pub mod Kept
+pub mod Losing
 pub mod Needing
 pub mod NoHead
 pub mod OnLines

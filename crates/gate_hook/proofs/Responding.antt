@@ -1,11 +1,11 @@
 -- From what was asked to what is sent.
-use Rattle.std.proofs.Common.{◌≡◌, inl, inr, ℕ, ◌<◌, List, ◌++◌, length, take, Option, Some, None, Result, Ok, Err, refl, sym, ap, arith, true≢false, ◌↔◌, IsSome, IfOk, subst, ◌∙◌}
+use Rattle.std.proofs.Common.{◌≡◌, inl, inr, ℕ, ◌<◌, List, [], ◌++◌, length, take, Option, Some, None, Result, Ok, Err, refl, sym, ap, arith, true≢false, ◌↔◌, IsSome, IfOk, subst, ◌∙◌}
 use Rattle.std.specs.Io.KnownBytes.{Appends, Consumes}
 use Rattle.std.specs.String.{string_bytes}
 use Rattle.gate_queue.specs.declared.fault.Fault.{Fault}
 use Rattle.gate_queue.specs.declared.fault.Fault.TheVariants.{Memory, Store, Full, Foreign}
 use Rattle.gate_store.specs.Run.{IsOpenAfter, Records}
-use Rattle.gate_hook.specs.Receiving.{IsInput, IsUnread}
+use Rattle.gate_hook.specs.Receiving.{HasKept, IsInput, IsUnread}
 use Rattle.gate_hook.specs.Requests.{Asks}
 use Rattle.gate_hook.specs.Responding.{Answers, HasConsumed, HasSent, IsTranscript, Responds}
 use Rattle.gate_http.specs.Responses.{Response, fault_response, response_text}
@@ -20,6 +20,7 @@ use Rattle.gate_hook.specs.declared.requests.Served.{Served}
 use Rattle.gate_http.specs.declared.refusal.Refusal.TheVariants.{BadRequest, Unauthorized, NotFound, MethodNotAllowed, NotImplemented, LengthRequired, ContentTooLarge, NoDelivery}
 use Rattle.gate_deliveries.specs.declared.reading.DeliveryFault.TheVariants.{NotJson, BadField, UnknownEvent, Memory as NoMemory}
 use Rattle.gate_http.specs.declared.response.Response.{Response as Made}
+use Rattle.gate_hook.proofs.Losing.{kept-all}
 use Rattle.gate_hook.proofs.NoHead.{is-left, left_of}
 
 -- A REQUEST THAT WASN'T READ: some input, and nothing has changed
@@ -82,22 +83,32 @@ sends-fault token (Err TooMuch) fault input old new before after text is breaks 
 -- THE TRANSCRIPT
 pub consumed-anyhow : {X : Type 0} (result : Result X HookFault) (before after : Option (List ℕ)) (bytes : List ℕ) → Consumes before after bytes → HasConsumed result before after bytes
 consumed-anyhow (Ok done) before after bytes consumed = consumed
-consumed-anyhow (Err fault) before after bytes consumed = tt
+consumed-anyhow (Err fault) before after bytes consumed = kept-all before after bytes consumed
 
 pub written-down : (result : Result Served HookFault) (status : ℕ) (request response text : List ℕ) (before after old new : Option (List ℕ))
     → text ≡ response → Consumes before after request
     → HasSent result (record { status = status; fault = None }) text old new
-    → IfOk result (λ (served : Served). IsTranscript request response served.fault before after old new)
+    → IsTranscript result request response before after old new
 written-down (Ok done) status request response text before after old new is consumed sent =
-    subst (λ (served : Served). IsTranscript request response served.fault before after old new) (sym sent.0) (consumed, subst (Appends old new) is sent.1)
-written-down (Err fault) status request response text before after old new is consumed sent = tt
+    subst (λ (served : Served). IsTranscript (Ok served) request response before after old new) (sym sent.0)
+    (consumed, subst (Appends old new) is sent.1)
+written-down (Err Write) status request response text before after old new is consumed sent =
+    inl (consumed, subst (λ (told : List ℕ). IsCutOff told old new) is sent)
+written-down (Err Read) status request response text before after old new is consumed sent = absurd sent
+written-down (Err (Gate fault)) status request response text before after old new is consumed sent = absurd sent
+written-down (Err TooMuch) status request response text before after old new is consumed sent = absurd sent
 
-pub not-written-down : (result : Result Served HookFault) (status : ℕ) (fault : Fault) (request response text : List ℕ) (before after old new : Option (List ℕ))
-    → HasSent result (record { status = status; fault = Some fault }) text old new
-    → IfOk result (λ (served : Served). IsTranscript request response served.fault before after old new)
-not-written-down (Ok done) status fault request response text before after old new sent =
-    subst (λ (served : Served). IsTranscript request response served.fault before after old new) (sym sent.0) tt
-not-written-down (Err other) status fault request response text before after old new sent = tt
+pub fault-written-down : (result : Result Served HookFault) (fault : Fault) (request response text : List ℕ) (before after old new : Option (List ℕ))
+    → text ≡ response_text fault_response → HasKept before after request → response ≡ []
+    → HasSent result (record { status = 503; fault = Some fault }) text old new
+    → IsTranscript result request response before after old new
+fault-written-down (Ok done) fault request response text before after old new is kept none sent =
+    subst (λ (served : Served). IsTranscript (Ok served) request response before after old new) (sym sent.0) (kept, none)
+fault-written-down (Err Write) fault request response text before after old new is kept none sent =
+    inr (kept, none, subst (λ (told : List ℕ). IsCutOff told old new) is sent)
+fault-written-down (Err Read) fault request response text before after old new is kept none sent = absurd sent
+fault-written-down (Err (Gate other)) fault request response text before after old new is kept none sent = absurd sent
+fault-written-down (Err TooMuch) fault request response text before after old new is kept none sent = absurd sent
 
 -- WHAT IS TOLD OF A BOOK THAT WAS SOUND AND IS HONEST
 pub stays-response : (result : Result Served HookFault) (made : Made) (sound : Type 0) (before after : Option (List ℕ))

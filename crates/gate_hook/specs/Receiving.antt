@@ -30,12 +30,17 @@ IsRead (Err TooMuch) before after buffer room = ⊥
 abbrev pub IsUnread : HookFault → Type 0
 IsUnread fault = (fault ≡ Read) ⊎ (fault ≡ Gate Memory)
 
--- Some bytes more were read, at most `room`, and none at the end alone; or reading failed, whatever was taken within these limits.
+-- Some bytes more were read, at most `room`, and none at the end alone; or reading failed, whatever was taken within these limits, and
+-- nothing more stands there.
 abbrev pub IsMore : Result ℕ HookFault → Option (List ℕ) → Option (List ℕ) → List ℕ → List ℕ → ℕ → Type 0
 IsMore (Ok n) before after old new room =
     (more : List ℕ) × Consumes before after more × (new ≡ old ++ more) × (length more ≡ n) × (n ≤ room) × (n ≤ piece) × (n ≡ 0 → IsAtEnd after)
 IsMore (Err fault) before after old new room =
-    IsUnread fault × ((taken : List ℕ) × Consumes before after taken × (length taken ≤ room) × (length taken ≤ piece))
+    IsUnread fault × (new ≡ old) × ((taken : List ℕ) × Consumes before after taken × (length taken ≤ room) × (length taken ≤ piece))
+
+-- What was taken of the input begins with these bytes, and only of what was read last some may be lost behind them.
+abbrev pub HasKept : Option (List ℕ) → Option (List ℕ) → List ℕ → Type 0
+HasKept before after bytes = (lost : List ℕ) × Consumes before after (bytes ++ lost) × (length lost ≤ piece)
 
 -- no more of the input was taken than its answer needs
 abbrev pub HasTaken : Option (List ℕ) → Option (List ℕ) → Option (List ℕ) → Type 0
@@ -46,24 +51,27 @@ abbrev pub Fails : Option (List ℕ) → HookFault → Option (List ℕ) → Opt
 Fails token fault before after = IsUnread fault × HasTaken token before after
 
 -- The bytes that were read begin with a head within the limit, and fewer than a piece stand behind it; or with what is left of the
--- input they have no head.
+-- input they have no head. If it failed, they are what was kept.
 abbrev pub HasReadHead : Option (List ℕ) → Result (Option Head) HookFault → Option (List ℕ) → Option (List ℕ) → List ℕ → Type 0
 HasReadHead token (Ok (Some told)) before after bytes =
     Consumes before after bytes × IsHeadOf token told bytes × (told.len ≤ max_head) × (length bytes < told.len + piece)
 HasReadHead token (Ok None) before after bytes =
     Consumes before after bytes × ((rest : List ℕ) × IsLeft after rest × HasNoHead (bytes ++ rest)) × (length bytes ≤ max_head)
-HasReadHead token (Err fault) before after bytes = Fails token fault before after
+HasReadHead token (Err fault) before after bytes = Fails token fault before after × HasKept before after bytes
 
 -- There are no more bytes, or they end within so many behind the first `front`.
 abbrev pub EndsWithin : (old more : List ℕ) (front size : ℕ) → Type 0
 EndsWithin old more front size = (more ≡ []) ⊎ (length (old ++ more) ≤ front + size)
 
--- Behind the first `front` bytes there are so many, or the input is at its end. No more were taken for that.
+-- Behind the first `front` bytes there are so many, or the input is at its end. No more were taken for that. If reading failed, some of
+-- what was read last may be lost.
 abbrev pub HasReadBody : Result (Unit {0}) HookFault → Option (List ℕ) → Option (List ℕ) → List ℕ → List ℕ → ℕ → ℕ → Type 0
 HasReadBody (Ok _) before after old new front size =
     (more : List ℕ) × Consumes before after more × (new ≡ old ++ more) × ((size ≤ length new - front) ⊎ IsAtEnd after) × EndsWithin old more front size
 HasReadBody (Err fault) before after old new front size =
-    IsUnread fault × ((taken : List ℕ) × Consumes before after taken × EndsWithin old taken front size)
+    IsUnread fault
+    × ((more : List ℕ) × (lost : List ℕ) × Consumes before after (more ++ lost) × (new ≡ old ++ more)
+    × EndsWithin old (more ++ lost) front size × (length lost ≤ piece))
 
 -- what the input was: the bytes that were taken, and those that are left
 abbrev pub IsInput : Option (List ℕ) → Option (List ℕ) → List ℕ → Type 0

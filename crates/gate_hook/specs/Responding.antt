@@ -1,12 +1,13 @@
 -- How a response is made and sent, for the contracts of the functions that `serve_guarded` is made of; `IsTranscript` is for its own.
-use Rattle.std.specs.Prelude.{◌≡◌, ◌⊎◌, ℕ, ⊤, List, Option, Some, None, Result, Ok, Err}
+use Rattle.std.specs.Prelude.{◌≡◌, ◌⊎◌, ℕ, ⊤, List, [], Option, Some, None, Result, Ok, Err}
 use Rattle.std.specs.Io.KnownBytes.{Appends, Consumes}
 use Rattle.gate_queue.specs.declared.fault.Fault.{Fault}
 use Rattle.gate_queue.specs.declared.fault.Fault.TheVariants.{Memory, Store, Full, Foreign}
 use Rattle.gate_store.specs.Run.{Records, IsOfKeepers}
+use Rattle.gate_hook.specs.Receiving.{HasKept}
 use Rattle.gate_hook.specs.Requests.{Asks}
 use Rattle.gate_hook.specs.Sending.{IsCutOff}
-use Rattle.gate_http.specs.Responses.{IsResponse}
+use Rattle.gate_http.specs.Responses.{IsResponse, fault_response, response_text}
 use Rattle.gate_hook.specs.Served.{Breaks, MeetsNoFull, IsTaken, MeetsFull, after_wish, response_to}
 use Rattle.gate_hook.specs.declared.fault.HookFault.{HookFault}
 use Rattle.gate_hook.specs.declared.fault.HookFault.TheVariants.{Gate, Read, Write, TooMuch}
@@ -42,15 +43,27 @@ Answers token (Err Read) input old new = new ≡ old
 Answers token (Err Write) input old new = ⊥
 Answers token (Err TooMuch) input old new = ⊥
 
--- these bytes were taken of the input, if nothing went wrong
+-- these bytes were taken of the input, or if something went wrong, were kept of what was taken
 abbrev pub HasConsumed : {X : Type 0} → Result X HookFault → Option (List ℕ) → Option (List ℕ) → List ℕ → Type 0
 HasConsumed (Ok _) before after bytes = Consumes before after bytes
-HasConsumed (Err fault) before after bytes = ⊤
+HasConsumed (Err fault) before after bytes = HasKept before after bytes
 
--- A transcript, of a request and a response, has what was taken of the input, and what was written. After a fault nothing is said of it.
-abbrev pub IsTranscript : (request response : List ℕ) → Option Fault → (before after old new : Option (List ℕ)) → Type 0
-IsTranscript request response None before after old new = Consumes before after request × Appends old new response
-IsTranscript request response (Some fault) before after old new = ⊤
+-- THE TRANSCRIPT of a request that was answered: what was taken of the input, and what was written. After a fault of the gate it has what
+-- was kept of the input, and no response.
+abbrev pub IsOfAnswered : Option Fault → (request response : List ℕ) → (before after old new : Option (List ℕ)) → Type 0
+IsOfAnswered None request response before after old new = Consumes before after request × Appends old new response
+IsOfAnswered (Some fault) request response before after old new = HasKept before after request × (response ≡ [])
+
+-- The transcript, however serving ended. After `Write` it has the response of which a part was written, or none if that is the one after
+-- faults. After `Read` it has none. So nothing stands in it that wasn't taken of the input, and isn't the response.
+abbrev pub IsTranscript : Result Served HookFault → (request response : List ℕ) → (before after old new : Option (List ℕ)) → Type 0
+IsTranscript (Ok served) request response before after old new = IsOfAnswered served.fault request response before after old new
+IsTranscript (Err Write) request response before after old new =
+    (Consumes before after request × IsCutOff response old new)
+    ⊎ (HasKept before after request × (response ≡ []) × IsCutOff (response_text fault_response) old new)
+IsTranscript (Err Read) request response before after old new = HasKept before after request × (response ≡ [])
+IsTranscript (Err (Gate fault)) request response before after old new = ⊥
+IsTranscript (Err TooMuch) request response before after old new = ⊥
 
 -- a text was sent whole, or the writer refused it or the rest of it
 abbrev pub HasSent : Result Served HookFault → Served → List ℕ → Option (List ℕ) → Option (List ℕ) → Type 0

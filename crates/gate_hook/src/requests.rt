@@ -42,9 +42,9 @@ pub struct Served {
 /// What came in and what went out of one request. It isn't to be printed, since a head may bear a token.
 #[derive(Drop)]
 pub struct Transcript {
-    /// The bytes that were taken of the input.
+    /// The bytes that were taken of the input. If there was no memory for the last ones, these are missing.
     pub request: Vec<u8>,
-    /// The response, unless it is the one after a fault.
+    /// The response, unless it is the one after a fault, or the request couldn't be read.
     pub response: String,
 }
 
@@ -245,7 +245,7 @@ fn send_as<W: Write>(writer: &mut W, text: &str, served: Served) -> Result<Serve
 /// is: a head without exactly one field `Authorization`, of the scheme `Bearer` and with this token (RFC 6750, section 2.1), gets the
 /// status 401. Its body isn't taken. Input without a head is refused as ever.
 ///
-/// Into the transcript it puts what came in and what went out. All else is said at `serve_one`.
+/// Into the transcript it puts what came in and what went out, in place of what stood there. All else is said at `serve_one`.
 pub fn serve_guarded<B: Book, R: Read, W: Write>(
     alloc: Global,
     keeper: &mut Keeper<B>,
@@ -254,9 +254,9 @@ pub fn serve_guarded<B: Book, R: Read, W: Write>(
     reader: &mut R,
     writer: &mut W,
 ) -> Result<Served, HookFault>
-    // If there is no fault, the transcript has what was taken of the input, and what was written.
-    ensures transcript { IfOk result (λ served. IsTranscript transcript.new.request.items (string_bytes transcript.new.response) served.fault
-        (R.remaining reader.old) (R.remaining reader.new) (W.contents writer.old) (W.contents writer.new)) }
+    // Whatever comes of it, the transcript has what was taken of the input, and the response, and nothing else.
+    ensures transcript { IsTranscript result transcript.new.request.items (string_bytes transcript.new.response)
+        (R.remaining reader.old) (R.remaining reader.new) (W.contents writer.old) (W.contents writer.new) }
 
     // What is written, and the records after it, are those that the input asks for.
     ensures served { (input : List ℕ) × IsInput (R.remaining reader.old) (R.remaining reader.new) input

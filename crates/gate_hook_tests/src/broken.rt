@@ -1,4 +1,5 @@
 use crate::checks::check_words;
+use crate::logs::line_over;
 use crate::requests::REQUEST;
 use gate_hook::{serve_lines, serve_one};
 use gate_queue::{Fault, Gate};
@@ -132,4 +133,17 @@ fn a_report_of_a_broken_book(rt: HostRuntime) {
     let book = broken_book(rt.alloc(), Broken::Load);
     let found = word_of_request(&rt, rt.alloc(), book, QUEUE);
     check_words(&rt, QUEUE, found.as_str(), "503 Store");
+}
+
+// A log tells which request met the fault.
+#[test]
+fn a_line_of_a_broken_book(rt: HostRuntime) {
+    let book = broken_book(rt.alloc(), Broken::Kept);
+    let found = line_over(&rt, rt.alloc(), book, None, 45_296, REQUEST);
+    check_words(
+        &rt,
+        REQUEST,
+        found.as_str(),
+        "12:34:56Z POST /deliveries 503 Store\n",
+    );
 }

@@ -3,7 +3,7 @@ use crate::requests::REQUEST;
 use gate_hook::{HookFault, Served, Token, Transcript, serve_guarded};
 use gate_jobs::log_line;
 use gate_queue::Gate;
-use gate_store::{Keeper, PlainBook};
+use gate_store::{Book, Keeper, PlainBook};
 use std::alloc::Global;
 use std::io;
 use std::process::Abort;
@@ -16,7 +16,20 @@ fn line_of(
     seconds: u64,
     request: &str,
 ) -> String {
-    let mut keeper = Keeper::new(PlainBook::new(alloc, Gate::new(alloc)));
+    let book = PlainBook::new(alloc, Gate::new(alloc));
+    line_over(rt, alloc, book, token, seconds, request)
+}
+
+/// The same over any book.
+pub(crate) fn line_over<B: Book + Drop>(
+    rt: &impl Abort,
+    alloc: Global,
+    book: B,
+    token: Option<&Token>,
+    seconds: u64,
+    request: &str,
+) -> String {
+    let mut keeper = Keeper::new(book);
     let mut transcript = Transcript::new(alloc);
     let served = serve_guarded(
         alloc,

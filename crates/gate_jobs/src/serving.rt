@@ -50,9 +50,9 @@ pub fn serve_request<B: Book, R: Read, W: Write>(
 ) -> Result<Served, HookFault>
     ensures served { IsServedOnce result (B.is_sound keeper.new) (B.is_sound keeper.old × B.is_honest keeper.new) (option_copied token.entry) (B.shows keeper.old) (B.shows keeper.new) (R.remaining reader.old) (R.remaining reader.new) (W.contents writer.old) (W.contents writer.new) }
 
-    // If there is no fault, the transcript has what was taken of the input, and what was written.
-    ensures transcript { IfOk result (λ served. IsTranscript transcript.new.request.items (string_bytes transcript.new.response) served.fault
-        (R.remaining reader.old) (R.remaining reader.new) (W.contents writer.old) (W.contents writer.new)) }
+    // Whatever comes of it, the transcript has what was taken of the input, and the response, and nothing else.
+    ensures transcript { IsTranscript result transcript.new.request.items (string_bytes transcript.new.response)
+        (R.remaining reader.old) (R.remaining reader.new) (W.contents writer.old) (W.contents writer.new) }
 
     // A book that is sound in the end was sound before, one that is honest was so, and one that was shielded still is.
     ensures was { B.is_sound keeper.new → B.is_sound keeper.old }

@@ -2,6 +2,7 @@ use Rattle.std.proofs.Common.{inr, refl, arith, subst, length-append}
 use Rattle.std.proofs.KnownBytes.{Consumes-trans}
 use Rattle.httparse.specs.Grammar.{HasNoRequest}
 use Rattle.httparse.specs.Spans.{RequestOverflows}
+use Rattle.gate_hook.proofs.Losing.{kept-all, kept-but-last}
 use Rattle.gate_hook.proofs.Needing.{few-left, len-within, takes-new}
 use Rattle.gate_hook.proofs.NoHead.{none-ever, none-when-full}
 use Rattle.gate_http.specs.Heads.{max_fields, IsHeadOf}
@@ -24,17 +25,22 @@ pub returns-in-Err-read_more : goal.returns-in-Err-read_more
 returns-in-Err-read_more g c =
     let unfinished = rw c.in-Ok-Unfinished.field-0-is at c.in-Ok-Unfinished.ensures in
     let failed = c.in-Err-read_more.ensures in (
-      failed.0,
       (
-        _,
-        Consumes-trans _ _ _ _ _ c.loop-head.invariant.0 failed.1.1,
-        takes-new _ (inr (_, _, refl, subst HasNoRequest c.deref.ensures.value unfinished, failed.1.3))
-            (omega (arith, failed.1.2, c.len-room.ensures, c.loop-head.invariant.1, length-append c.loop-head.bytes.items failed.1.0)),
+        failed.0,
+        (
+          _,
+          Consumes-trans _ _ _ _ _ c.loop-head.invariant.0 failed.2.1,
+          takes-new _ (inr (_, _, refl, subst HasNoRequest c.deref.ensures.value unfinished, failed.2.3))
+              (omega (arith, failed.2.2, c.len-room.ensures, c.loop-head.invariant.1, length-append c.loop-head.bytes.items failed.2.0)),
+        ),
       ),
+      kept-but-last _ _ _ _ _ _ failed.1 c.loop-head.invariant.0 failed.2.1 failed.2.3,
     )
 
 pub returns-in-Err : goal.returns-in-Err
-returns-in-Err g c = (inr refl, (_, c.loop-head.invariant.0, takes-new _ c.loop-head.invariant.2 c.loop-head.invariant.1))
+returns-in-Err g c =
+    let taken = c.loop-head.invariant.0 in
+    ((inr refl, (_, taken, takes-new _ c.loop-head.invariant.2 c.loop-head.invariant.1)), kept-all _ _ _ taken)
 
 pub returns-in-Ok-Whole : goal.returns-in-Ok-Whole
 returns-in-Ok-Whole g c =

@@ -2,8 +2,9 @@ use Rattle.std.proofs.Common.{inr, option_copied, refl, rules, subst, sym}
 use Rattle.std.proofs.KnownBytes.{Consumes-trans}
 use Rattle.std.specs.Io.KnownBytes.{Consumes}
 use Rattle.gate_hook.proofs.Asking.{asks-whole}
+use Rattle.gate_hook.proofs.Losing.{kept-all, kept-behind}
 use Rattle.gate_hook.proofs.Needing.{takes-behind, takes-none}
-use Rattle.gate_hook.specs.Receiving.{HasTaken}
+use Rattle.gate_hook.specs.Receiving.{HasKept, HasTaken}
 use Rattle.gate_hook.proofs.requests.read_wish.Goals as goal
 
 pub returns-in-Ok-None-clause-asked : goal.returns-in-Ok-None-clause-asked
@@ -21,7 +22,19 @@ pub returns-in-Err-read_body-clause-asked : goal.returns-in-Err-read_body-clause
 returns-in-Err-read_body-clause-asked g c =
     let found = rw c.in-Ok-Some.field-0-is at c.in-Ok-Some.ensures in
     let failed = rw c.needed.ensures at c.in-Err-read_body.ensures in
-    (failed.0, (_, Consumes-trans _ _ _ _ _ found.0 failed.1.1, takes-behind _ _ _ found.1 found.2 found.3 failed.1.2))
+    (failed.0, (_, Consumes-trans _ _ _ _ _ found.0 failed.1.2, takes-behind _ _ _ found.1 found.2 found.3 failed.1.4))
+
+pub returns-in-Err-clause-asked : goal.returns-in-Err-clause-asked
+returns-in-Err-clause-asked g c = c.in-Err.ensures.0
+
+pub returns-in-Err-clause-consumed : goal.returns-in-Err-clause-consumed
+returns-in-Err-clause-consumed g c = c.in-Err.ensures.1
+
+pub returns-in-Err-read_body-clause-consumed : goal.returns-in-Err-read_body-clause-consumed
+returns-in-Err-read_body-clause-consumed g c =
+    let found = rw c.in-Ok-Some.field-0-is at c.in-Ok-Some.ensures in
+    let failed = c.in-Err-read_body.ensures.1 in
+    kept-behind _ _ _ _ _ failed.0 failed.1 failed.3 found.0 failed.2 failed.5
 
 pub returns-clause-asked : goal.returns-clause-asked
 returns-clause-asked g c =
@@ -45,3 +58,12 @@ returns-in_err-wish_in-clause-asked g c =
     let taken : HasTaken (option_copied c.args.token) (g.R.Read.remaining c.args.reader.now) (g.R.Read.remaining c.read_body.new.reader) =
     (_, Consumes-trans _ _ _ _ _ found.0 read.1, takes-behind _ _ _ found.1 found.2 found.3 read.4) in
     search (rules, taken)
+
+pub returns-in_err-wish_in-clause-consumed : goal.returns-in_err-wish_in-clause-consumed
+returns-in_err-wish_in-clause-consumed g c =
+    let found = rw c.in-Ok-Some.field-0-is at c.in-Ok-Some.ensures in
+    let read = rw c.needed.ensures at c.in-Ok.ensures in
+    let kept : HasKept (g.R.Read.remaining c.args.reader.now) (g.R.Read.remaining c.read_body.new.reader) c.read_body.new.bytes.items =
+    kept-all _ _ _ (subst (Consumes (g.R.Read.remaining c.args.reader.now) (g.R.Read.remaining c.read_body.new.reader)) (sym read.2)
+    (Consumes-trans _ _ _ _ _ found.0 read.1)) in
+    search (rules, kept)

@@ -1,7 +1,7 @@
 use Rattle.std.proofs.Common.{Err, Ok, codes, refl, sym}
 use Rattle.std.specs.Fmt.{digits}
 use Rattle.gate_http.specs.Responses.{response_text}
-use Rattle.gate_hook.proofs.Responding.{exact-one, not-written-down, sends-fault, sends-response, stays-fault, stays-response, unchanged, written-down}
+use Rattle.gate_hook.proofs.Responding.{exact-one, fault-written-down, sends-fault, sends-response, stays-fault, stays-response, unchanged, written-down}
 use Rattle.gate_hook.proofs.requests.serve_guarded.Goals as goal
 
 pub returns-in-Ok-clause-served : goal.returns-in-Ok-clause-served
@@ -50,4 +50,7 @@ returns-in-Ok-clause-transcript g c =
     written-down _ _ _ _ _ _ _ _ _ c.as_str.ensures.value c.in-Ok.ensures.consumed c.send_as.ensures
 
 pub returns-in-Err-Gate-clause-transcript : goal.returns-in-Err-Gate-clause-transcript
-returns-in-Err-Gate-clause-transcript g c = not-written-down _ _ _ _ _ _ _ _ _ _ c.send_as-in-Err-Gate.ensures
+unfolding response_text digits
+returns-in-Err-Gate-clause-transcript g c =
+    fault-written-down _ c.in-Err-Gate.fault _ _ (codes "HTTP/1.1 503 Service Unavailable\r\nContent-Length: 0\r\nConnection: close\r\n\r\n") _ _ _ _ refl
+    c.in-Err-Gate.ensures.consumed c.clear-2.ensures.bytes c.send_as-in-Err-Gate.ensures
