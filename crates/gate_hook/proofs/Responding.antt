@@ -1,5 +1,6 @@
 -- From what was asked to what is sent.
 use Rattle.std.proofs.Common.{◌≡◌, inl, inr, ℕ, ◌<◌, List, [], ◌++◌, length, take, Option, Some, None, Result, Ok, Err, refl, sym, ap, arith, true≢false, ◌↔◌, IsSome, IfOk, subst, ◌∙◌}
+use Rattle.std.proofs.KnownBytes.{Appends-nil}
 use Rattle.std.specs.Io.KnownBytes.{Appends, Consumes}
 use Rattle.std.specs.String.{string_bytes}
 use Rattle.gate_queue.specs.declared.fault.Fault.{Fault}
@@ -7,10 +8,10 @@ use Rattle.gate_queue.specs.declared.fault.Fault.TheVariants.{Memory, Store, Ful
 use Rattle.gate_store.specs.Run.{IsOpenAfter, Records}
 use Rattle.gate_hook.specs.Receiving.{HasKept, IsInput, IsUnread}
 use Rattle.gate_hook.specs.Requests.{Asks}
-use Rattle.gate_hook.specs.Responding.{Answers, HasConsumed, HasSent, IsTranscript, Responds}
-use Rattle.gate_http.specs.Responses.{Response, fault_response, response_text}
+use Rattle.gate_hook.specs.Responding.{Answers, HasConsumed, HasSent, IsTranscript, MakesAnyhow, Responds, RespondsAnyhow}
+use Rattle.gate_http.specs.Responses.{IsResponse, Response, fault_response, response_text}
 use Rattle.gate_hook.specs.Sending.{IsCutOff}
-use Rattle.gate_hook.specs.Served.{AnswersOne, AsksNoDelivery, Breaks, IsDue, StaysServing, after_wish, report_in, response_to, response_to_report}
+use Rattle.gate_hook.specs.Served.{AnswersAnyhow, AnswersOne, AsksNoDelivery, Breaks, IsDue, NeedsNoBook, StaysServing, after_wish, report_in, response_to, response_to_report}
 use Rattle.gate_hook.specs.declared.fault.HookFault.{HookFault}
 use Rattle.gate_hook.specs.declared.fault.HookFault.TheVariants.{Gate, Read, Write, TooMuch}
 use Rattle.gate_http.specs.declared.refusal.Refusal.{Refusal}
@@ -20,6 +21,7 @@ use Rattle.gate_hook.specs.declared.requests.Served.{Served}
 use Rattle.gate_http.specs.declared.refusal.Refusal.TheVariants.{BadRequest, Unauthorized, NotFound, MethodNotAllowed, NotImplemented, LengthRequired, ContentTooLarge, NoDelivery}
 use Rattle.gate_deliveries.specs.declared.reading.DeliveryFault.TheVariants.{NotJson, BadField, UnknownEvent, Memory as NoMemory}
 use Rattle.gate_http.specs.declared.response.Response.{Response as Made}
+use Rattle.gate_http.specs.declared.target.Report.{Report as About}
 use Rattle.gate_hook.proofs.Losing.{kept-all}
 use Rattle.gate_hook.proofs.NoHead.{is-left, left_of}
 
@@ -130,6 +132,55 @@ stays-fault (Err Write) fault sound before after text is stays sent =
 stays-fault (Err Read) fault sound before after text is stays sent = absurd sent
 stays-fault (Err (Gate other)) fault sound before after text is stays sent = absurd sent
 stays-fault (Err TooMuch) fault sound before after text is stays sent = absurd sent
+
+-- WHAT NEEDS NO BOOK
+pub report-anyhow : (made : Made) (wish : Result Request Refusal) (report : About) → wish ≡ Ok (Report report)
+    → ((records : Records) × IsResponse made (response_to records (Ok (Report report))))
+    → NeedsNoBook wish × ((records : Records) × IsResponse made (response_to records wish))
+report-anyhow made wish report is anyhow =
+    subst (λ (asked : Result Request Refusal). NeedsNoBook asked × ((records : Records) × IsResponse made (response_to records asked))) (sym is) (tt, anyhow)
+
+pub makes-anyhow : (token : Option (List ℕ)) (result : Result Made HookFault) (input : List ℕ) (wish : Result Request Refusal)
+    → Asks token input wish → RespondsAnyhow result wish → MakesAnyhow token result input
+makes-anyhow token (Ok made) input wish asks anyhow = (wish, asks, anyhow.0, anyhow.1)
+makes-anyhow token (Err fault) input wish asks anyhow = tt
+
+pub sends-anyhow : (token : Option (List ℕ)) (result : Result Served HookFault) (made : Made) (input : List ℕ) (before after : Option (List ℕ))
+    → MakesAnyhow token (Ok made) input → HasSent result (record { status = made.status; fault = None }) (string_bytes made.text) before after
+    → AnswersAnyhow token result input before after
+sends-anyhow token (Ok done) made input before after is sent =
+    subst (λ (served : Served). AnswersAnyhow token (Ok served) input before after) (sym sent.0) (
+      response_to is.3.0 is.0,
+      (is.0, is.1, is.2, (is.3.0, refl)),
+      is.3.1.status,
+      subst (Appends before after) is.3.1.text sent.1,
+    )
+sends-anyhow token (Err Write) made input before after is sent = (
+  response_to is.3.0 is.0,
+  None,
+  (is.0, is.1, is.2, (is.3.0, refl)),
+  subst (λ (text : List ℕ). IsCutOff text before after) is.3.1.text sent,
+)
+sends-anyhow token (Err Read) made input before after is sent = absurd sent
+sends-anyhow token (Err (Gate fault)) made input before after is sent = absurd sent
+sends-anyhow token (Err TooMuch) made input before after is sent = absurd sent
+
+pub fault-anyhow : (token : Option (List ℕ)) (result : Result Served HookFault) (fault : Fault) (input : List ℕ) (before after : Option (List ℕ)) (text : List ℕ)
+    → text ≡ response_text fault_response → HasSent result (record { status = 503; fault = Some fault }) text before after
+    → AnswersAnyhow token result input before after
+fault-anyhow token (Ok done) fault input before after text is sent =
+    subst (λ (served : Served). AnswersAnyhow token (Ok served) input before after) (sym sent.0)
+    (fault_response, refl, refl, subst (Appends before after) is sent.1)
+fault-anyhow token (Err Write) fault input before after text is sent =
+    (fault_response, Some fault, refl, subst (λ (told : List ℕ). IsCutOff told before after) is sent)
+fault-anyhow token (Err Read) fault input before after text is sent = absurd sent
+fault-anyhow token (Err (Gate other)) fault input before after text is sent = absurd sent
+fault-anyhow token (Err TooMuch) fault input before after text is sent = absurd sent
+
+pub unread-anyhow : (token : Option (List ℕ)) (fault : HookFault) (input : List ℕ) (written : Option (List ℕ)) → fault ≡ Read
+    → AnswersAnyhow token (Err fault) input written written
+unread-anyhow token fault input written read =
+    subst (λ (met : HookFault). AnswersAnyhow token (Err met) input written written) (sym read) (Appends-nil written)
 
 -- INPUT THAT ASKS FOR NO DELIVERY
 known-input : (after : Option (List ℕ)) (whole input : List ℕ) → IsInput (Some whole) after input → input ≡ whole

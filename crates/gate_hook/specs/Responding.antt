@@ -8,7 +8,7 @@ use Rattle.gate_hook.specs.Receiving.{HasKept}
 use Rattle.gate_hook.specs.Requests.{Asks}
 use Rattle.gate_hook.specs.Sending.{IsCutOff}
 use Rattle.gate_http.specs.Responses.{IsResponse, fault_response, response_text}
-use Rattle.gate_hook.specs.Served.{Breaks, MeetsNoFull, IsTaken, MeetsFull, after_wish, response_to}
+use Rattle.gate_hook.specs.Served.{Breaks, MeetsNoFull, IsTaken, MeetsFull, NeedsNoBook, after_wish, response_to}
 use Rattle.gate_hook.specs.declared.fault.HookFault.{HookFault}
 use Rattle.gate_hook.specs.declared.fault.HookFault.TheVariants.{Gate, Read, Write, TooMuch}
 use Rattle.gate_http.specs.declared.refusal.Refusal.{Refusal}
@@ -27,6 +27,11 @@ Responds (Err Read) old wish new = ⊥
 Responds (Err Write) old wish new = ⊥
 Responds (Err TooMuch) old wish new = ⊥
 
+-- a response that was made though the book may be shut, to a request that needs none
+abbrev pub RespondsAnyhow : Result Response HookFault → Result Request Refusal → Type 0
+RespondsAnyhow (Ok made) wish = NeedsNoBook wish × ((records : Records) × IsResponse made (response_to records wish))
+RespondsAnyhow (Err fault) wish = ⊤
+
 -- The faults that keep a response from being made: of those of the gate, the ones that a keeper may answer, and a failed read.
 abbrev pub MayFail : (Fault → Type 0) → HookFault → Type 0
 MayFail may_answer (Gate fault) = IsOfKeepers may_answer fault
@@ -42,6 +47,12 @@ Answers token (Err (Gate fault)) input old new = Breaks token input fault old ne
 Answers token (Err Read) input old new = new ≡ old
 Answers token (Err Write) input old new = ⊥
 Answers token (Err TooMuch) input old new = ⊥
+
+-- the same of what was read
+abbrev pub MakesAnyhow : Option (List ℕ) → Result Response HookFault → List ℕ → Type 0
+MakesAnyhow token (Ok made) input =
+    (wish : Result Request Refusal) × Asks token input wish × NeedsNoBook wish × ((records : Records) × IsResponse made (response_to records wish))
+MakesAnyhow token (Err fault) input = ⊤
 
 -- these bytes were taken of the input, or if something went wrong, were kept of what was taken
 abbrev pub HasConsumed : {X : Type 0} → Result X HookFault → Option (List ℕ) → Option (List ℕ) → List ℕ → Type 0

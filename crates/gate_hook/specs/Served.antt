@@ -92,6 +92,31 @@ AnswersOne token (Err TooMuch) input old new before after = ⊥
 abbrev pub AsksNoDelivery : Option (List ℕ) → List ℕ → Type 0
 AsksNoDelivery token input = (delivery : Delivery) → Asks token input (Ok (DeliveryOf delivery)) → ⊥
 
+-- OVER A BOOK THAT IS SHUT. Of these requests no answer is asked of the book: those that are refused, and reports, since the state may be
+-- at hand.
+abbrev pub NeedsNoBook : Result Request Refusal → Type 0
+NeedsNoBook (Ok (DeliveryOf delivery)) = ⊥
+NeedsNoBook (Ok (ReportOf report)) = ⊤
+NeedsNoBook (Err refusal) = ⊤
+
+-- What is due all the same: the response after faults, if there was one. Else a refusal as ever, since it is the same over all records, or
+-- the report of some state; and never the answer to a delivery.
+abbrev pub IsDueAnyhow : Option (List ℕ) → List ℕ → Response → Option Fault → Type 0
+IsDueAnyhow token input response None =
+    (wish : Result Request Refusal) × Asks token input wish × NeedsNoBook wish × ((records : Records) × (response ≡ response_to records wish))
+IsDueAnyhow token input response (Some fault) = response ≡ fault_response
+
+-- What serving one request sends then: that response, or a part from its front if the writer refused the rest.
+abbrev pub AnswersAnyhow : Option (List ℕ) → Result Served HookFault → List ℕ → Option (List ℕ) → Option (List ℕ) → Type 0
+AnswersAnyhow token (Ok served) input before after =
+    (response : Response) × IsDueAnyhow token input response served.fault × (served.status ≡ response.status)
+    × Appends before after (response_text response)
+AnswersAnyhow token (Err Write) input before after =
+    (response : Response) × (fault : Option Fault) × IsDueAnyhow token input response fault × IsCutOff (response_text response) before after
+AnswersAnyhow token (Err Read) input before after = Appends before after []
+AnswersAnyhow token (Err (Gate fault)) input before after = ⊥
+AnswersAnyhow token (Err TooMuch) input before after = ⊥
+
 -- No fault but `Memory` and `Store` may have shut the book, and after any fault this was sent. (`Foreign` never comes here.)
 abbrev pub IsSoundUnless : Option Fault → (sound sent : Type 0) → Type 0
 IsSoundUnless None sound sent = sound

@@ -1,14 +1,14 @@
 ghost use Rattle.std.specs.Prelude.{◌≡◌, ◌≤◌, ◌↔◌, ℕ, List, [], Ok, Some, None, IfSome, IsSome, length, option_copied, drop, IfOk, IfErr, OnOk, ◌⊎◌, false};
 ghost use Rattle.std.specs.Option.{option_map};
 ghost use Rattle.std.specs.String.{string_bytes};
-ghost use Rattle.gate_store.specs.Run.{AgreesOnFull, IsOfBooks, IsOfKeepers, StaysOpen, after_delivery, meets_full};
+ghost use Rattle.gate_store.specs.Run.{Records, AgreesOnFull, IsOfBooks, IsOfKeepers, StaysOpen, after_delivery, meets_full};
 ghost use Rattle.gate_deliveries.specs.Deliveries.{delivery_of};
 ghost use Rattle.gate_hook.specs.Receiving.{HasAsked, HasTaken, IsInput};
 ghost use Rattle.gate_hook.specs.Requests.{asked_by, delivery_or_refusal};
-ghost use Rattle.gate_hook.specs.Responding.{Answers, HasConsumed, HasSent, IsTranscript, MayFail, Responds};
+ghost use Rattle.gate_hook.specs.Responding.{Answers, HasConsumed, HasSent, IsTranscript, MakesAnyhow, MayFail, Responds, RespondsAnyhow};
 ghost use Rattle.gate_http.specs.Responses.{IsResponse};
 ghost use Rattle.gate_hook.specs.declared.requests.Request.TheVariants.{Delivery as DeliveryOf, Report as ReportOf};
-ghost use Rattle.gate_hook.specs.Served.{AnswersOne, AsksNoDelivery, StaysServing, report_in, response_to, response_to_report};
+ghost use Rattle.gate_hook.specs.Served.{AnswersAnyhow, AnswersOne, AsksNoDelivery, StaysServing, report_in, response_to, response_to_report};
 ghost use Rattle.gate_hook.specs.Serving.{StaysSound};
 
 use crate::answering::delivery_answer;
@@ -173,6 +173,7 @@ fn reported<B: Book>(
     report: Report,
 ) -> Result<Response, Fault>
     ensures response { B.is_sound keeper.new → IfOk result (λ response. IsResponse response (response_to (B.shows keeper.old) (Ok (ReportOf report)))) }
+    ensures anyhow { IfOk result (λ response. (records : Records) × IsResponse response (response_to records (Ok (ReportOf report)))) }
     ensures same { B.is_sound keeper.new → B.shows keeper.new ≡ B.shows keeper.old }
     ensures was { B.is_sound keeper.new → B.is_sound keeper.old }
     ensures honest { B.is_honest keeper.new → B.is_honest keeper.old }
@@ -194,6 +195,7 @@ fn respond<B: Book>(
     wish: &Wish,
 ) -> Result<Response, HookFault>
     ensures responds { B.is_sound keeper.new → Responds result (B.shows keeper.old) wish.now (B.shows keeper.new) }
+    ensures anyhow { B.is_honest keeper.new → B.is_sound keeper.new ⊎ RespondsAnyhow result wish.now }
     ensures was { B.is_sound keeper.new → B.is_sound keeper.old }
     ensures honest { B.is_honest keeper.new → B.is_honest keeper.old }
     ensures shield { B.is_shielded keeper.old → B.is_shielded keeper.new }
@@ -219,6 +221,8 @@ fn answer<B: Book, R: Read>(
     ensures consumed { HasConsumed result (R.remaining reader.old) (R.remaining reader.new) bytes.new.items }
     ensures answered { (input : List ℕ) × IsInput (R.remaining reader.old) (R.remaining reader.new) input
         × (B.is_sound keeper.new → Answers (option_copied token.entry) result input (B.shows keeper.old) (B.shows keeper.new)) }
+    ensures anyhow { B.is_honest keeper.new → B.is_sound keeper.new
+        ⊎ ((input : List ℕ) × IsInput (R.remaining reader.old) (R.remaining reader.new) input × MakesAnyhow (option_copied token.entry) result input) }
     ensures taken { HasTaken (option_copied token.entry) (R.remaining reader.old) (R.remaining reader.new) }
     ensures was { B.is_sound keeper.new → B.is_sound keeper.old }
     ensures honest { B.is_honest keeper.new → B.is_honest keeper.old }
@@ -286,6 +290,12 @@ pub fn serve_guarded<B: Book, R: Read, W: Write>(
     // Of a book that was sound and is honest, only `Memory` and `Store` may have shut it, and then the response is 503, or after `Write`
     // a part of it. After any other response it is still sound, so what is said above of that response holds, whatever comes later.
     ensures stays { B.is_sound keeper.old → B.is_honest keeper.new → StaysServing result (B.is_sound keeper.new) (W.contents writer.old) (W.contents writer.new) }
+
+    // A book that is honest is sound after the call, or what was sent needed none. So over a book that had been shut before, a delivery
+    // gets 503, and a refusal is sent as ever. A report gets 503 too, or is of a state that was at hand.
+    ensures anyhow { B.is_honest keeper.new → B.is_sound keeper.new
+        ⊎ ((input : List ℕ) × IsInput (R.remaining reader.old) (R.remaining reader.new) input
+        × AnswersAnyhow (option_copied token.entry) result input (W.contents writer.old) (W.contents writer.new)) }
 {
     transcript.request.clear();
     transcript.response.clear();
@@ -358,6 +368,12 @@ pub fn serve_one<B: Book, R: Read, W: Write>(
     // Of a book that was sound and is honest, only `Memory` and `Store` may have shut it, and then the response is 503, or after `Write`
     // a part of it. After any other response it is still sound, so what is said above of that response holds, whatever comes later.
     ensures stays { B.is_sound keeper.old → B.is_honest keeper.new → StaysServing result (B.is_sound keeper.new) (W.contents writer.old) (W.contents writer.new) }
+
+    // A book that is honest is sound after the call, or what was sent needed none. So over a book that had been shut before, a delivery
+    // gets 503, and a refusal is sent as ever. A report gets 503 too, or is of a state that was at hand.
+    ensures anyhow { B.is_honest keeper.new → B.is_sound keeper.new
+        ⊎ ((input : List ℕ) × IsInput (R.remaining reader.old) (R.remaining reader.new) input
+        × AnswersAnyhow None result input (W.contents writer.old) (W.contents writer.new)) }
 {
     let mut transcript = Transcript::new(alloc);
     let served = serve_guarded(alloc, keeper, None, &mut transcript, reader, writer);

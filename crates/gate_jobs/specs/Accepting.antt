@@ -15,18 +15,18 @@ ComesFirst None after unread blank = ⊤
 ComesFirst (Some inputs) after unread blank =
     (input : List ℕ) × (others : List (List ℕ)) × (inputs ≡ input ∷ others) × (after ≡ Some others) × (unread ≡ Some input) × (blank ≡ Some [])
 
--- What was written on one more connection comes behind the others.
+-- One more text comes behind the others: what was written on a connection, or what it had still to give.
 abbrev pub AddsText : Option (List (List ℕ)) → Option (List (List ℕ)) → Option (List ℕ) → Type 0
-AddsText None after written = ⊤
-AddsText (Some texts) after written = (text : List ℕ) × (written ≡ Some text) × (after ≡ Some (texts ++ text ∷ []))
+AddsText None after known = ⊤
+AddsText (Some texts) after known = (text : List ℕ) × (known ≡ Some text) × (after ≡ Some (texts ++ text ∷ []))
 
--- These connections were accepted, and ended, in their order: first for what waits before and after them, then for what was written.
+-- These connections were accepted, and ended, in their order: first for what waits before and after them, then for a text of each.
 abbrev pub AreAcceptedInTurn : List Connection → Option (List (List ℕ)) → Option (List (List ℕ)) → Type 0
 AreAcceptedInTurn [] before after = after ≡ before
 AreAcceptedInTurn (connection ∷ connections) before after =
     (between : Option (List (List ℕ))) × ComesFirst before between connection.unread connection.blank × AreAcceptedInTurn connections between after
 
-abbrev pub AreEndedInTurn : List Connection → Option (List (List ℕ)) → Option (List (List ℕ)) → Type 0
-AreEndedInTurn [] before after = after ≡ before
-AreEndedInTurn (connection ∷ connections) before after =
-    (between : Option (List (List ℕ))) × AddsText before between connection.written × AreEndedInTurn connections between after
+abbrev pub AreEndedInTurn : (Connection → Option (List ℕ)) → List Connection → Option (List (List ℕ)) → Option (List (List ℕ)) → Type 0
+AreEndedInTurn text [] before after = after ≡ before
+AreEndedInTurn text (connection ∷ connections) before after =
+    (between : Option (List (List ℕ))) × AddsText before between (text connection) × AreEndedInTurn text connections between after

@@ -1,12 +1,14 @@
 -- CONNECTIONS: which token is needed on them, what is printed before the first, what is done with one and with many, and how much is read of one behind its
 -- response.
 use Rattle.std.specs.Prelude.{◌≡◌, ◌⊎◌, ◌<◌, ℕ, ◌+◌, List, [], ◌∷◌, ◌++◌, length, codes, decimal, Option, Some, Result, Ok, Err}
-use Rattle.std.specs.Io.KnownBytes.{Consumes, IsAtEnd, Keeps}
+use Rattle.std.specs.Io.KnownBytes.{Appends, Consumes, IsAtEnd, Keeps}
 use Rattle.gate_jobs.specs.Accepting.{Connection}
 use Rattle.gate_jobs.specs.declared.fault.JobFault.{JobFault}
 use Rattle.gate_jobs.specs.declared.fault.JobFault.TheVariants.{Hook, Token}
-use Rattle.gate_hook.specs.Receiving.{IsInput}
-use Rattle.gate_hook.specs.Served.{AnswersOne, StaysServing}
+use Rattle.gate_hook.specs.Receiving.{HasTaken, IsInput}
+use Rattle.gate_hook.specs.Sending.{IsCutOff}
+use Rattle.gate_hook.specs.Served.{AnswersAnyhow, AnswersOne}
+use Rattle.gate_http.specs.Responses.{fault_response, response_text}
 use Rattle.gate_http.specs.Tokens.{token_in}
 use Rattle.gate_hook.specs.declared.fault.HookFault.{HookFault}
 use Rattle.gate_hook.specs.declared.fault.HookFault.TheVariants.{Gate}
@@ -17,15 +19,11 @@ use Rattle.gate_store.specs.Run.{Records}
 abbrev pub greeting : ℕ → List ℕ
 greeting port = codes "listening on 127.0.0.1:" ++ (decimal port ++ 10 ∷ [])
 
--- One request is answered as `serve_guarded` does it. The last part holds of a book that was sound at
--- first and is honest still.
-abbrev pub IsServedOnce : Result Served HookFault → (sound stood : Type 0) → Option (List ℕ) → Records → Records → Option (List ℕ) → Option (List ℕ) → Option (List ℕ) → Option (List ℕ) → Type 0
-IsServedOnce served sound stood token old new unread left before after =
-    (input : List ℕ) × IsInput unread left input
-    × (sound → AnswersOne token served input old new before after)
-    × (stood → StaysServing served sound before after)
+-- Of a connection no more is taken than its answer needs, if this token is needed, or none.
+abbrev pub IsTakenAsNeeded : Option (List ℕ) → Connection → Type 0
+IsTakenAsNeeded token connection = HasTaken token connection.unread connection.left
 
--- One request is answered on a connection, as `serve_guarded` does it, if this token is needed, or none. What a connection of the network gives and takes isn't known, and
+-- One request is answered on a connection, as `serve_guarded` does it. What a connection of the network gives and takes isn't known, and
 -- then the input is some input, and of what is written nothing is said; but the records after it are what `serve_guarded` makes of that
 -- input.
 abbrev pub IsServed : Option (List ℕ) → Connection → Records → Records → Type 0
@@ -38,6 +36,33 @@ abbrev pub AreServedInTurn : Option (List ℕ) → List Connection → Records �
 AreServedInTurn token [] old new = new ≡ old
 AreServedInTurn token (connection ∷ connections) old new =
     (between : Records) × IsServed token connection old between × AreServedInTurn token connections between new
+
+-- OVER A BOOK THAT A FAULT MAY SHUT. One request is answered by what needs no book: by the response after faults, by its refusal, or by the
+-- report of a state that was at hand.
+abbrev pub IsServedAnyhow : Option (List ℕ) → Connection → Type 0
+IsServedAnyhow token connection =
+    (served : Result Served HookFault) × (input : List ℕ) × IsInput connection.unread connection.left input
+    × AnswersAnyhow token served input connection.blank connection.written
+
+-- A fault was met on a connection: the response after faults was written, or a part from its front.
+abbrev pub MeetsFault : Connection → Type 0
+MeetsFault connection =
+    Appends connection.blank connection.written (response_text fault_response)
+    ⊎ IsCutOff (response_text fault_response) connection.blank connection.written
+
+-- One connection, and the book before and after it. A sound book stays sound unless a fault was met. As long as it is sound, each request
+-- is answered as it is due. If it isn't, then never again, and each is answered by what needs no book.
+pub record IsServedOver {B : Type 0} (shows : B → Records) (is_sound : B → Type 0) (token : Option (List ℕ)) (connection : Connection) (old new : B) : Type 0 where
+  pub stays : is_sound old → is_sound new ⊎ MeetsFault connection
+  pub due : is_sound new → IsServed token connection (shows old) (shows new)
+  pub was : is_sound new → is_sound old
+  pub anyhow : is_sound new ⊎ IsServedAnyhow token connection
+
+-- Connections one after the other: each finds the book as the one before left it.
+abbrev pub AreServedOver : {B : Type 0} → (B → Records) → (B → Type 0) → Option (List ℕ) → List Connection → B → B → Type 0
+AreServedOver shows is_sound token [] old new = new ≡ old
+AreServedOver {B} shows is_sound token (connection ∷ connections) old new =
+    (between : B) × IsServedOver shows is_sound token connection old between × AreServedOver shows is_sound token connections between new
 
 -- so many connections were accepted, of those that were to be: all, or fewer if one can't be accepted
 abbrev pub AreAccepted : Result (Unit {0}) JobFault → ℕ → ℕ → Type 0

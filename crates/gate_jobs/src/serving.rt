@@ -1,10 +1,13 @@
-ghost use Rattle.std.specs.Prelude.{◌≡◌, ◌⊎◌, List, length, option_copied, IfErr, IfOk, OnErr, OnOk};
+ghost use Rattle.std.specs.Prelude.{◌≡◌, ◌⊎◌, ℕ, List, length, option_copied, IfErr, IfOk, OnErr, OnOk};
+ghost use Rattle.std.specs.List.{All};
 ghost use Rattle.std.specs.Io.KnownBytes.{Appends};
 ghost use Rattle.gate_jobs.specs.Accepting.{AddsText, AreAcceptedInTurn, AreEndedInTurn, ComesFirst, Connection};
-ghost use Rattle.gate_jobs.specs.Serving.{AreAccepted, AreServedInTurn, IsServed, IsServedOnce, IsTokenOf, greeting};
+ghost use Rattle.gate_jobs.specs.Serving.{AreAccepted, AreServedInTurn, AreServedOver, IsServed, IsServedOver, IsTakenAsNeeded, IsTokenOf, greeting};
 ghost use Rattle.std.specs.String.{string_bytes};
+ghost use Rattle.gate_hook.specs.Receiving.{HasTaken, IsInput};
 ghost use Rattle.gate_hook.specs.Responding.{IsTranscript};
 ghost use Rattle.gate_hook.specs.Sending.{IsCutOff};
+ghost use Rattle.gate_hook.specs.Served.{AnswersAnyhow, AnswersOne, StaysServing};
 
 use crate::accepting::Acceptor;
 use crate::fault::JobFault;
@@ -48,7 +51,11 @@ pub fn serve_request<B: Book, R: Read, W: Write>(
     reader: &mut R,
     writer: &mut W,
 ) -> Result<Served, HookFault>
-    ensures served { IsServedOnce result (B.is_sound keeper.new) (B.is_sound keeper.old × B.is_honest keeper.new) (option_copied token.entry) (B.shows keeper.old) (B.shows keeper.new) (R.remaining reader.old) (R.remaining reader.new) (W.contents writer.old) (W.contents writer.new) }
+    // As at `serve_guarded`: what is written and the records after it, and what is taken.
+    ensures served { (input : List ℕ) × IsInput (R.remaining reader.old) (R.remaining reader.new) input
+        × (B.is_sound keeper.new
+        → AnswersOne (option_copied token.entry) result input (B.shows keeper.old) (B.shows keeper.new) (W.contents writer.old) (W.contents writer.new)) }
+    ensures taken { HasTaken (option_copied token.entry) (R.remaining reader.old) (R.remaining reader.new) }
 
     // Whatever comes of it, the transcript has what was taken of the input, and the response, and nothing else.
     ensures transcript { IsTranscript result transcript.new.request.items (string_bytes transcript.new.response)
@@ -58,6 +65,12 @@ pub fn serve_request<B: Book, R: Read, W: Write>(
     ensures was { B.is_sound keeper.new → B.is_sound keeper.old }
     ensures honest { B.is_honest keeper.new → B.is_honest keeper.old }
     ensures shield { B.is_shielded keeper.old → B.is_shielded keeper.new }
+
+    // Of a book that a fault may have shut.
+    ensures stays { B.is_sound keeper.old → B.is_honest keeper.new → StaysServing result (B.is_sound keeper.new) (W.contents writer.old) (W.contents writer.new) }
+    ensures anyhow { B.is_honest keeper.new → B.is_sound keeper.new
+        ⊎ ((input : List ℕ) × IsInput (R.remaining reader.old) (R.remaining reader.new) input
+        × AnswersAnyhow (option_copied token.entry) result input (W.contents writer.old) (W.contents writer.new)) }
 {
     serve_guarded(alloc, keeper, token, transcript, reader, writer)
 }
@@ -72,8 +85,12 @@ fn serve_next<B: Book, R: Read, W: Write, A: Acceptor<R, W>, L: Log>(
 ) -> Result<(), JobFault>
     ensures served { IfOk result (λ _. (connection : Connection) × ComesFirst (A.waiting acceptor.old) (A.waiting acceptor.new) connection.unread connection.blank
         × AddsText (A.ended acceptor.old) (A.ended acceptor.new) connection.written
-        × (B.is_sound keeper.new → IsServed (option_copied token.entry) connection (B.shows keeper.old) (B.shows keeper.new))) }
-    ensures none { OnErr result ((keeper.new ≡ keeper.old) × (A.waiting acceptor.new ≡ A.waiting acceptor.old) × (A.ended acceptor.new ≡ A.ended acceptor.old)) }
+        × AddsText (A.unread acceptor.old) (A.unread acceptor.new) connection.left
+        × IsTakenAsNeeded (option_copied token.entry) connection
+        × (B.is_sound keeper.new → IsServed (option_copied token.entry) connection (B.shows keeper.old) (B.shows keeper.new))
+        × (B.is_honest keeper.new → IsServedOver B.shows B.is_sound (option_copied token.entry) connection keeper.old keeper.new)) }
+    ensures none { OnErr result ((keeper.new ≡ keeper.old) × (A.waiting acceptor.new ≡ A.waiting acceptor.old)
+        × (A.ended acceptor.new ≡ A.ended acceptor.old) × (A.unread acceptor.new ≡ A.unread acceptor.old)) }
     ensures cause { IfErr result (λ fault. fault ≡ JobFault.Accept) }
     ensures was { B.is_sound keeper.new → B.is_sound keeper.old }
     ensures honest { B.is_honest keeper.new → B.is_honest keeper.old }
@@ -110,12 +127,17 @@ pub fn serve<B: Book, R: Read, W: Write, A: Acceptor<R, W>, L: Log>(
     acceptor: &mut A,
     count: u32,
 ) -> Result<(), JobFault>
-    // `count` connections were accepted and ended, or fewer after `Accept`, in the order in which they came. What is left of the records
-    // is what their requests made of them, one after the other, and each was answered as `serve_guarded` says.
+    // `count` connections were accepted and ended, or fewer after `Accept`, in the order in which they came, and of each no more was taken
+    // than its answer needs. If the book is sound in the end, what is left of the records is what their requests made of them, one after
+    // the other, and each was answered as `serve_guarded` says. If it is honest in the end, each was answered so as long as the book was
+    // sound, and those after that by what needs no book.
     ensures served { (connections : List Connection) × AreAccepted result (length connections) count
         × AreAcceptedInTurn connections (A.waiting acceptor.old) (A.waiting acceptor.new)
-        × AreEndedInTurn connections (A.ended acceptor.old) (A.ended acceptor.new)
-        × (B.is_sound keeper.new → AreServedInTurn (option_copied token.entry) connections (B.shows keeper.old) (B.shows keeper.new)) }
+        × AreEndedInTurn (λ connection. connection.written) connections (A.ended acceptor.old) (A.ended acceptor.new)
+        × AreEndedInTurn (λ connection. connection.left) connections (A.unread acceptor.old) (A.unread acceptor.new)
+        × All (IsTakenAsNeeded (option_copied token.entry)) connections
+        × (B.is_sound keeper.new → AreServedInTurn (option_copied token.entry) connections (B.shows keeper.old) (B.shows keeper.new))
+        × (B.is_honest keeper.new → AreServedOver B.shows B.is_sound (option_copied token.entry) connections keeper.old keeper.new) }
     ensures cause { IfErr result (λ fault. fault ≡ JobFault.Accept) }
 
     // A book that is sound in the end was sound before, one that is honest was so, and one that was shielded still is.

@@ -1,7 +1,8 @@
-use Rattle.std.proofs.Common.{Err, Ok, codes, refl, sym}
+use Rattle.std.proofs.Common.{◌≡◌, Err, Ok, codes, inl, inr, refl, rules, sym}
 use Rattle.std.specs.Fmt.{digits}
 use Rattle.gate_http.specs.Responses.{response_text}
-use Rattle.gate_hook.proofs.Responding.{exact-one, fault-written-down, sends-fault, sends-response, stays-fault, stays-response, unchanged, written-down}
+use Rattle.gate_hook.proofs.Responding.{exact-one, fault-anyhow, fault-written-down, sends-anyhow, sends-fault, sends-response, stays-fault, stays-response, unchanged, unread-anyhow, written-down}
+use Rattle.gate_hook.specs.declared.fault.HookFault.TheVariants.{Read}
 use Rattle.gate_hook.proofs.requests.serve_guarded.Goals as goal
 
 pub returns-in-Ok-clause-served : goal.returns-in-Ok-clause-served
@@ -54,3 +55,25 @@ unfolding response_text digits
 returns-in-Err-Gate-clause-transcript g c =
     fault-written-down _ c.in-Err-Gate.fault _ _ (codes "HTTP/1.1 503 Service Unavailable\r\nContent-Length: 0\r\nConnection: close\r\n\r\n") _ _ _ _ refl
     c.in-Err-Gate.ensures.consumed c.clear-2.ensures.bytes c.send_as-in-Err-Gate.ensures
+
+pub returns-in-Ok-clause-anyhow : goal.returns-in-Ok-clause-anyhow
+returns-in-Ok-clause-anyhow g c honest = elim (c.in-Ok.ensures.anyhow honest) [
+  | inl sound ↦ inl sound
+  | inr made ↦ inr (made.0, made.1, sends-anyhow _ _ c.in-Ok.response _ _ _ made.2 (rw (sym c.as_str.ensures.value) c.send_as.ensures))
+]
+
+pub returns-in-Err-Gate-clause-anyhow : goal.returns-in-Err-Gate-clause-anyhow
+unfolding response_text digits
+returns-in-Err-Gate-clause-anyhow g c honest =
+    let answered = c.in-Err-Gate.ensures.answered in inr (
+      answered.0,
+      answered.1,
+      fault-anyhow _ _ c.in-Err-Gate.fault _ _ _ (codes "HTTP/1.1 503 Service Unavailable\r\nContent-Length: 0\r\nConnection: close\r\n\r\n") refl
+          c.send_as-in-Err-Gate.ensures,
+    )
+
+pub returns-in-Err-clause-anyhow : goal.returns-in-Err-clause-anyhow
+returns-in-Err-clause-anyhow g c honest =
+    let answered = c.in-Err.ensures.answered in
+    let read : c.in-Err.fault ≡ Read = search rules in
+    inr (answered.0, answered.1, unread-anyhow _ _ _ _ read)

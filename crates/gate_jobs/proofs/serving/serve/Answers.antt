@@ -1,7 +1,18 @@
-use Rattle.std.proofs.Common.{[], ◌∷◌, ◌++◌, arith}
+use Rattle.std.proofs.Common.{[], ◌∷◌, ◌++◌, arith, option_copied, refl}
 use Rattle.std.proofs.lemmas.List.{length-append}
-use Rattle.gate_jobs.proofs.Turns.{one_more_accepted, one_more_ended, one_more_served}
+use Rattle.std.proofs.lemmas.List.Elements.{All-nil, All-push}
+use Rattle.gate_jobs.proofs.Turns.{one_more_accepted, one_more_ended, one_more_over, one_more_served}
+use Rattle.gate_jobs.specs.Accepting.{Connection}
+use Rattle.gate_jobs.specs.Serving.{IsTakenAsNeeded}
 use Rattle.gate_jobs.proofs.serving.serve.Goals as goal
+
+pub loop-init : goal.loop-init
+loop-init g c = record {
+  was = λ sound. sound;
+  honest = λ honest. honest;
+  shield = λ shielded. shielded;
+  served = ([], refl, refl, refl, refl, All-nil (IsTakenAsNeeded (option_copied c.args.token)), λ sound. refl, λ honest. refl);
+}
 
 pub loop-preserved : goal.loop-preserved
 loop-preserved g c =
@@ -9,6 +20,7 @@ loop-preserved g c =
     let connections = before.served.0 in
     let next = c.in-Ok.ensures in
     let last = next.served.0 in
+    let token = option_copied c.args.token in
     record {
       was = λ sound. before.was (next.was sound);
       honest = λ honest. before.honest (next.honest honest);
@@ -17,7 +29,25 @@ loop-preserved g c =
         connections ++ last ∷ [],
         omega (arith, length-append connections (last ∷ []), before.served.1),
         one_more_accepted connections last _ _ _ before.served.2 next.served.1,
-        one_more_ended connections last _ _ _ before.served.3 next.served.2,
-        λ sound. one_more_served _ connections last _ _ _ (before.served.4 (next.was sound)) (next.served.3 sound),
+        one_more_ended (λ (connection : Connection). connection.written) connections last _ _ _ before.served.3 next.served.2,
+        one_more_ended (λ (connection : Connection). connection.left) connections last _ _ _ before.served.4 next.served.3,
+        All-push (IsTakenAsNeeded token) connections last before.served.5 next.served.4,
+        λ sound. one_more_served token connections last _ _ _ (before.served.6 (next.was sound)) (next.served.5 sound),
+        λ honest. one_more_over g.B.Book.shows g.B.Book.is_sound token connections last _ _ _ (before.served.7 (next.honest honest)) (next.served.6 honest),
       );
     }
+
+pub returns-in-Err-clause-served : goal.returns-in-Err-clause-served
+returns-in-Err-clause-served g c =
+    let same = c.in-Err.ensures.none in
+    let before = c.loop.invariant.served in
+    rw (same.0, same.1, same.2, same.3) (
+      before.0,
+      omega (arith, before.1),
+      before.2,
+      before.3,
+      before.4,
+      before.5,
+      before.6,
+      before.7,
+    )

@@ -1,14 +1,18 @@
 use Rattle.std.proofs.Common.{◌≡◌, List, length, option_copied}
+use Rattle.std.specs.List.{All}
 use Rattle.gate_jobs.specs.Accepting.{AreAcceptedInTurn, AreEndedInTurn, Connection}
-use Rattle.gate_jobs.specs.Serving.{AreServedInTurn}
+use Rattle.gate_jobs.specs.Serving.{AreServedInTurn, AreServedOver, IsTakenAsNeeded}
 use Rattle.gate_jobs.proofs.serving.serve.Given as goal
 
 abbrev pub invariant-loop : goal.invariant-loop
 invariant-loop g l = record {
   served : (connections : List Connection) × (length connections ≡ l.counter)
       × AreAcceptedInTurn connections (g.A.Acceptor.waiting l.fn.acceptor) (g.A.Acceptor.waiting l.acceptor)
-      × AreEndedInTurn connections (g.A.Acceptor.ended l.fn.acceptor) (g.A.Acceptor.ended l.acceptor)
-      × (g.B.Book.is_sound l.keeper → AreServedInTurn (option_copied l.fn.token) connections (g.B.Book.shows l.fn.keeper) (g.B.Book.shows l.keeper));
+      × AreEndedInTurn (λ (connection : Connection). connection.written) connections (g.A.Acceptor.ended l.fn.acceptor) (g.A.Acceptor.ended l.acceptor)
+      × AreEndedInTurn (λ (connection : Connection). connection.left) connections (g.A.Acceptor.unread l.fn.acceptor) (g.A.Acceptor.unread l.acceptor)
+      × All (IsTakenAsNeeded (option_copied l.fn.token)) connections
+      × (g.B.Book.is_sound l.keeper → AreServedInTurn (option_copied l.fn.token) connections (g.B.Book.shows l.fn.keeper) (g.B.Book.shows l.keeper))
+      × (g.B.Book.is_honest l.keeper → AreServedOver g.B.Book.shows g.B.Book.is_sound (option_copied l.fn.token) connections l.fn.keeper l.keeper);
   was : g.B.Book.is_sound l.keeper → g.B.Book.is_sound l.fn.keeper;
   honest : g.B.Book.is_honest l.keeper → g.B.Book.is_honest l.fn.keeper;
   shield : g.B.Book.is_shielded l.fn.keeper → g.B.Book.is_shielded l.keeper;

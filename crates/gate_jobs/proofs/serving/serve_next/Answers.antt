@@ -1,9 +1,11 @@
-use Rattle.std.proofs.Common.{rules}
+use Rattle.std.proofs.Common.{inl, inr, rules}
+use Rattle.gate_jobs.proofs.Turns.{sound_or_fault}
 use Rattle.gate_jobs.proofs.serving.serve_next.Goals as goal
 
 pub returns-in-Ok-clause-served : goal.returns-in-Ok-clause-served
 returns-in-Ok-clause-served g c =
-    let served = c.serve_request-served.ensures.served in (
+    let served = c.serve_request-served.ensures.served in
+    let result = c.serve_request-served.result in (
       record {
         unread = g.R.Read.remaining c.in-Ok.reader;
         blank = g.W.Write.contents c.in-Ok.writer;
@@ -12,5 +14,13 @@ returns-in-Ok-clause-served g c =
       },
       search rules,
       search rules,
-      λ sound. (c.serve_request-served.result, served.0, served.1, served.2 sound),
+      search rules,
+      c.serve_request-served.ensures.taken,
+      λ sound. (result, served.0, served.1, served.2 sound),
+      λ honest. record {
+        stays = λ sound. sound_or_fault result _ _ _ (c.serve_request-served.ensures.stays sound honest);
+        due = λ sound. (result, served.0, served.1, served.2 sound);
+        was = c.serve_request-served.ensures.was;
+        anyhow = elim (c.serve_request-served.ensures.anyhow honest) [ inl sound ↦ inl sound | inr anyhow ↦ inr (result, anyhow.0, anyhow.1, anyhow.2) ];
+      },
     )
