@@ -1,3 +1,4 @@
 mod Reports
+mod Tokens
 mod Turns
 mod Visible

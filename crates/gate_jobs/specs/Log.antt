@@ -3,6 +3,8 @@ use Rattle.std.specs.Prelude.{◌≡◌, ℕ, ◌/◌, ◌%◌, List, ◌++◌, 
 use Rattle.std.specs.Char.{is_ascii_graphic}
 use Rattle.std.specs.List.{list_all}
 use Rattle.std.specs.String.{string_bytes}
+use Rattle.std.specs.Time.{system_time_nanos}
+use Rattle.std.specs.declared.time.SystemTime.{SystemTime}
 use Rattle.gate_jobs.specs.Outcome.{word_of}
 use Rattle.gate_jobs.specs.declared.fault.JobFault.TheVariants.{Hook}
 use Rattle.gate_hook.specs.Denials.{IsDenialIn}
@@ -13,6 +15,11 @@ use Rattle.gate_http.specs.declared.head.RequestLine.{RequestLine}
 use Rattle.gate_hook.specs.declared.requests.Served.{Served}
 use Rattle.gate_hook.specs.declared.requests.Transcript.{Transcript}
 use Rattle.gate_queue.specs.declared.fault.Fault.{Fault}
+
+-- THE SECONDS since 1970 by a reading of the clock, or none if it can't be read
+abbrev pub seconds_of : {E : Type 0} → Result SystemTime E → ℕ
+seconds_of (Ok time) = system_time_nanos time / 1_000_000_000
+seconds_of (Err error) = 0
 
 -- THE TIME OF DAY in UTC, by the seconds since 1970: a number below 100 in two digits, and then what follows
 abbrev pub two_digits : ℕ → List ℕ → List ℕ

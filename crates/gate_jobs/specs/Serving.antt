@@ -1,6 +1,6 @@
 -- CONNECTIONS: which token is needed on them, what is printed before the first, what is done with one and with many, and how much is read of one behind its
 -- response.
-use Rattle.std.specs.Prelude.{◌≡◌, ◌⊎◌, ◌<◌, ℕ, ◌+◌, List, [], ◌∷◌, ◌++◌, length, codes, decimal, Option, Some, Result, Ok, Err}
+use Rattle.std.specs.Prelude.{◌≡◌, ◌⊎◌, ◌<◌, ℕ, ◌+◌, List, [], ◌∷◌, ◌++◌, length, codes, decimal, Option, Some, None, Result, Ok, Err}
 use Rattle.std.specs.Io.KnownBytes.{Appends, Consumes, IsAtEnd, Keeps}
 use Rattle.gate_jobs.specs.Accepting.{Connection}
 use Rattle.gate_jobs.specs.declared.fault.JobFault.{JobFault}
@@ -11,7 +11,7 @@ use Rattle.gate_hook.specs.Served.{AnswersAnyhow, AnswersOne}
 use Rattle.gate_http.specs.Responses.{fault_response, response_text}
 use Rattle.gate_http.specs.Tokens.{token_in}
 use Rattle.gate_hook.specs.declared.fault.HookFault.{HookFault}
-use Rattle.gate_hook.specs.declared.fault.HookFault.TheVariants.{Gate}
+use Rattle.gate_hook.specs.declared.fault.HookFault.TheVariants.{Gate, Read, Write, TooMuch}
 use Rattle.gate_hook.specs.declared.requests.Served.{Served}
 use Rattle.gate_queue.specs.declared.fault.Fault.TheVariants.{Memory}
 use Rattle.gate_store.specs.Run.{Records}
@@ -73,6 +73,15 @@ AreAccepted (Err fault) accepted count = accepted < count
 abbrev pub IsTokenOf : Result (List ℕ) JobFault → Option (List ℕ) → Option (List ℕ) → Type 0
 IsTokenOf (Ok token) before after = (input : List ℕ) × IsInput before after input × (token_in input ≡ Some token)
 IsTokenOf (Err fault) before after = (fault ≡ Token) ⊎ (fault ≡ Hook (Gate Memory))
+
+-- what reading a file for a token tells: its token, or why there is none
+abbrev pub token_told : Result (Option (List ℕ)) HookFault → Result (List ℕ) JobFault
+token_told (Ok (Some token)) = Ok token
+token_told (Ok None) = Err Token
+token_told (Err (Gate fault)) = Err (Hook (Gate fault))
+token_told (Err Read) = Err Token
+token_told (Err Write) = Err Token
+token_told (Err TooMuch) = Err Token
 
 -- Some bytes were dropped, and so many are left of those that may be; or reading failed, and none were.
 abbrev pub IsDropped : {E : Type 0} → Result ℕ E → ℕ → Option (List ℕ) → Option (List ℕ) → Type 0

@@ -11,7 +11,7 @@ use crate::fault::JobFault;
 use crate::outcome::{COMPLAINT, complaint};
 use gate_hook::{HookFault, Served, Transcript, denial_in, request_line, send};
 use std::alloc::{AllocError, Global};
-use std::io::Write;
+use std::io::{self, Write};
 use std::str;
 use std::time::{Clock, SystemTime, UNIX_EPOCH};
 
@@ -58,7 +58,7 @@ impl<'a, C: Clock, W: Write> LineLog<'a, C, W> {
 
 impl<C: Clock, W: Write> Log for LineLog<'_, C, W> {
     fn tell(&mut self, transcript: &Transcript, served: &Result<Served, HookFault>) {
-        let seconds = seconds_of(self.clock);
+        let seconds = seconds_of(SystemTime::now(self.clock));
         if let Ok(line) = log_line(self.alloc, seconds, transcript, served) {
             // If standard error fails, there is nothing left to tell it by.
             let _ = send(&mut self.writer, line.as_bytes());
@@ -66,9 +66,11 @@ impl<C: Clock, W: Write> Log for LineLog<'_, C, W> {
     }
 }
 
-// The seconds since 1970, or none if the clock fails.
-fn seconds_of(clock: &impl Clock) -> u64 {
-    match SystemTime::now(clock) {
+// The seconds since 1970 by a reading of the clock, or none if it can't be read.
+fn seconds_of(reading: io::Result<SystemTime>) -> u64
+    ensures { result ≡ log.seconds_of reading }
+{
+    match reading {
         Ok(now) => match now.duration_since(UNIX_EPOCH) {
             Ok(since) => since.as_secs(),
             Err(_) => 0,

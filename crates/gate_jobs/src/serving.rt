@@ -2,6 +2,7 @@ ghost use Rattle.std.specs.Prelude.{◌≡◌, ◌⊎◌, ℕ, List, length, opt
 ghost use Rattle.std.specs.List.{All};
 ghost use Rattle.std.specs.Io.KnownBytes.{Appends};
 ghost use Rattle.gate_jobs.specs.Accepting.{AddsText, AreAcceptedInTurn, AreEndedInTurn, ComesFirst, Connection};
+ghost use Rattle.gate_jobs.specs.Serving as serving;
 ghost use Rattle.gate_jobs.specs.Serving.{AreAccepted, AreServedInTurn, AreServedOver, IsServed, IsServedOver, IsTakenAsNeeded, IsTokenOf, greeting};
 ghost use Rattle.std.specs.String.{string_bytes};
 ghost use Rattle.gate_hook.specs.Receiving.{HasTaken, IsInput};
@@ -23,7 +24,14 @@ use std::io::{Read, Write};
 pub fn token_of<R: Read>(alloc: Global, file: &mut R) -> Result<Token, JobFault>
     ensures token { IsTokenOf result (R.remaining file.old) (R.remaining file.new) }
 {
-    match read_token(alloc, file) {
+    token_told(read_token(alloc, file))
+}
+
+// What reading a file for a token tells.
+fn token_told(read: Result<Option<Token>, HookFault>) -> Result<Token, JobFault>
+    ensures { result ≡ serving.token_told read }
+{
+    match read {
         Ok(Some(token)) => Ok(token),
         Err(HookFault::Gate(fault)) => Err(JobFault::from(fault)),
         Ok(None) | Err(_) => Err(JobFault::Token),
