@@ -129,6 +129,23 @@ fn a_read_of_a_request_that_fails(rt: HostRuntime) {
     }
 }
 
+// The input ends early: it is refused once its end is told, and nothing more is read.
+fn check_early_end(rt: &impl Abort, alloc: Global, size: usize) {
+    let run = Run {
+        step_in: 1,
+        reads: Some(size.saturating_add(1)),
+        ..request(first_bytes(REQUEST, size), BAD_REQUEST)
+    };
+    check_runs(rt, alloc, &[run]);
+}
+
+#[test]
+fn a_request_that_ends_early(rt: HostRuntime) {
+    for size in 0..REQUEST.len() {
+        check_early_end(&rt, rt.alloc(), size);
+    }
+}
+
 // Another delivery under the same identifier, which gets the body that is kept.
 const AGAIN: &str = concat!(
     "POST /deliveries HTTP/1.1\r\nHost: here\r\nContent-Length: 39\r\n\r\n",
