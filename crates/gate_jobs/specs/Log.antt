@@ -1,6 +1,7 @@
 -- THE LOG: a line for each request that was served.
-use Rattle.std.specs.Prelude.{◌≡◌, ℕ, ◌/◌, ◌%◌, List, ◌++◌, take, Option, Some, None, Result, Ok, Err, codes, decimal, if◌then◌else◌}
+use Rattle.std.specs.Prelude.{◌≡◌, ◌⊎◌, ℕ, ◌/◌, ◌%◌, List, ◌++◌, take, Option, Some, None, Result, Ok, Err, codes, decimal, if◌then◌else◌}
 use Rattle.std.specs.Char.{is_ascii_graphic}
+use Rattle.std.specs.Io.KnownBytes.{Appends}
 use Rattle.std.specs.List.{list_all}
 use Rattle.std.specs.String.{string_bytes}
 use Rattle.std.specs.Time.{system_time_nanos}
@@ -8,6 +9,7 @@ use Rattle.std.specs.declared.time.SystemTime.{SystemTime}
 use Rattle.gate_jobs.specs.Outcome.{word_of}
 use Rattle.gate_jobs.specs.declared.fault.JobFault.TheVariants.{Hook}
 use Rattle.gate_hook.specs.Denials.{IsDenialIn}
+use Rattle.gate_hook.specs.Sending.{IsCutOff}
 use Rattle.gate_http.specs.Heads.{IsLineOf}
 use Rattle.gate_hook.specs.declared.fault.HookFault.{HookFault}
 use Rattle.gate_hook.specs.declared.fault.HookFault.TheVariants.{Gate}
@@ -66,3 +68,9 @@ abbrev pub IsLogLine : ℕ → Transcript → Result Served HookFault → List �
 IsLogLine seconds transcript served line =
     (method : List ℕ) × (path : List ℕ) × (denial : Option (List ℕ)) × IsShownOf transcript.request.items method path
     × IsDenialIn (string_bytes transcript.response) denial × (line ≡ line_text (time_of seconds) method path (how_it_ended served denial))
+
+-- WHAT IS WRITTEN: such a line, at some second, or a part from its front. Or nothing, if there is no memory for the line.
+abbrev pub IsLogged : Transcript → Result Served HookFault → Option (List ℕ) → Option (List ℕ) → Type 0
+IsLogged transcript served before after =
+    ((seconds : ℕ) × (line : List ℕ) × IsLogLine seconds transcript served line × (Appends before after line ⊎ IsCutOff line before after))
+    ⊎ (after ≡ before)

@@ -1,3 +1,6 @@
+ghost use Rattle.std.specs.Prelude.{◌≡◌, ◌<◌, ◌≤◌, ◌+◌, ◌-◌, ◌*◌, ◌++◌, ◌↔◌, ℕ, List, [], IfOk, IfSome, IsNone, IsTrue, drop, length, min, take};
+ghost use Rattle.std.specs.Duration.{as_nanos};
+
 use crate::accepting::Acceptor;
 use crate::closing::drop_part;
 use gate_hook::{Token, is_enough};
@@ -38,18 +41,18 @@ struct Limits {
 }
 
 impl Limits {
-    fn from_now(clock: &impl Clock, patience: u32) -> io::Result<Limits> {
+    fn from_now(clock: &impl Clock, patience: u32) -> io::Result<Limits>
+        ensures { IfOk result (λ limits. limits.patience ≡ patience) }
+    {
         let start = Instant::now(clock)?;
         Ok(Limits { start, patience })
     }
 
     // How long the next read or write may wait. `TimedOut` if there is no time left.
     fn next(&self, clock: &impl Clock) -> io::Result<Duration> {
-        let patience = Duration::from_secs(u64::from(self.patience));
-        let whole = Duration::from_secs(WAITS * u64::from(self.patience));
-        match whole.checked_sub(self.start.elapsed(clock)?) {
-            Some(left) if !left.is_zero() => Ok(left.min(patience)),
-            _ => Err(Error::from(ErrorKind::TimedOut)),
+        match next_wait(self.patience, self.start.elapsed(clock)?) {
+            Some(wait) => Ok(wait),
+            None => Err(Error::from(ErrorKind::TimedOut)),
         }
     }
 
@@ -57,6 +60,18 @@ impl Limits {
     fn are_over(&self, clock: &impl Clock, since: Instant) -> io::Result<bool> {
         let silence = since.elapsed(clock)?;
         Ok(self.next(clock).is_err() || silence.as_secs() >= u64::from(self.patience))
+    }
+}
+
+// How long a connection may be waited for next, if that is waited for so long already: its patience, or what is left of ten times that.
+fn next_wait(patience: u32, waited: Duration) -> Option<Duration>
+    ensures none { IsNone result ↔ (patience * 10_000_000_000 ≤ as_nanos waited) }
+    ensures some { IfSome result (λ wait. as_nanos wait ≡ min (patience * 10_000_000_000 - as_nanos waited) (patience * 1_000_000_000)) }
+{
+    let patience = u64::from(patience);
+    match Duration::from_secs(WAITS * patience).checked_sub(waited) {
+        Some(left) if !left.is_zero() => Some(left.min(Duration::from_secs(patience))),
+        _ => None,
     }
 }
 
@@ -93,12 +108,11 @@ struct Guest {
 }
 
 impl Guest {
-    fn new(
-        alloc: Global,
-        clock: &impl Clock,
-        stream: TcpStream,
-        patience: u32,
-    ) -> io::Result<Guest> {
+    fn new(alloc: Global, clock: &impl Clock, stream: TcpStream, patience: u32) -> io::Result<Guest>
+        ensures patience { IfOk result (λ guest. guest.limits.patience ≡ patience) }
+        ensures bytes { IfOk result (λ guest. guest.bytes.items ≡ []) }
+        ensures rest { IfOk result (λ guest. guest.rest ≡ Rest.Open) }
+    {
         stream.set_nonblocking(true)?;
         let limits = Limits::from_now(clock, patience)?;
         Ok(Guest {
@@ -111,7 +125,10 @@ impl Guest {
     }
 
     // Takes some bytes that have come, and tells whether there were any, and there is room for more.
-    fn hear(&mut self) -> bool {
+    fn hear(&mut self) -> bool
+        ensures bytes { (more : List ℕ) × (self.new.bytes.items ≡ self.old.bytes.items ++ more) × (IsTrue result → 0 < length more) }
+        ensures limits { self.new.limits ≡ self.old.limits }
+    {
         let mut piece = [0; PIECE];
         if self.bytes.reserve(PIECE).is_err() {
             return false;
@@ -126,12 +143,10 @@ impl Guest {
     }
 
     // Takes all that has come.
-    fn turn(
-        &mut self,
-        alloc: Global,
-        clock: &impl Clock,
-        token: Option<&Token>,
-    ) -> io::Result<Turn> {
+    fn turn(&mut self, alloc: Global, clock: &impl Clock, token: Option<&Token>) -> io::Result<Turn>
+        ensures bytes { (more : List ℕ) × (self.new.bytes.items ≡ self.old.bytes.items ++ more) }
+        ensures limits { self.new.limits ≡ self.old.limits }
+    {
         for _ in 0..u64::MAX {
             if !self.hear() {
                 break;
@@ -161,7 +176,10 @@ struct Leaver {
 }
 
 impl Leaver {
-    fn new(clock: &impl Clock, stream: TcpStream) -> io::Result<Leaver> {
+    fn new(clock: &impl Clock, stream: TcpStream) -> io::Result<Leaver>
+        ensures patience { IfOk result (λ leaver. leaver.limits.patience ≡ SILENCE) }
+        ensures left { IfOk result (λ leaver. leaver.left ≡ MAX_LEFT) }
+    {
         stream.shutdown(Shutdown::Write)?;
         stream.set_nonblocking(true)?;
         let limits = Limits::from_now(clock, SILENCE)?;
@@ -174,7 +192,10 @@ impl Leaver {
     }
 
     // Drops what has come, and tells whether there may be more.
-    fn is_there(&mut self, clock: &impl Clock) -> io::Result<bool> {
+    fn is_there(&mut self, clock: &impl Clock) -> io::Result<bool>
+        ensures left { self.new.left ≤ self.old.left }
+        ensures limits { self.new.limits ≡ self.old.limits }
+    {
         match drop_part(&mut self.stream, self.left) {
             Ok(left) if 0 < left && left < self.left => {
                 self.left = left;
@@ -216,7 +237,10 @@ impl<'a, C: Clock> Connections<'a, C> {
         listener: &'a TcpListener,
         token: Option<&'a Token>,
         patience: u32,
-    ) -> Result<Connections<'a, C>, AllocError> {
+    ) -> Result<Connections<'a, C>, AllocError>
+        ensures patience { IfOk result (λ connections. connections.patience ≡ patience) }
+        ensures token { IfOk result (λ connections. connections.token ≡ token.entry) }
+    {
         Ok(Connections {
             listener,
             clock,
@@ -306,6 +330,24 @@ impl<'a, C: Clock> Connections<'a, C> {
     }
 }
 
+// Hands over bytes from a place on, as many as there is room for, and moves the place behind them. It tells how many.
+fn hand_over(bytes: &[u8], at: &mut usize, buf: &mut [u8]) -> usize
+    ensures count { result ≡ min (length bytes.now - at.old) (length buf.old) }
+    ensures bytes { take result buf.new ≡ take result (drop at.old bytes.now) }
+    ensures place { at.new ≡ at.old + result }
+{
+    let from = *at;
+    match bytes.get(from..) {
+        Some(rest) => {
+            let n = rest.len().min(buf.len());
+            buf[..n].copy_from_slice(&rest[..n]);
+            *at = from + n;
+            n
+        }
+        None => 0,
+    }
+}
+
 /// Reads a connection with patience: first the bytes that had come before, then what comes.
 #[derive(Drop)]
 pub struct PatientReader<'a, C: Clock> {
@@ -319,13 +361,9 @@ pub struct PatientReader<'a, C: Clock> {
 
 impl<C: Clock> Read for PatientReader<'_, C> {
     fn read(&mut self, buf: &mut [u8]) -> io::Result<usize> {
-        if let Some(rest) = self.bytes.get(self.at..) {
-            let n = rest.len().min(buf.len());
-            if n > 0 {
-                buf[..n].copy_from_slice(&rest[..n]);
-                self.at = self.at.saturating_add(n);
-                return Ok(n);
-            }
+        let n = hand_over(&self.bytes, &mut self.at, buf);
+        if n > 0 {
+            return Ok(n);
         }
         match self.rest {
             Rest::Open => {}

@@ -3,7 +3,7 @@ ghost use Rattle.std.specs.Char.{is_ascii_graphic};
 ghost use Rattle.std.specs.List.{list_all};
 ghost use Rattle.std.specs.String.{string_bytes};
 ghost use Rattle.gate_jobs.specs.Log as log;
-ghost use Rattle.gate_jobs.specs.Log.{IsLogLine, IsShownOf, how_it_ended, shown, time_of};
+ghost use Rattle.gate_jobs.specs.Log.{IsLogLine, IsLogged, IsShownOf, how_it_ended, shown, time_of};
 ghost use Rattle.gate_jobs.specs.Outcome.{word_of};
 ghost use Rattle.gate_jobs.specs.declared.fault.JobFault.TheVariants.{Hook};
 
@@ -47,7 +47,9 @@ pub struct LineLog<'a, C: Clock, W: Write> {
 
 impl<'a, C: Clock, W: Write> LineLog<'a, C, W> {
     /// One that has the time of day from this clock, and writes on this writer.
-    pub fn new(alloc: Global, clock: &'a C, writer: W) -> LineLog<'a, C, W> {
+    pub fn new(alloc: Global, clock: &'a C, writer: W) -> LineLog<'a, C, W>
+        ensures writer { result.writer ≡ writer }
+    {
         LineLog {
             alloc,
             clock,
@@ -57,7 +59,9 @@ impl<'a, C: Clock, W: Write> LineLog<'a, C, W> {
 }
 
 impl<C: Clock, W: Write> Log for LineLog<'_, C, W> {
-    fn tell(&mut self, transcript: &Transcript, served: &Result<Served, HookFault>) {
+    fn tell(&mut self, transcript: &Transcript, served: &Result<Served, HookFault>)
+        ensures logged { IsLogged transcript.now served.now (W.contents self.old.writer) (W.contents self.new.writer) }
+    {
         let seconds = seconds_of(SystemTime::now(self.clock));
         if let Ok(line) = log_line(self.alloc, seconds, transcript, served) {
             // If standard error fails, there is nothing left to tell it by.
