@@ -1,5 +1,5 @@
 -- THE ROWS OF VERSION 1 of the schema. There the lists of the settings stand among the marks, of no change.
-use Rattle.std.specs.Prelude.{◌≡◌, ℤ, pos, [], ◌++◌, map, if◌then◌else◌}
+use Rattle.std.specs.Prelude.{◌≡◌, ◌⊎◌, ℤ, pos, [], ◌++◌, map, if◌then◌else◌}
 use Rattle.std.specs.Ordering.{int_eq}
 use Rattle.gate_state.specs.State.{IsState}
 use Rattle.gate_state.specs.declared.state.State.{State}
@@ -15,6 +15,9 @@ use Rattle.gate_rows.specs.Standing.{KeepsLimits}
 -- required statuses, blocking labels, statuses of the head
 abbrev pub first_kind : ℤ → ℤ
 first_kind kind = if int_eq kind (pos 1) then pos 6 else (if int_eq kind (pos 2) then pos 7 else pos 9)
+
+abbrev pub IsListKind : ℤ → Type 0
+IsListKind kind = (kind ≡ pos 1) ⊎ ((kind ≡ pos 2) ⊎ (kind ≡ pos 3))
 
 abbrev pub as_mark : WantedRow → MarkRow
 as_mark row = record { change_no = pos 0; kind = first_kind row.kind; word = row.word; place = row.place }

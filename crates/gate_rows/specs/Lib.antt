@@ -5,11 +5,14 @@
 --     Changed     the rows that differ between two states, as row changes
 --     Parts       the same between a state and one of which parts were noted before
 --     FirstRows   the rows of schema version 1
--- For the code: Same, that `==` of rows is equality.
+-- For the code: Same, that `==` of rows is equality; InOrder, in which order rows are read; Words, how the
+-- numbers in them are.
 pub mod Changed
 pub mod Decoding
 pub mod Encoding
 pub mod FirstRows
+pub mod InOrder
 pub mod Parts
 pub mod Same
 pub mod Standing
+pub mod Words

@@ -1,4 +1,6 @@
 ghost use Rattle.std.specs.Prelude.{◌≡◌, IsTrue, IsPermutation};
+ghost use Rattle.std.specs.List.Sorted.{IsSortedByKeyClosure};
+ghost use Rattle.gate_rows.specs.InOrder.{AreInOrder};
 ghost use Rattle.gate_tables.specs.Contents.{AreSame};
 
 use gate_tables::{
@@ -89,7 +91,8 @@ fn have_same<R: Same>(ones: List<R>, others: List<R>) -> bool
 /// The same rows, and those of which a list is read in the order of the list: marks, members and the lists of the settings
 /// by their place, batches in order of service.
 pub(crate) fn in_order(rows: Rows) -> Rows
-    ensures { AreSame rows result }
+    ensures same { AreSame rows result }
+    ensures sorted { AreInOrder result }
 {
     let Rows {
         desk,
@@ -118,7 +121,8 @@ pub(crate) fn in_order(rows: Rows) -> Rows
 
 fn sorted<R: Drop, K: Ord + Drop, F: FnMut(&R) -> K>(rows: List<R>, key: F) -> List<R>
     requires { F.IsAlwaysCallable key }
-    ensures { IsPermutation rows result }
+    ensures same { IsPermutation rows result }
+    ensures sorted { IsSortedByKeyClosure F.FnMut K.cmp key result }
 {
     let mut rows = rows.into_vec();
     rows.sort_unstable_by_key(key);

@@ -1,5 +1,5 @@
-ghost use Rattle.std.specs.Prelude.{◌≡◌, ◌∷◌, ◌++◌, [], map, pos, IfOk, IfSome, OnOk, IsPermutation};
-ghost use Rattle.gate_rows.specs.FirstRows.{as_mark, first_kind, in_first, with_version};
+ghost use Rattle.std.specs.Prelude.{◌≡◌, ◌≢◌, ◌∷◌, ◌++◌, [], ℤ, None, map, pos, IfOk, IfSome, OnOk, IsPermutation};
+ghost use Rattle.gate_rows.specs.FirstRows.{IsListKind, as_mark, first_kind, in_first, with_version};
 ghost use Rattle.gate_tables.specs.Contents.{AreSame};
 
 use crate::rows::one;
@@ -96,7 +96,8 @@ fn push_mark(
 
 // Which list of the settings a mark of version 1 is in, if it is in one.
 fn wanted_kind(row: &MarkRow) -> Option<i64>
-    ensures { IfSome result (λ kind. (row.now.change_no ≡ pos 0) × (row.now.kind ≡ first_kind kind)) }
+    ensures some { IfSome result (λ kind. IsListKind kind × (row.now.change_no ≡ pos 0) × (row.now.kind ≡ first_kind kind)) }
+    ensures none { result ≡ None → row.now.change_no ≡ pos 0 → (kind : ℤ) → IsListKind kind → row.now.kind ≢ first_kind kind }
 {
     match (row.change_no, row.kind) {
         (0, 6) => Some(1),

@@ -1,3 +1,6 @@
+ghost use Rattle.gate_rows.specs.Encoding as encoding;
+ghost use Rattle.gate_rows.specs.Words.{IsReadBy};
+
 use crate::reading::words::{change_no, commit, context, natural, priority};
 use gate_rules::Desk;
 use gate_state::{Batch, Branch, Changes, Lane, Queue, Report, Reports, Stage};
@@ -99,7 +102,9 @@ fn add_report(
     Ok(())
 }
 
-fn report_in(number: i64) -> Result<Report, TablesFault> {
+fn report_in(number: i64) -> Result<Report, TablesFault>
+    ensures { IsReadBy encoding.report_number number result }
+{
     match number {
         1 => Ok(Report::Success),
         2 => Ok(Report::Pending),
@@ -118,7 +123,9 @@ fn batch_in(row: &BatchRow, changes: Changes, reports: Reports) -> Result<Batch,
     })
 }
 
-fn branch_in(number: i64) -> Result<Branch, TablesFault> {
+fn branch_in(number: i64) -> Result<Branch, TablesFault>
+    ensures { IsReadBy encoding.branch_number number result }
+{
     match number {
         1 => Ok(Branch::Staging),
         2 => Ok(Branch::Trying),

@@ -1,4 +1,8 @@
-ghost use Rattle.std.specs.Prelude.{◌≡◌};
+ghost use Rattle.std.specs.Prelude.{◌≡◌, [], None, Some, pos, if◌then◌else◌};
+ghost use Rattle.std.specs.Ordering.{int_eq};
+ghost use Rattle.gate_rows.specs.Decoding.{last_in};
+ghost use Rattle.gate_rows.specs.Encoding as encoding;
+ghost use Rattle.gate_rows.specs.Words.{IsReadBy};
 
 use crate::reading::words::{change_no, commit, context, label, name, priority};
 use gate_rules::{Change, Desk, Phase, Repeat};
@@ -35,7 +39,9 @@ fn change_in(alloc: Global, row: &ChangeRow) -> Result<Change, TablesFault> {
     })
 }
 
-fn phase_in(number: i64) -> Result<Phase, TablesFault> {
+fn phase_in(number: i64) -> Result<Phase, TablesFault>
+    ensures { IsReadBy encoding.phase_number number result }
+{
     match number {
         1 => Ok(Phase::Opened),
         2 => Ok(Phase::Closed),
@@ -45,7 +51,9 @@ fn phase_in(number: i64) -> Result<Phase, TablesFault> {
 }
 
 // The approvers of a change that is approved. Their names are marks.
-fn approvers_in(alloc: Global, approved: i64) -> Option<Names> {
+fn approvers_in(alloc: Global, approved: i64) -> Option<Names>
+    ensures { result ≡ (if int_eq approved (pos 0) then None else Some []) }
+{
     if approved == 0 {
         return None;
     }
@@ -53,7 +61,9 @@ fn approvers_in(alloc: Global, approved: i64) -> Option<Names> {
 }
 
 // The last command. The names of an `r=` are marks.
-fn last_in(alloc: Global, number: i64) -> Option<Repeat> {
+fn last_in(alloc: Global, number: i64) -> Option<Repeat>
+    ensures { result ≡ last_in number [] }
+{
     match number {
         1 => Some(Repeat::Approve),
         2 => Some(Repeat::ApproveFor(Names::from(Vec::new(alloc)))),

@@ -1,3 +1,7 @@
+ghost use Rattle.std.specs.Prelude.{◌≡◌, ◌≢◌, IfErr, IfOk};
+ghost use Rattle.gate_rows.specs.Encoding.{role_number};
+ghost use Rattle.gate_rules.specs.declared.role.Role.{Role as RoleOf};
+
 use crate::reading::changes::put_changes;
 use crate::reading::words::{commit, context, label, name, natural, small_natural};
 use gate_rules::{Desk, Role};
@@ -86,7 +90,10 @@ fn put_people(alloc: Global, desk: &mut Desk, rows: &[PersonRow]) -> Result<(), 
     Ok(())
 }
 
-fn role_in(number: i64) -> Result<Role, TablesFault> {
+fn role_in(number: i64) -> Result<Role, TablesFault>
+    ensures some { IfOk result (λ role. (role ≢ Role.Nobody) × (number ≡ role_number role)) }
+    ensures none { IfErr result (λ fault. (fault ≡ TablesFault.Store) × ((role : RoleOf) → role ≢ Role.Nobody → number ≢ role_number role)) }
+{
     match number {
         1 => Ok(Role::Member),
         2 => Ok(Role::Reviewer),

@@ -1,3 +1,7 @@
+ghost use Rattle.std.specs.Prelude.{◌≡◌, ◌≢◌, ◌<◌, ◌^◌, ℕ, pos, FitsSigned, IfErr, IfOk};
+ghost use Rattle.std.specs.Int.{w32};
+ghost use Rattle.gate_rows.specs.Words.{IsReadBy};
+
 use gate_tables::TablesFault;
 use gate_text::{ChangeNo, Commit, Context, Label, Name, Text, TextFault, unless_bad};
 use std::alloc::Global;
@@ -23,15 +27,23 @@ pub(crate) fn commit(text: &Text) -> Result<Commit, TablesFault> {
     small(Commit::read(text.as_str()))
 }
 
-pub(crate) fn natural(number: i64) -> Result<u64, TablesFault> {
+pub(crate) fn natural(number: i64) -> Result<u64, TablesFault>
+    ensures { IsReadBy pos number result }
+{
     u64::try_from(number).map_err(|_| TablesFault::Store)
 }
 
-pub(crate) fn small_natural(number: i64) -> Result<u32, TablesFault> {
+pub(crate) fn small_natural(number: i64) -> Result<u32, TablesFault>
+    ensures some { IfOk result (λ natural. number ≡ pos natural) }
+    ensures none { IfErr result (λ fault. (fault ≡ TablesFault.Store) × ((natural : ℕ) → natural < 2 ^ 32 → number ≢ pos natural)) }
+{
     u32::try_from(number).map_err(|_| TablesFault::Store)
 }
 
-pub(crate) fn priority(number: i64) -> Result<i32, TablesFault> {
+pub(crate) fn priority(number: i64) -> Result<i32, TablesFault>
+    ensures some { IfOk result (λ priority. priority ≡ number) }
+    ensures none { IfErr result (λ fault. (fault ≡ TablesFault.Store) × ¬ FitsSigned w32 number) }
+{
     i32::try_from(number).map_err(|_| TablesFault::Store)
 }
 

@@ -13,7 +13,7 @@ returns-in_ok-push-in-Some c =
     let kind : SFits w64 c.in-Some.kind = search rules in
     let place : SFits w64 row.place = search rules in
     let own : WantedRow = record { kind = c.in-Some.kind; place = row.place; word = row.word } in
-    let is : as_mark own ≡ row = λ i. record { change_no = sym c.in-Some.ensures.0 i; kind = sym c.in-Some.ensures.1 i; word = row.word; place = row.place } in
+    let is : as_mark own ≡ row = λ i. record { change_no = sym c.in-Some.ensures.some.1 i; kind = sym c.in-Some.ensures.some.2 i; word = row.word; place = row.place } in
     let items = rw (to_z-of_z kind, to_z-of_z place) at c.in_ok-push-in-Some.ensures.items in
     subst₂ (λ (r : MarkRow) (rows : List WantedRow). IsPermutation (r ∷ first_marks kept wanted) (first_marks kept rows)) is (sym items) (one_wanted kept wanted own)
 
