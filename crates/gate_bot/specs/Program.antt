@@ -4,18 +4,13 @@ use Rattle.std.specs.FinMap.{empty}
 use Rattle.gate_hook.specs.declared.fault.HookFault.{HookFault}
 use Rattle.gate_hook.specs.declared.fault.HookFault.TheVariants.{Gate}
 use Rattle.gate_jobs.specs.declared.fault.JobFault.{JobFault}
-use Rattle.gate_jobs.specs.declared.fault.JobFault.TheVariants.{Hook, File}
+use Rattle.gate_jobs.specs.declared.fault.JobFault.TheVariants.{Hook, File, Token}
 use Rattle.gate_queue.specs.Machine.{empty_state}
 use Rattle.gate_queue.specs.declared.fault.Fault.TheVariants.{Memory, Store, Foreign}
-use Rattle.gate_sql.specs.Versions.{OpensAs}
 use Rattle.gate_store.specs.Run.{Records}
-use Rattle.sqlite.specs.Effect.{Database, IsDatabase}
-use Rattle.sqlite.specs.Files.{AreFoundIn, HoldsDatabase}
 use Rattle.sqlite.specs.declared.error.Error.{Error}
 use Rattle.sqlite.specs.declared.error.Error.TheVariants.{SqliteFailure}
 use Rattle.sqlite.specs.declared.error.ErrorCode.TheVariants.{OutOfMemory}
-use Rattle.sqlite.specs.Tree.{Trees}
-use Rattle.sqlite.specs.Recovery.{Image}
 
 abbrev pub no_records : Records
 no_records = record { state = empty_state 1; kept = empty }
@@ -24,19 +19,23 @@ no_records = record { state = empty_state 1; kept = empty }
 abbrev pub HasNotBegun : Result ℕ HookFault → Option (List ℕ) → Option (List ℕ) → Option (List ℕ) → Option (List ℕ) → Type 0
 HasNotBegun result unread left before after = ((result ≡ Err (Gate Memory)) ⊎ (result ≡ Err (Gate Store))) × (left ≡ unread) × (after ≡ before)
 
--- A file and its log hold this database, or none yet, and then it is an empty one; and it is opened as these records.
-pub record StandIn (files : Image) (records : Records) : Type 0 where
-  pub found : Database
-  pub holds : (trees : Trees) → HoldsDatabase files trees → found.trees ≡ trees
-  pub reads : AreFoundIn files found.trees
-  pub sound : IsDatabase found
-  pub opens : OpensAs found records
-
 -- what is told of a file that can't be opened
 abbrev pub fault_of : Error → JobFault
 fault_of (SqliteFailure OutOfMemory) = Hook (Gate Memory)
 fault_of _ = File
 
+abbrev pub IsUnopened : JobFault → Type 0
+IsUnopened fault = (fault ≡ File) ⊎ (fault ≡ Hook (Gate Memory))
+
+-- and of a database that was opened, which may have the tables of a version
+abbrev pub IsOfRecords : (has_tables : Type 0) → JobFault → Type 0
+IsOfRecords has_tables fault =
+    (fault ≡ Hook (Gate Memory)) ⊎ ((fault ≡ Hook (Gate Store)) ⊎ ((fault ≡ Hook (Gate Foreign)) × has_tables))
+
 abbrev pub IsOfFiles : JobFault → Type 0
 IsOfFiles fault =
     (fault ≡ File) ⊎ ((fault ≡ Hook (Gate Memory)) ⊎ ((fault ≡ Hook (Gate Store)) ⊎ (fault ≡ Hook (Gate Foreign))))
+
+-- the file of a token can't be read or holds none, or there is no memory for it
+abbrev pub IsOfTokens : JobFault → Type 0
+IsOfTokens fault = (fault ≡ Token) ⊎ (fault ≡ Hook (Gate Memory))

@@ -1,20 +1,25 @@
 ghost use Rattle.std.specs.Prelude.{◌≡◌, IfErr, IfOk, false};
-ghost use Rattle.gate_bot.specs.Program.{IsOfFiles, StandIn, fault_of, no_records};
+ghost use Rattle.gate_bot.specs.Program.{IsOfFiles, IsOfRecords, IsUnopened, fault_of, no_records};
+ghost use Rattle.gate_sql.specs.Files.{StandIn};
 ghost use Rattle.gate_sql.specs.Shown.{shown};
 ghost use Rattle.gate_sql.specs.Versions.{OpensAs};
 ghost use Rattle.gate_store.specs.Run.{IsOfBooks};
 ghost use Rattle.gate_tables.specs.Tables.{is_honest, is_shielded, is_sound};
-ghost use Rattle.sqlite.specs.Files.{IsOpened, file_state, over_files};
+ghost use Rattle.gate_tables.specs.Schemas.{HasTables};
+ghost use Rattle.sqlite.specs.Closing.{IsCopied};
+ghost use Rattle.sqlite.specs.Files.{IsClosed, IsOpened, file_state, over_files};
 ghost use Rattle.sqlite.specs.Held.{state};
 ghost use Rattle.sqlite.specs.Start.{FindsIn};
 ghost use Rattle.sqlite.specs.State.{HasCleanDisk};
 ghost use Rattle.sqlite.specs.Steps.{over_memory};
 ghost use Rattle.sqlite.specs.WalFiles.{image_at};
+ghost use Rattle.sqlite.specs.WalReads.{AreClean};
 
 use gate_jobs::JobFault;
 use gate_queue::Fault;
 use gate_sql::SqlBook;
-use sqlite::{Alter, Connection, Error, ErrorCode, FileFrom, FileStore, MemStore, Start};
+use sqlite::{Alter, Connection, Error, ErrorCode, FileFrom, FileStore, Files, MemStore, Start};
+use sqlite_disk::Disk;
 use std::alloc::Global;
 
 /// A book in a database in memory, which keeps the records until the program ends.
@@ -70,7 +75,7 @@ fn connected<S: Start>(
     ensures opened { IfOk result (λ connection. HasCleanDisk (file_state connection) → IsOpened connection) }
     ensures guarded { IfOk result (λ connection. HasCleanDisk (file_state connection) → (file_state connection).IsShielded) }
     ensures mode { IfOk result (λ connection. connection.in_transaction ≡ false) }
-    ensures fault { IfErr result IsOfFiles }
+    ensures fault { IfErr result IsUnopened }
 {
     match Connection::open_from(rt, file, true, start) {
         Ok(connection) => Ok(connection),
@@ -88,7 +93,7 @@ fn book_over<S: Alter + Drop>(
     ensures honest { IfOk result (λ book. is_honest S.Store book → is_honest S.Store connection) }
     ensures shield { IfOk result (λ book. is_shielded S.Store connection → is_shielded S.Store book) }
     ensures stays { IfOk result (λ book. is_honest S.Store book → is_sound S.Store book) }
-    ensures fault { IfErr result IsOfFiles }
+    ensures fault { IfErr result (IsOfRecords (HasTables (state S.Store connection).now)) }
 {
     match SqlBook::open(alloc, connection) {
         Ok(book) => Ok(book),
@@ -98,8 +103,26 @@ fn book_over<S: Alter + Drop>(
 
 /// Lets a book go, and copies into the file what its log has. If that fails, nothing is lost: file and log have the records together
 /// then, as after a program that was killed.
-pub fn close<S: Start>(book: FileBook<S>) {
-    let _ = book.into_connection().close();
+pub fn close<D: Disk + Drop>(book: SqlBook<FileStore<D>>) {
+    match closed(book) {
+        Ok(files) => drop(files),
+        Err(store) => drop(store.close()),
+    }
+}
+
+// The two files of a book, or what is left of it if they can't be closed.
+fn closed<D: Disk + Drop>(book: SqlBook<FileStore<D>>) -> Result<Files<D>, FileStore<D>>
+    // If the disk has returned what was written, the database file has by itself what was committed last, as it reads now and after a
+    // crash.
+    ensures copied { IfOk result (λ files. AreClean D.Disk files.log files.db → IsCopied book files) }
+
+    // If not, a crash leaves nothing but what one could leave before.
+    ensures kept { IfErr result (λ store. IsClosed book store) }
+{
+    match book.into_connection().close_files() {
+        Ok(files) => Ok(files),
+        Err((_, store)) => Err(store),
+    }
 }
 
 // What is told of a file that can't be opened.

@@ -1,7 +1,8 @@
 ghost use Rattle.std.specs.Prelude.{◌≡◌, ◌⊎◌, ℕ, List, IfErr, IfOk, OnOk};
 ghost use Rattle.std.specs.Io.KnownBytes.{Consumes, IsAtEnd};
-ghost use Rattle.gate_bot.specs.Program.{HasNotBegun, IsOfFiles, StandIn, no_records};
+ghost use Rattle.gate_bot.specs.Program.{HasNotBegun, IsOfFiles, no_records};
 ghost use Rattle.gate_hook.specs.Lines.{IsServed, IsWithinLimit, MayEnd, Serves};
+ghost use Rattle.gate_sql.specs.Files.{StandIn};
 ghost use Rattle.gate_sql.specs.Shown.{shown};
 ghost use Rattle.gate_store.specs.Run.{IsOfBooks, Records};
 ghost use Rattle.gate_tables.specs.Tables.{is_honest, is_sound};

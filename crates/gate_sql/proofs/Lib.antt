@@ -1,3 +1,4 @@
 pub mod Holding
 pub mod Opened
 pub mod Shown
+pub mod Standing

@@ -47,7 +47,7 @@ first_again false body rest is others = others
 found_again : (entries : List Entry) → AreKeptAnswers entries → (id : List ℕ) → find (slice_cmp nat_cmp) id entries ≡ again (find (slice_cmp nat_cmp) id entries)
 unfolding again
 found_again [] are id = refl
-found_again (e ∷ entries) are id = first_again (eq_by_cmp (slice_cmp nat_cmp) id e.0) e.1 (find (slice_cmp nat_cmp) id entries) are.0.1 (found_again entries are.1 id)
+found_again (e ∷ entries) are id = first_again (eq_by_cmp (slice_cmp nat_cmp) id e.0) e.1 (find (slice_cmp nat_cmp) id entries) are.0.1.written (found_again entries are.1 id)
 
 texts_of : (entries : List Entry) → AreKeptAnswers entries → AreTexts (from_entries entries)
 unfolding again

@@ -2,7 +2,9 @@
 -- rows, in gate_rows. For a reader, in this order:
 --     Shown       what a book over the tables shows, and that its tables hold nothing besides
 --     Versions    what a database of either schema version stands for
+--     Files       what a log and a database file stand for
 -- For the code: Faults.
 pub mod Faults
+pub mod Files
 pub mod Shown
 pub mod Versions

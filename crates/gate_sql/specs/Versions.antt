@@ -1,12 +1,14 @@
 -- DATABASES OF BOTH SCHEMA VERSIONS, and what they stand for.
-use Rattle.std.specs.Prelude.{◌≡◌, ◌⊎◌, IsOk, ℕ, Bool, List, [], if◌then◌else◌}
+use Rattle.std.specs.Prelude.{◌≡◌, ◌⊎◌, IsOk, ℕ, pos, Bool, false, List, [], ◌∷◌, Some, if◌then◌else◌}
 use Rattle.std.specs.FinMap.{empty}
 use Rattle.std.specs.List.{AllByRecursion}
+use Rattle.std.specs.Ordering.{int_eq}
 use Rattle.gate_text.specs.SmallTexts.{delivery_id_of}
 use Rattle.gate_queue.specs.Machine.{empty_state}
 use Rattle.gate_state.specs.State.{IsState}
 use Rattle.gate_state.specs.declared.state.State.{State}
-use Rattle.gate_answers.specs.Answers.{answer_text_of}
+use Rattle.gate_answers.specs.Answers.{answer_data, answer_text_of}
+use Rattle.gate_answers.specs.Limits.{IsAnswer}
 use Rattle.gate_answers.specs.Reading.{answer_of}
 use Rattle.gate_store.specs.Run.{Records}
 use Rattle.gate_rows.specs.Encoding.{rows_of}
@@ -19,7 +21,9 @@ use Rattle.gate_tables.specs.Forms as forms
 use Rattle.gate_tables.specs.Database.{schema_of}
 use Rattle.gate_tables.specs.Schemas.{HasTables, lacks_wanted, stored_rows}
 use Rattle.gate_tables.specs.declared.change.RowChange.{RowChange}
+use Rattle.gate_tables.specs.declared.row.DeskRow.{DeskRow}
 use Rattle.gate_tables.specs.declared.row.Rows.{Rows}
+use Rattle.serde_json.specs.Read.{read}
 use Rattle.sqlite.specs.Effect.{Database}
 
 -- WHAT A DATABASE OF EITHER VERSION STANDS FOR: a state of the machine, of which it has the rows, and answers under identifiers, of
@@ -39,9 +43,20 @@ abbrev pub OpensAs : Database → Records → Type 0
 OpensAs db records =
     ((db.schema ≡ schema_of []) × (records ≡ record { state = empty_state 1; kept = empty })) ⊎ (HasTables db × StandsFor db records)
 
--- For private clauses: texts of answers under identifiers of deliveries.
+-- For private clauses: whether the row of the desk says that it is of version 2,
+abbrev pub says_second : List DeskRow → Bool
+says_second [] = false
+says_second (row ∷ rows) = int_eq row.version (pos 2)
+
+-- a text that is written for the answer as which it is read,
+pub record IsAnswerText (text : List ℕ) : Type 0 where
+  pub good : IsAnswer (answer_of text)
+  pub reads : read text ≡ Some (answer_data (answer_of text))
+  pub written : text ≡ answer_text_of (answer_of text)
+
+-- such texts under identifiers of deliveries,
 abbrev pub IsKeptAnswer : List ℕ × List ℕ → Type 0
-IsKeptAnswer entry = IsOk (delivery_id_of entry.0) × (entry.1 ≡ answer_text_of (answer_of entry.1))
+IsKeptAnswer entry = IsOk (delivery_id_of entry.0) × IsAnswerText entry.1
 
 abbrev pub AreKeptAnswers : List (List ℕ × List ℕ) → Type 0
 AreKeptAnswers entries = AllByRecursion IsKeptAnswer entries

@@ -10,7 +10,7 @@ ghost use Rattle.gate_rows.specs.Encoding as encoding;
 ghost use Rattle.gate_sql.specs.Faults.{MayRefuse};
 ghost use Rattle.gate_sql.specs.Shown.{shown, Holds, IsHeld};
 ghost use Rattle.gate_sql.specs.Versions.{OpensAs, StandsFor};
-ghost use Rattle.gate_tables.specs.Schemas.{HasTables, lacks_wanted};
+ghost use Rattle.gate_tables.specs.Schemas.{HasTables, IsFound, lacks_wanted};
 ghost use Rattle.gate_tables.specs.Tables.{is_honest, is_shielded, is_sound, rows_in, answers_in, IsBook};
 ghost use Rattle.gate_answers.specs.Answers.{answer_text_of};
 ghost use Rattle.gate_answers.specs.Reading.{answer_of};
@@ -136,10 +136,7 @@ impl<S: Alter> SqlBook<S> {
         ensures was_refused { IfErr result (λ refused. is_sound S.Store refused.connection → is_sound S.Store connection) }
     {
         match found_in(alloc, connection.schema()) {
-            Ok(Found::Nothing) => SqlBook::new(alloc, connection),
-            Ok(Found::Version1) => adopt(alloc, connection, true),
-            Ok(Found::Version2) => adopt(alloc, connection, false),
-            Ok(Found::Others) => Err(refusal(Fault::Store, connection)),
+            Ok(found) => open_found(alloc, connection, found),
             Err(fault) => Err(refusal(told(fault), connection)),
         }
     }
@@ -268,6 +265,34 @@ impl<S: Alter> Book for SqlBook<S> {
             return Err(told(fault));
         }
         Ok(())
+    }
+}
+
+// The book that a database keeps which has these tables.
+fn open_found<S: Alter>(
+    alloc: Global,
+    connection: Connection<S>,
+    found: Found,
+) -> Result<SqlBook<S>, Refused<S>>
+    requires mode { connection.in_transaction ≡ false }
+    requires found { IsFound found (state S.Store connection).now.schema }
+    ensures stands { IfOk result (λ book. is_sound S.Store book → OpensAs (state S.Store connection).now (shown S.Store book)) }
+    ensures holds { IfOk result (λ book. is_sound S.Store book → Holds S.Store book) }
+    ensures others { found ≡ Found.Others → IsErrAnd result (λ refused. refused.fault ≡ Fault.Store) }
+    ensures same { IfErr result (λ refused. is_sound S.Store refused.connection → (state S.Store refused.connection).now ≡ (state S.Store connection).now) }
+    ensures mode { IfErr result (λ refused. refused.connection.in_transaction ≡ false) }
+    ensures fault { IfErr result (λ refused. IsOfBooks refused.fault ⊎ ((refused.fault ≡ Fault.Foreign) × HasTables (state S.Store connection).now)) }
+    ensures was { IfOk result (λ book. is_sound S.Store book → is_sound S.Store connection) }
+    ensures honest { IfOk result (λ book. is_honest S.Store book → is_honest S.Store connection) }
+    ensures shield { IfOk result (λ book. is_shielded S.Store connection → is_shielded S.Store book) }
+    ensures stays { IfOk result (λ book. is_honest S.Store book → is_sound S.Store book) }
+    ensures was_refused { IfErr result (λ refused. is_sound S.Store refused.connection → is_sound S.Store connection) }
+{
+    match found {
+        Found::Nothing => SqlBook::new(alloc, connection),
+        Found::Version1 => adopt(alloc, connection, true),
+        Found::Version2 => adopt(alloc, connection, false),
+        Found::Others => Err(refusal(Fault::Store, connection)),
     }
 }
 

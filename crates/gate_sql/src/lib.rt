@@ -4,10 +4,12 @@
 
 mod book;
 mod fault;
+mod files;
 mod gate;
 mod opening;
 
 pub use book::{Refused, SqlBook};
+pub use files::{book_in_files, book_in_files_in_memory};
 pub use gate::gate_of;
 pub use gate_rows::{
     changed_rows, changes_since, law_of_changed_rows, law_of_changes_since, law_of_first_keys,

@@ -1,11 +1,9 @@
-ghost use Rattle.std.specs.Prelude.{◌≡◌, IfOk, IfErr, IsOk, IsTrue, OnOk, true, false};
+ghost use Rattle.std.specs.Prelude.{◌≡◌, ◌↔◌, IfOk, IfErr, IsErrAnd, IsOk, IsTrue, OnOk, true, false};
 ghost use Rattle.gate_text.specs.SmallTexts.{delivery_id_of};
 ghost use Rattle.gate_rows.specs.Encoding as encoding;
-ghost use Rattle.gate_sql.specs.Faults.{MayRefuse};
+ghost use Rattle.gate_sql.specs.Faults.{MayRefuse, foreign_unless_memory};
 ghost use Rattle.gate_rows.specs.FirstRows as first_rows;
-ghost use Rattle.gate_sql.specs.Versions.{AreKeptAnswers, IsKeptAnswer, Understands};
-ghost use Rattle.gate_answers.specs.Answers.{answer_text_of};
-ghost use Rattle.gate_answers.specs.Reading.{answer_of};
+ghost use Rattle.gate_sql.specs.Versions.{AreKeptAnswers, IsAnswerText, IsKeptAnswer, Understands, says_second};
 ghost use Rattle.gate_store.specs.Run.{IsOfBooks};
 ghost use Rattle.gate_tables.specs.Applied.{applied};
 ghost use Rattle.gate_tables.specs.Contents.{AreSame};
@@ -75,6 +73,7 @@ fn second_understood(alloc: Global, rows: Rows) -> Result<Vec<RowChange>, Fault>
 // Those of version 1 become rows of version 2.
 fn first_understood(alloc: Global, rows: Rows) -> Result<Vec<RowChange>, Fault>
     ensures rows { IfOk result (λ changes. Understands true rows changes.items) }
+    ensures second { says_second rows.desk ≡ true → IsErrAnd result (λ fault. fault ≡ Fault.Store) }
     ensures fault { IfErr result MayRefuse }
 {
     // Version 2 has a table more.
@@ -93,7 +92,9 @@ fn first_understood(alloc: Global, rows: Rows) -> Result<Vec<RowChange>, Fault>
     }
 }
 
-fn is_of_second(desk: &[DeskRow]) -> bool {
+fn is_of_second(desk: &[DeskRow]) -> bool
+    ensures { result ≡ says_second desk.now }
+{
     match desk.first() {
         Some(row) => row.version == 2,
         None => false,
@@ -136,13 +137,13 @@ fn check_answers(alloc: Global, answers: &[(Text, Text)]) -> Result<(), Fault>
 }
 
 fn is_kept(alloc: Global, id: &str, body: &str) -> Result<bool, AllocError>
-    ensures { IfOk result (λ is. IsTrue is → IsKeptAnswer (id.now, body.now)) }
+    ensures { IfOk result (λ is. IsTrue is ↔ IsKeptAnswer (id.now, body.now)) }
 {
     Ok(is_identifier(alloc, id)? && is_answer_text(alloc, body)?)
 }
 
 fn is_identifier(alloc: Global, text: &str) -> Result<bool, AllocError>
-    ensures { IfOk result (λ is. IsTrue is → IsOk (delivery_id_of text.now)) }
+    ensures { IfOk result (λ is. IsTrue is ↔ IsOk (delivery_id_of text.now)) }
 {
     match DeliveryId::read(alloc, text) {
         Ok(_) => Ok(true),
@@ -153,7 +154,7 @@ fn is_identifier(alloc: Global, text: &str) -> Result<bool, AllocError>
 
 // Whether a text is that of the answer that is read of it.
 fn is_answer_text(alloc: Global, text: &str) -> Result<bool, AllocError>
-    ensures { IfOk result (λ is. IsTrue is → text.now ≡ answer_text_of (answer_of text.now)) }
+    ensures { IfOk result (λ is. IsTrue is ↔ IsAnswerText text.now) }
 {
     match read_answer(alloc, text) {
         Ok(answer) => {
@@ -168,7 +169,7 @@ fn is_answer_text(alloc: Global, text: &str) -> Result<bool, AllocError>
 
 // What rows are told to be that stand for no state.
 fn foreign(fault: Fault) -> Fault
-    ensures { MayRefuse result }
+    ensures value { result ≡ foreign_unless_memory fault }
 {
     match fault {
         Fault::Memory => Fault::Memory,

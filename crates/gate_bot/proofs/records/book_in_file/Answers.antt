@@ -1,5 +1,5 @@
 use Rattle.sqlite.specs.Files.{file_state}
-use Rattle.gate_bot.proofs.Standing.{if-ok, stand_in}
+use Rattle.gate_sql.proofs.Standing.{if-ok, stand_in}
 use Rattle.gate_bot.proofs.records.book_in_file.Goals as goal
 
 pub returns-in-Ok-clause-records : goal.returns-in-Ok-clause-records

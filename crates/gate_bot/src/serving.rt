@@ -1,0 +1,124 @@
+ghost use Rattle.std.specs.Prelude.{◌≡◌, ◌↔◌, List, length, option_copied, IfErr, IfOk, IsSome};
+ghost use Rattle.std.specs.List.{All};
+ghost use Rattle.gate_bot.specs.Program.{IsOfTokens};
+ghost use Rattle.gate_jobs.specs.Accepting.{AreAcceptedInTurn, AreEndedInTurn, Connection};
+ghost use Rattle.gate_jobs.specs.Serving.{AreAccepted, AreServedInTurn, AreServedOver, IsTakenAsNeeded};
+
+use crate::records::{book_in_file, book_in_memory, close};
+use gate_hook::Token;
+use gate_jobs::{Acceptor, Connections, JobFault, LineLog, Log, Silence, announce, token_of};
+use gate_queue::Fault;
+use gate_store::{Book, Keeper};
+use sqlite::Start;
+use std::alloc::Global;
+use std::fs::File;
+use std::io;
+use std::io::{Read, Write};
+use std::net::TcpListener;
+
+/// On which port connections are served, how many, how long each is waited for in seconds, the token that a request has to bear, if any,
+/// and whether there is a log.
+#[derive(Clone, Copy)]
+pub struct Service<'a> {
+    pub port: u16,
+    pub count: u32,
+    pub patience: u32,
+    pub token: Option<&'a Token>,
+    pub has_log: bool,
+}
+
+/// The token that a file holds, if one is named. It is read before all else. The fault is `Token` if the file can't be read or holds none,
+/// and `Gate(Memory)` if there is no memory for it.
+pub fn token_in(rt: &HostRuntime, file: Option<&String>) -> Result<Option<Token>, JobFault>
+    // If a file is named, there is a token, or a fault.
+    ensures needed { IfOk result (λ token. IsSome token ↔ IsSome file.entry) }
+    ensures fault { IfErr result (λ fault. IsSome file.entry × IsOfTokens fault) }
+{
+    let Some(file) = file else {
+        return Ok(None);
+    };
+    match File::open(rt, file.as_str()) {
+        Ok(mut file) => Ok(Some(token_of(rt.alloc(), &mut file)?)),
+        Err(_) => Err(JobFault::Token),
+    }
+}
+
+/// Serves connections over records in memory, which are made before the address is bound.
+pub fn serve<'a>(rt: &'a HostRuntime, service: Service<'a>) -> Result<(), JobFault> {
+    let (served, book) = serve_over(rt, book_in_memory(rt.alloc())?, service);
+    drop(book);
+    served
+}
+
+/// The same over the records in a database file, which is opened before the address is bound.
+pub fn serve_in_file<'a, S: Start>(
+    rt: &'a HostRuntime,
+    file: &str,
+    start: S,
+    service: Service<'a>,
+) -> Result<(), JobFault> {
+    let (served, book) = serve_over(rt, book_in_file(rt, file, start)?, service);
+    close(book);
+    served
+}
+
+// Over any book, which it gives back. A keeper whose book is known is dear to prove.
+fn serve_over<'a, B: Book>(
+    rt: &'a HostRuntime,
+    book: B,
+    service: Service<'a>,
+) -> (Result<(), JobFault>, B) {
+    let mut keeper = Keeper::new(book);
+    let served = serve_on(rt, &mut keeper, service);
+    (served, keeper.into_book())
+}
+
+fn serve_on<'a, B: Book>(
+    rt: &'a HostRuntime,
+    keeper: &mut Keeper<B>,
+    service: Service<'a>,
+) -> Result<(), JobFault> {
+    match TcpListener::bind(rt, ("127.0.0.1", service.port)) {
+        Ok(listener) => {
+            let mut connections = Connections::new(
+                rt.alloc(),
+                rt,
+                &listener,
+                service.token,
+                service.patience,
+            ).map_err(|_| JobFault::from(Fault::Memory))?;
+            announce(rt.alloc(), service.port, &mut io::writer(rt))?;
+            let mut log = LineLog::new(rt.alloc(), rt, rt.stderr());
+            let served = serve_with(rt.alloc(), keeper, &mut connections, &mut log, service);
+            connections.finish();
+            served
+        }
+        Err(_) => Err(JobFault::Bind),
+    }
+}
+
+// Serves the connections of any acceptor, and has the log told of them if there is to be one. Whether it is or not, a request has to bear
+// the token.
+fn serve_with<B: Book, R: Read, W: Write, A: Acceptor<R, W>, L: Log>(
+    alloc: Global,
+    keeper: &mut Keeper<B>,
+    acceptor: &mut A,
+    log: &mut L,
+    service: Service<'_>,
+) -> Result<(), JobFault>
+    ensures served { (connections : List Connection) × AreAccepted result (length connections) service.entry.count
+        × AreAcceptedInTurn connections (A.waiting acceptor.old) (A.waiting acceptor.new)
+        × AreEndedInTurn (λ connection. connection.written) connections (A.ended acceptor.old) (A.ended acceptor.new)
+        × AreEndedInTurn (λ connection. connection.left) connections (A.unread acceptor.old) (A.unread acceptor.new)
+        × All (IsTakenAsNeeded (option_copied service.entry.token)) connections
+        × (B.is_sound keeper.new → AreServedInTurn (option_copied service.entry.token) connections (B.shows keeper.old) (B.shows keeper.new))
+        × (B.is_honest keeper.new → AreServedOver B.shows B.is_sound (option_copied service.entry.token) connections keeper.old keeper.new) }
+    ensures cause { IfErr result (λ fault. fault ≡ JobFault.Accept) }
+{
+    let Service { token, count, .. } = service;
+    if service.has_log {
+        gate_jobs::serve(alloc, keeper, token, log, acceptor, count)
+    } else {
+        gate_jobs::serve(alloc, keeper, token, &mut Silence, acceptor, count)
+    }
+}
