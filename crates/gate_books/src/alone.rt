@@ -1,15 +1,16 @@
 use crate::fault::BooksFault;
 use crate::twice::deliveries_of;
 use gate_queue::{Act, Fault, Gate};
+use gate_rules::Desk;
 use gate_store::{
     Answer, AnswerFault, Book, Delivery, Keeper, PlainBook, acts_of, answer_text, reread,
 };
 use std::alloc::{AllocError, Global};
 use std::io::{BufRead, Write};
 
-/// Asks for what the program `gate` never asks for. For each line it prints the rules that deny its acts, `-` if none does, and the
-/// numbers of the batches, both of a copy of the gate as it is before the line. Then it hands the line in by itself, and prints the
-/// answer as it is read again.
+/// Asks for what the program `gate` never asks for. For each line it prints the rules that deny its acts, `-` if none does, the numbers
+/// of the batches, and how many changes a new desk has onto which each is put, all of a copy of the gate as it is before the line. Then it
+/// hands the line in by itself, and prints the answer as it is read again.
 ///
 /// One request for memory may be refused in the program. Then it prints the fault, and asks again.
 pub(crate) fn ask_alone<R: BufRead, W: Write>(
@@ -79,7 +80,25 @@ fn judged_on(alloc: Global, gate: &Gate, acts: &[Act]) -> Result<String, AllocEr
     for number in gate.queue(alloc)? {
         write!(words, "{number} ")?;
     }
+    write!(words, "{} changes", changes_put(alloc, gate)?)?;
     Ok(words)
+}
+
+// How many changes a new desk has onto which each change of a gate is put.
+fn changes_put(alloc: Global, gate: &Gate) -> Result<usize, AllocError> {
+    let mut desk = Desk::new(alloc);
+    let put = put_each(alloc, &mut desk, gate);
+    let many = desk.changes().len();
+    drop(desk);
+    put?;
+    Ok(many)
+}
+
+fn put_each(alloc: Global, desk: &mut Desk, gate: &Gate) -> Result<(), AllocError> {
+    for (number, change) in gate.desk().changes().iter() {
+        desk.put_change(alloc, *number, change)?;
+    }
+    Ok(())
 }
 
 fn push_rule(alloc: Global, words: &mut String, gate: &Gate, act: &Act) -> Result<(), AllocError> {

@@ -7,7 +7,7 @@ use std::alloc::{AllocError, Global};
 
 // Before each commit the log is copied into the database file. So the statements leave their database in both files, and an opening
 // writes both.
-const OPTIONS: Options = Options {
+pub(crate) const OPTIONS: Options = Options {
     cache_pages: 2000,
     spill_pages: 2000,
     checkpoint_frames: 1,
@@ -22,6 +22,17 @@ pub(crate) const ALL_CALLS: u64 = u64::MAX;
 
 /// A file in memory that passes some calls on, and then fails each call, as if the machine had stopped.
 pub(crate) type StoppedFile = Fuse<Memory>;
+
+/// Two files in memory with these bytes.
+pub(crate) fn files_in_memory(
+    alloc: Global,
+    log: &[u8],
+    db: &[u8],
+) -> Result<Files<Memory>, BooksFault> {
+    let log = memory_of(alloc, log)?;
+    let db = memory_of(alloc, db)?;
+    Ok(Files { log, db })
+}
 
 /// What a file may hold after a stop.
 #[derive(Drop)]
@@ -46,10 +57,14 @@ pub(crate) fn files_of(
 }
 
 fn file_of(alloc: Global, bytes: &[u8], calls: u64) -> Result<StoppedFile, BooksFault> {
+    Ok(Fuse::new(memory_of(alloc, bytes)?, calls))
+}
+
+fn memory_of(alloc: Global, bytes: &[u8]) -> Result<Memory, BooksFault> {
     let mut file = Memory::new(alloc);
     file.write_at(0, bytes)?;
     file.sync()?;
-    Ok(Fuse::new(file, calls))
+    Ok(file)
 }
 
 /// A connection to the database of two files, or these as they are left if there is none.

@@ -3,7 +3,8 @@
 //!
 //! `gate_books plain` serves them over a book without a database, and `gate_books reopened` leaves its book after each line, and
 //! opens it again. `gate_books tables` prints the rows of the tables in place of the answers, and `gate_books changed` the row
-//! changes of each line. `.ci/test_rows` starts it so.
+//! changes of each line. `gate_books committed` prints the same rows as `tables`, but its book keeps each delivery by `commit`, which
+//! the program never calls. `.ci/test_rows` starts it so.
 //!
 //! `gate_books opened` begins with lines of SQL, which make the database that it opens, and prints the rows of the tables behind
 //! the answers.
@@ -11,7 +12,8 @@
 //! `gate_books stopped` begins with lines of SQL as well. It makes their database in two files in memory, and opens it with a stop
 //! at each call of either file.
 //!
-//! `gate_books twice` and `gate_books twice_in_tables` hand all lines in by one call, and then once more to the same keeper.
+//! `gate_books twice`, `gate_books twice_in_tables` and, by `commit`, `gate_books twice_committed` hand all lines in by one call, and
+//! then once more to the same keeper.
 //! `gate_books alone` asks for what no program does: the rules of a copied gate, and each line by itself. `.ci/test_faults` starts
 //! these, and has one request for memory refused in each run.
 //!
@@ -19,6 +21,7 @@
 #![tactic(auto)]
 
 mod alone;
+mod by_commit;
 mod changed;
 mod fault;
 mod files;
@@ -58,11 +61,13 @@ fn run(rt: &HostRuntime) -> Result<(), BooksFault> {
         "plain" => serving::serve_plain(rt.alloc(), &mut reader, &mut writer),
         "reopened" => reopened::serve_reopened(rt.alloc(), &mut reader, &mut writer),
         "tables" => tables::print_tables(rt.alloc(), &mut reader, &mut writer),
+        "committed" => tables::print_committed(rt.alloc(), &mut reader, &mut writer),
         "changed" => changed::print_changed(rt.alloc(), &mut reader, &mut writer),
         "opened" => opened::print_opened(rt.alloc(), &mut reader, &mut writer),
         "stopped" => stopped::print_stopped(rt.alloc(), &mut reader, &mut writer),
         "twice" => twice::run_twice_plain(rt.alloc(), &mut reader, &mut writer),
         "twice_in_tables" => twice::run_twice_in_tables(rt.alloc(), &mut reader, &mut writer),
+        "twice_committed" => twice::run_twice_committed(rt.alloc(), &mut reader, &mut writer),
         "refusals" => refusals::print_refusals(rt.alloc(), &mut reader, &mut writer),
         _ => Err(BooksFault::Usage),
     }

@@ -1,3 +1,4 @@
+use crate::by_commit::ByCommit;
 use crate::fault::BooksFault;
 use gate_hook::serve_lines;
 use gate_queue::Gate;
@@ -34,6 +35,19 @@ pub(crate) fn served<B: Book + Drop, R: Read, W: Write>(
             drop(keeper);
             Err(BooksFault::from(fault))
         }
+    }
+}
+
+/// The same, but each delivery is kept by `commit`.
+pub(crate) fn served_by_commit<B: Book + Drop, R: Read, W: Write>(
+    alloc: Global,
+    book: B,
+    reader: &mut R,
+    writer: &mut W,
+) -> Result<B, BooksFault> {
+    match served(alloc, ByCommit { book }, reader, writer) {
+        Ok(left) => Ok(left.book),
+        Err(fault) => Err(fault),
     }
 }
 

@@ -2,12 +2,13 @@ ghost use Rattle.std.specs.Prelude.{◌≡◌, false};
 
 use crate::fault::BooksFault;
 use crate::files::{
-    ALL_CALLS, Outcome, StoppedFile, connected, copied, files_of, outcomes, passes_on,
+    ALL_CALLS, OPTIONS, Outcome, StoppedFile, connected, copied, files_in_memory, files_of,
+    outcomes, passes_on,
 };
 use crate::opened::execute_lines;
 use crate::tables::print_all;
 use gate_queue::Fault;
-use gate_sql::{Refused, SqlBook};
+use gate_sql::{Refused, SqlBook, book_in_files_in_memory};
 use sqlite::{Alter, Connection, Files};
 use sqlite_disk::Disk;
 use std::alloc::Global;
@@ -268,29 +269,14 @@ fn check_rows<W: Write>(
 
 // The rows of all tables, once the book is opened that two files with these bytes keep.
 fn opened_rows(alloc: Global, log: &[u8], db: &[u8]) -> Result<Vec<u8>, BooksFault> {
-    let files = files_of(alloc, log, ALL_CALLS, db, ALL_CALLS)?;
-    rows_in_files(alloc, files)
-}
-
-fn rows_in_files<D: Disk + Drop>(alloc: Global, files: Files<D>) -> Result<Vec<u8>, BooksFault> {
-    match connected(alloc, files) {
-        Ok(connection) => book_rows(alloc, connection),
-        Err(files) => {
-            drop(files);
-            Err(BooksFault::Rows)
-        }
+    let files = files_in_memory(alloc, log, db)?;
+    if !files.may_be_used() {
+        drop(files);
+        return Err(BooksFault::Rows);
     }
-}
-
-fn book_rows<S: Alter + Drop>(
-    alloc: Global,
-    connection: Connection<S>,
-) -> Result<Vec<u8>, BooksFault>
-    requires { connection.in_transaction ≡ false }
-{
-    match SqlBook::open(alloc, connection) {
+    match book_in_files_in_memory(alloc, files, OPTIONS) {
         Ok(book) => rows_of(alloc, book.into_connection()),
-        Err(refused) => Err(BooksFault::from(refused.fault)),
+        Err(fault) => Err(BooksFault::from(fault)),
     }
 }
 

@@ -1,5 +1,5 @@
 use crate::fault::BooksFault;
-use crate::serving::{MemoryBook, memory_book, served};
+use crate::serving::{MemoryBook, memory_book, served, served_by_commit};
 use sqlite::types::ValueRef;
 use sqlite::{Alter, Connection, Row};
 use std::alloc::Global;
@@ -38,6 +38,25 @@ pub(crate) fn print_tables<R: Read, W: Write>(
 fn book_after<R: Read>(alloc: Global, reader: &mut R) -> Result<MemoryBook, BooksFault> {
     match memory_book(alloc) {
         Ok(book) => served(alloc, book, reader, &mut io::sink()),
+        Err(fault) => Err(fault),
+    }
+}
+
+/// The same, but each delivery is kept by `commit`.
+pub(crate) fn print_committed<R: Read, W: Write>(
+    alloc: Global,
+    reader: &mut R,
+    writer: &mut W,
+) -> Result<(), BooksFault> {
+    match book_committed(alloc, reader) {
+        Ok(book) => print_all(book.into_connection(), writer),
+        Err(fault) => Err(fault),
+    }
+}
+
+fn book_committed<R: Read>(alloc: Global, reader: &mut R) -> Result<MemoryBook, BooksFault> {
+    match memory_book(alloc) {
+        Ok(book) => served_by_commit(alloc, book, reader, &mut io::sink()),
         Err(fault) => Err(fault),
     }
 }

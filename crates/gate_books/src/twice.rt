@@ -1,3 +1,4 @@
+use crate::by_commit::ByCommit;
 use crate::fault::BooksFault;
 use crate::serving::memory_book;
 use gate_hook::{DeliveryFault, read_delivery};
@@ -32,6 +33,16 @@ pub(crate) fn run_twice_in_tables<R: BufRead, W: Write>(
 ) -> Result<(), BooksFault> {
     let book = memory_book(alloc)?;
     run_twice_over(alloc, book, reader, writer)
+}
+
+/// The same, but each delivery is kept by `commit`.
+pub(crate) fn run_twice_committed<R: BufRead, W: Write>(
+    alloc: Global,
+    reader: &mut R,
+    writer: &mut W,
+) -> Result<(), BooksFault> {
+    let book = memory_book(alloc)?;
+    run_twice_over(alloc, ByCommit { book }, reader, writer)
 }
 
 fn run_twice_over<B: Book + Drop, R: BufRead, W: Write>(
