@@ -1,5 +1,5 @@
 -- From what was asked to what is sent.
-use Rattle.std.proofs.Common.{◌≡◌, inl, inr, ℕ, ◌<◌, List, [], ◌++◌, length, take, Option, Some, None, Result, Ok, Err, refl, sym, ap, arith, true≢false, ◌↔◌, IsSome, IfOk, subst, ◌∙◌}
+use Rattle.std.proofs.Common.{◌≡◌, inl, inr, ℕ, ◌<◌, List, [], ◌++◌, length, take, Option, Some, None, Result, Ok, Err, refl, sym, ap, arith, true≢false, ◌↔◌, IsSome, IfOk, OnErr, OnOk, subst, ◌∙◌}
 use Rattle.std.proofs.KnownBytes.{Appends-nil}
 use Rattle.std.specs.Io.KnownBytes.{Appends, Consumes}
 use Rattle.std.specs.String.{string_bytes}
@@ -87,18 +87,18 @@ pub consumed-anyhow : {X : Type 0} (result : Result X HookFault) (before after :
 consumed-anyhow (Ok done) before after bytes consumed = consumed
 consumed-anyhow (Err fault) before after bytes consumed = kept-all before after bytes consumed
 
-pub written-down : (result : Result Served HookFault) (status : ℕ) (request response text : List ℕ) (before after old new : Option (List ℕ))
-    → text ≡ response → Consumes before after request
+pub written-down : (result : Result Served HookFault) (status : ℕ) (request response middle text : List ℕ) (before after old new : Option (List ℕ))
+    → OnOk result (response ≡ text) → OnErr result (response ≡ middle) → middle ≡ [] → Consumes before after request
     → HasSent result (record { status = status; fault = None }) text old new
     → IsTranscript result request response before after old new
-written-down (Ok done) status request response text before after old new is consumed sent =
+written-down (Ok done) status request response middle text before after old new told untold none consumed sent =
     subst (λ (served : Served). IsTranscript (Ok served) request response before after old new) (sym sent.0)
-    (consumed, subst (Appends old new) is sent.1)
-written-down (Err Write) status request response text before after old new is consumed sent =
-    inl (consumed, subst (λ (told : List ℕ). IsCutOff told old new) is sent)
-written-down (Err Read) status request response text before after old new is consumed sent = absurd sent
-written-down (Err (Gate fault)) status request response text before after old new is consumed sent = absurd sent
-written-down (Err TooMuch) status request response text before after old new is consumed sent = absurd sent
+    (consumed, subst (Appends old new) (sym told) sent.1)
+written-down (Err Write) status request response middle text before after old new told untold none consumed sent =
+    (kept-all before after request consumed, untold ∙ none)
+written-down (Err Read) status request response middle text before after old new told untold none consumed sent = absurd sent
+written-down (Err (Gate fault)) status request response middle text before after old new told untold none consumed sent = absurd sent
+written-down (Err TooMuch) status request response middle text before after old new told untold none consumed sent = absurd sent
 
 pub fault-written-down : (result : Result Served HookFault) (fault : Fault) (request response text : List ℕ) (before after old new : Option (List ℕ))
     → text ≡ response_text fault_response → HasKept before after request → response ≡ []
@@ -106,8 +106,7 @@ pub fault-written-down : (result : Result Served HookFault) (fault : Fault) (req
     → IsTranscript result request response before after old new
 fault-written-down (Ok done) fault request response text before after old new is kept none sent =
     subst (λ (served : Served). IsTranscript (Ok served) request response before after old new) (sym sent.0) (kept, none)
-fault-written-down (Err Write) fault request response text before after old new is kept none sent =
-    inr (kept, none, subst (λ (told : List ℕ). IsCutOff told old new) is sent)
+fault-written-down (Err Write) fault request response text before after old new is kept none sent = (kept, none)
 fault-written-down (Err Read) fault request response text before after old new is kept none sent = absurd sent
 fault-written-down (Err (Gate other)) fault request response text before after old new is kept none sent = absurd sent
 fault-written-down (Err TooMuch) fault request response text before after old new is kept none sent = absurd sent

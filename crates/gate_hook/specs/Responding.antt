@@ -65,13 +65,11 @@ abbrev pub IsOfAnswered : Option Fault → (request response : List ℕ) → (be
 IsOfAnswered None request response before after old new = Consumes before after request × Appends old new response
 IsOfAnswered (Some fault) request response before after old new = HasKept before after request × (response ≡ [])
 
--- The transcript, however serving ended. After `Write` it has the response of which a part was written, or none if that is the one after
--- faults. After `Read` it has none. So nothing stands in it that wasn't taken of the input, and isn't the response.
+-- The transcript, however serving ended. After `Read` and `Write` it has no response. So nothing stands in it that wasn't taken of the
+-- input, or written.
 abbrev pub IsTranscript : Result Served HookFault → (request response : List ℕ) → (before after old new : Option (List ℕ)) → Type 0
 IsTranscript (Ok served) request response before after old new = IsOfAnswered served.fault request response before after old new
-IsTranscript (Err Write) request response before after old new =
-    (Consumes before after request × IsCutOff response old new)
-    ⊎ (HasKept before after request × (response ≡ []) × IsCutOff (response_text fault_response) old new)
+IsTranscript (Err Write) request response before after old new = HasKept before after request × (response ≡ [])
 IsTranscript (Err Read) request response before after old new = HasKept before after request × (response ≡ [])
 IsTranscript (Err (Gate fault)) request response before after old new = ⊥
 IsTranscript (Err TooMuch) request response before after old new = ⊥

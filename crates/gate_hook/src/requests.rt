@@ -1,4 +1,4 @@
-ghost use Rattle.std.specs.Prelude.{◌≡◌, ◌≤◌, ◌↔◌, ℕ, List, [], Ok, Some, None, IfSome, IsSome, length, option_copied, drop, IfOk, IfErr, OnOk, ◌⊎◌, false};
+ghost use Rattle.std.specs.Prelude.{◌≡◌, ◌≤◌, ◌↔◌, ℕ, List, [], Ok, Some, None, IfSome, IsSome, length, option_copied, drop, IfOk, IfErr, OnErr, OnOk, ◌⊎◌, false};
 ghost use Rattle.std.specs.Option.{option_map};
 ghost use Rattle.std.specs.String.{string_bytes};
 ghost use Rattle.gate_store.specs.Run.{Records, AgreesOnFull, IsOfBooks, IsOfKeepers, StaysOpen, after_delivery, meets_full};
@@ -44,7 +44,7 @@ pub struct Served {
 pub struct Transcript {
     /// The bytes that were taken of the input. If there was no memory for the last ones, these are missing.
     pub request: Vec<u8>,
-    /// The response, unless it is the one after a fault, or the request couldn't be read.
+    /// The response, if it was written whole, and isn't the one after a fault.
     pub response: String,
 }
 
@@ -245,9 +245,31 @@ fn send_as<W: Write>(writer: &mut W, text: &str, served: Served) -> Result<Serve
     Ok(served)
 }
 
+// Sends a response, and has it told if all of it was written.
+fn send_response<W: Write>(
+    writer: &mut W,
+    response: Response,
+    told: &mut String,
+) -> Result<Served, HookFault>
+    ensures sent { HasSent result (record { status = response.status; fault = None }) (string_bytes response.text)
+        (W.contents writer.old) (W.contents writer.new) }
+    ensures told { OnOk result (string_bytes told.new ≡ string_bytes response.text) }
+    ensures untold { OnErr result (string_bytes told.new ≡ string_bytes told.old) }
+{
+    let served = Served {
+        status: response.status,
+        fault: None,
+    };
+    let sent = send_as(writer, response.text.as_str(), served);
+    if sent.is_ok() {
+        *told = response.text;
+    }
+    sent
+}
+
 /// Serves one request as `serve_one` does, but if a token is given, a request that doesn't bear it is refused first, whatever else it
 /// is: a head without exactly one field `Authorization`, of the scheme `Bearer` and with this token (RFC 6750, section 2.1), gets the
-/// status 401. Its body isn't taken. Input without a head is refused as ever.
+/// status 401. Its body isn't waited for; up to 1,023 bytes of it may be taken with the head. Input without a head is refused as ever.
 ///
 /// Into the transcript it puts what came in and what went out, in place of what stood there. All else is said at `serve_one`.
 pub fn serve_guarded<B: Book, R: Read, W: Write>(
@@ -300,14 +322,7 @@ pub fn serve_guarded<B: Book, R: Read, W: Write>(
     transcript.request.clear();
     transcript.response.clear();
     match answer(alloc, keeper, token, reader, &mut transcript.request) {
-        Ok(response) => {
-            let served = Served {
-                status: response.status,
-                fault: None,
-            };
-            transcript.response = response.text;
-            send_as(writer, transcript.response.as_str(), served)
-        }
+        Ok(response) => send_response(writer, response, &mut transcript.response),
         Err(HookFault::Gate(fault)) => {
             let served = Served {
                 status: StatusCode::SERVICE_UNAVAILABLE,

@@ -8,11 +8,11 @@ use Rattle.gate_hook.proofs.requests.serve_guarded.Goals as goal
 pub returns-in-Ok-clause-served : goal.returns-in-Ok-clause-served
 returns-in-Ok-clause-served g c =
     let answered = c.in-Ok.ensures.answered in
-    (answered.0, answered.1, λ sound. sends-response _ _ c.in-Ok.response _ _ _ _ _ (answered.2 sound) (rw (sym c.as_str.ensures.value) c.send_as.ensures))
+    (answered.0, answered.1, λ sound. sends-response _ _ c.in-Ok.response _ _ _ _ _ (answered.2 sound) c.send_response.ensures.sent)
 
 pub returns-in-Ok-clause-stays : goal.returns-in-Ok-clause-stays
 returns-in-Ok-clause-stays g c begun honest =
-    stays-response _ c.in-Ok.response _ _ _ (c.in-Ok.ensures.stays (λ _. begun) honest) (rw (sym c.as_str.ensures.value) c.send_as.ensures)
+    stays-response _ c.in-Ok.response _ _ _ (c.in-Ok.ensures.stays (λ _. begun) honest) c.send_response.ensures.sent
 
 pub returns-in-Ok-clause-same : goal.returns-in-Ok-clause-same
 returns-in-Ok-clause-same g c sound input known none =
@@ -26,14 +26,14 @@ returns-in-Err-Gate-clause-served g c =
       answered.0,
       answered.1,
       λ sound. sends-fault _ _ c.in-Err-Gate.fault _ _ _ _ _ (codes "HTTP/1.1 503 Service Unavailable\r\nContent-Length: 0\r\nConnection: close\r\n\r\n") refl
-          (rw c.in-Err-Gate.field-0-is at answered.2 sound) c.send_as-in-Err-Gate.ensures,
+          (rw c.in-Err-Gate.field-0-is at answered.2 sound) c.send_as.ensures,
     )
 
 pub returns-in-Err-Gate-clause-stays : goal.returns-in-Err-Gate-clause-stays
 unfolding response_text digits
 returns-in-Err-Gate-clause-stays g c begun honest =
     stays-fault _ c.in-Err-Gate.fault _ _ _ (codes "HTTP/1.1 503 Service Unavailable\r\nContent-Length: 0\r\nConnection: close\r\n\r\n") refl
-    (rw c.in-Err-Gate.field-0-is at c.in-Err-Gate.ensures.stays (λ _. begun) honest) c.send_as-in-Err-Gate.ensures
+    (rw c.in-Err-Gate.field-0-is at c.in-Err-Gate.ensures.stays (λ _. begun) honest) c.send_as.ensures
 
 pub returns-in-Err-Gate-clause-same : goal.returns-in-Err-Gate-clause-same
 returns-in-Err-Gate-clause-same g c sound input known none =
@@ -48,18 +48,18 @@ returns-in-Err-Gate-clause-exact g c sound = exact-one _ _ _ _ _ _ _ ((returns-i
 
 pub returns-in-Ok-clause-transcript : goal.returns-in-Ok-clause-transcript
 returns-in-Ok-clause-transcript g c =
-    written-down _ _ _ _ _ _ _ _ _ c.as_str.ensures.value c.in-Ok.ensures.consumed c.send_as.ensures
+    written-down _ _ _ _ _ _ _ _ _ _ c.send_response.ensures.told c.send_response.ensures.untold c.clear-2.ensures.bytes c.in-Ok.ensures.consumed c.send_response.ensures.sent
 
 pub returns-in-Err-Gate-clause-transcript : goal.returns-in-Err-Gate-clause-transcript
 unfolding response_text digits
 returns-in-Err-Gate-clause-transcript g c =
     fault-written-down _ c.in-Err-Gate.fault _ _ (codes "HTTP/1.1 503 Service Unavailable\r\nContent-Length: 0\r\nConnection: close\r\n\r\n") _ _ _ _ refl
-    c.in-Err-Gate.ensures.consumed c.clear-2.ensures.bytes c.send_as-in-Err-Gate.ensures
+    c.in-Err-Gate.ensures.consumed c.clear-2.ensures.bytes c.send_as.ensures
 
 pub returns-in-Ok-clause-anyhow : goal.returns-in-Ok-clause-anyhow
 returns-in-Ok-clause-anyhow g c honest = elim (c.in-Ok.ensures.anyhow honest) [
   | inl sound ↦ inl sound
-  | inr made ↦ inr (made.0, made.1, sends-anyhow _ _ c.in-Ok.response _ _ _ made.2 (rw (sym c.as_str.ensures.value) c.send_as.ensures))
+  | inr made ↦ inr (made.0, made.1, sends-anyhow _ _ c.in-Ok.response _ _ _ made.2 c.send_response.ensures.sent)
 ]
 
 pub returns-in-Err-Gate-clause-anyhow : goal.returns-in-Err-Gate-clause-anyhow
@@ -69,7 +69,7 @@ returns-in-Err-Gate-clause-anyhow g c honest =
       answered.0,
       answered.1,
       fault-anyhow _ _ c.in-Err-Gate.fault _ _ _ (codes "HTTP/1.1 503 Service Unavailable\r\nContent-Length: 0\r\nConnection: close\r\n\r\n") refl
-          c.send_as-in-Err-Gate.ensures,
+          c.send_as.ensures,
     )
 
 pub returns-in-Err-clause-anyhow : goal.returns-in-Err-clause-anyhow
