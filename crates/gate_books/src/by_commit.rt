@@ -3,8 +3,8 @@ use gate_store::{Answer, Book};
 use gate_text::DeliveryId;
 use std::alloc::Global;
 
-/// A book that keeps each delivery by `commit`, which no keeper calls by itself: what a book that has no other call is told beside the
-/// gate is passed over.
+/// A book that keeps each delivery by `commit`, which no keeper calls by itself. It has no `commit_since` of its own, so that of the trait
+/// calls its `commit`.
 #[derive(Drop)]
 pub(crate) struct ByCommit<B: Book> {
     pub(crate) book: B,

@@ -19,7 +19,7 @@ use std::{env, io};
 /// Does the job that the words ask for. The status is 0 at its end or after help that was asked for, 1 after a fault, with one line
 /// `gate: WORD` on standard error, and 2 if the words are wrong.
 fn main(rt: HostRuntime) -> ExitCode {
-    // What a database file held can't be known here. Each function that takes it is proved for all contents.
+    // What a database file held can't be known here. Each clause that speaks of it is proved for all contents.
     let end = end_of(&rt, Unknown);
     if let Ending::Fault(fault) = end {
         // If standard error fails too, there is nothing left to tell it by.

@@ -6,7 +6,7 @@ use std::io::{Read, Result, Write};
 /// Where connections come from, one after the other: each is a pair of a reader and a writer.
 ///
 /// An acceptor may know what its connections give, what was written on them and what they had still to give, as one over texts in memory
-/// does. No contract knows that of a connection of the network.
+/// may. No contract knows that of a connection of the network.
 pub trait Acceptor<R: Read, W: Write> {
     // What the connections to come will give, in their order, if that is known.
     ghost waiting: { Self → Option (List (List ℕ)) } = { λ _. None };

@@ -38,7 +38,7 @@ work_of batch = 2 * length batch.changes - 1
 abbrev pub work_before : Batch → Lane → ℕ
 work_before batch lane = of_running work_of lane + sum_by (λ one. if goes_before one batch then work_of one else 0) lane.waiting
 
--- WHAT COMES ABOVE a priority: a change that is approved with a greater one after an act, and whose approval or priority was another
+-- WHAT COMES ABOVE a priority: a change that is approved with a greater one after an act, and had another priority, or no approval,
 -- before. Only deeds bring one there.
 abbrev pub comes_above : ℤ → State → ℕ → State → Bool
 comes_above priority s change t = approved_on t.desk change && int_lt priority (priority_on t.desk change) && not (keeps_place s change t)

@@ -27,7 +27,7 @@ some_of test s [] = false
 some_of test s (act ∷ acts) = test s act || some_of test (after s act) acts
 
 -- THE WORK until a change of the running batch is found: all that is served before any fresh batch of its priority, since what it is halved
--- into is retried. No batch has the number 0.
+-- into is retried. No number is below 0, so no fresh batch goes before one of that number.
 abbrev pub work_until : ℕ → Batch → State → ℕ
 work_until change batch s = work_before (fresh 0 batch.priority change) s.queue.staging
 

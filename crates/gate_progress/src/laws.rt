@@ -48,7 +48,7 @@ pub fn law_of_sparing()
 
 /// The law of finding: as long as a change of the running batch is approved, fewer batches fail or land than its work allows
 /// (`work_until`), over any list of acts that leave it alone and queue nothing above its priority. Once it isn't, a batch that had no other
-/// change has failed, or it has landed.
+/// change has failed, or it has landed, if no settings end its approval.
 pub fn law_of_finding()
     ensures { LawOfFinding }
 {}

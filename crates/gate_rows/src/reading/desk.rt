@@ -92,7 +92,8 @@ fn put_people(alloc: Global, desk: &mut Desk, rows: &[PersonRow]) -> Result<(), 
 
 fn role_in(number: i64) -> Result<Role, TablesFault>
     ensures some { IfOk result (λ role. (role ≢ Role.Nobody) × (number ≡ role_number role)) }
-    ensures none { IfErr result (λ fault. (fault ≡ TablesFault.Store) × ((role : RoleOf) → role ≢ Role.Nobody → number ≢ role_number role)) }
+    ensures none { IfErr result (λ fault. (fault ≡ TablesFault.Store)
+        × ((role : RoleOf) → role ≢ Role.Nobody → number ≢ role_number role)) }
 {
     match number {
         1 => Ok(Role::Member),

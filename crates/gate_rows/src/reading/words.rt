@@ -1,13 +1,15 @@
 ghost use Rattle.std.specs.Prelude.{◌≡◌, ◌≢◌, ◌<◌, ◌^◌, ℕ, pos, FitsSigned, IfErr, IfOk};
 ghost use Rattle.std.specs.Int.{w32};
-ghost use Rattle.gate_rows.specs.Words.{IsReadBy};
+ghost use Rattle.gate_rows.specs.Words.{IsReadBy, small_told};
 
 use gate_tables::TablesFault;
 use gate_text::{ChangeNo, Commit, Context, Label, Name, Text, TextFault, unless_bad};
 use std::alloc::Global;
 
 // A small text that was read. What is none stands in no row.
-fn small<T>(read: Result<T, TextFault>) -> Result<T, TablesFault> {
+fn small<T>(read: Result<T, TextFault>) -> Result<T, TablesFault>
+    ensures { result ≡ small_told read }
+{
     unless_bad(read)?.ok_or(TablesFault::Store)
 }
 
