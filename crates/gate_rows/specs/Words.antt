@@ -1,5 +1,5 @@
 -- NUMBERS OF ROWS, read as the words and numbers that are written as them. For private clauses.
-use Rattle.std.specs.Prelude.{◌≡◌, ◌≢◌, ℤ, Option, Some, None, Result, Ok, Err}
+use Rattle.std.specs.Prelude.{◌≡◌, ◌≢◌, ℤ, Result, Ok, Err}
 use Rattle.gate_text.specs.declared.fault.TextFault.{TextFault}
 use Rattle.gate_text.specs.declared.fault.TextFault.TheVariants as text
 use Rattle.gate_tables.specs.declared.fault.TablesFault.{TablesFault}

@@ -1,4 +1,4 @@
-use Rattle.std.proofs.Common.{◌≡◌, Err, Ok, codes, inl, inr, refl, rules, sym}
+use Rattle.std.proofs.Common.{◌≡◌, Err, Ok, codes, inl, inr, refl, rules}
 use Rattle.std.specs.Fmt.{digits}
 use Rattle.gate_http.specs.Responses.{response_text}
 use Rattle.gate_hook.proofs.Responding.{exact-one, fault-anyhow, fault-written-down, sends-anyhow, sends-fault, sends-response, stays-fault, stays-response, unchanged, unread-anyhow, written-down}
