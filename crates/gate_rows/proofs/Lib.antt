@@ -24,3 +24,4 @@ pub mod Scanning
 pub mod Since
 pub mod Unmatched
 pub mod Wanted
+mod Words

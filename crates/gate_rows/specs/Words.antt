@@ -1,5 +1,5 @@
 -- NUMBERS OF ROWS, read as the words and numbers that are written as them. For private clauses.
-use Rattle.std.specs.Prelude.{◌≡◌, ◌≢◌, ℤ, Result, Ok, Err}
+use Rattle.std.specs.Prelude.{◌≡◌, ◌≢◌, ℤ, IsErr, IsOk, Result, Ok, Err}
 use Rattle.gate_text.specs.declared.fault.TextFault.{TextFault}
 use Rattle.gate_text.specs.declared.fault.TextFault.TheVariants as text
 use Rattle.gate_tables.specs.declared.fault.TablesFault.{TablesFault}
@@ -15,3 +15,9 @@ abbrev pub small_told : {X : Type 0} → Result X TextFault → Result X TablesF
 small_told (Ok value) = Ok value
 small_told (Err text.Memory) = Err Memory
 small_told (Err _) = Err Store
+
+-- A small text is read as its type reads it. A bad one is refused, and no other but for want of memory.
+abbrev pub IsReadAs : {X : Type 0} → Result X TextFault → Result X TablesFault → Type 0
+IsReadAs reading (Ok value) = reading ≡ Ok value
+IsReadAs reading (Err Memory) = IsOk reading
+IsReadAs reading (Err Store) = IsErr reading

@@ -1,3 +1,4 @@
+ghost use Rattle.std.specs.Prelude.{◌≡◌, IfOk};
 ghost use Rattle.gate_rows.specs.Encoding as encoding;
 ghost use Rattle.gate_rows.specs.Words.{IsReadBy};
 
@@ -133,7 +134,9 @@ fn branch_in(number: i64) -> Result<Branch, TablesFault>
     }
 }
 
-fn stage_in(row: &BatchRow, reports: Reports) -> Result<Stage, TablesFault> {
+fn stage_in(row: &BatchRow, reports: Reports) -> Result<Stage, TablesFault>
+    ensures { IfOk result (λ stage. row.now.phase ≡ encoding.stage_number stage) }
+{
     match row.phase {
         1 => Ok(Stage::Waiting),
         2 => Ok(Stage::Ordered {

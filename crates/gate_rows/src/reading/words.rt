@@ -1,6 +1,7 @@
 ghost use Rattle.std.specs.Prelude.{◌≡◌, ◌≢◌, ◌<◌, ◌^◌, ℕ, pos, FitsSigned, IfErr, IfOk};
 ghost use Rattle.std.specs.Int.{w32};
-ghost use Rattle.gate_rows.specs.Words.{IsReadBy, small_told};
+ghost use Rattle.gate_text.specs.SmallTexts.{commit_of, name_of, plain_of};
+ghost use Rattle.gate_rows.specs.Words.{IsReadAs, IsReadBy, small_told};
 
 use gate_tables::TablesFault;
 use gate_text::{ChangeNo, Commit, Context, Label, Name, Text, TextFault, unless_bad};
@@ -13,19 +14,31 @@ fn small<T>(read: Result<T, TextFault>) -> Result<T, TablesFault>
     unless_bad(read)?.ok_or(TablesFault::Store)
 }
 
-pub(crate) fn name(alloc: Global, text: &Text) -> Result<Name, TablesFault> {
+#[tactic(auto, using(crate::proofs::Words::told_as_read))]
+pub(crate) fn name(alloc: Global, text: &Text) -> Result<Name, TablesFault>
+    ensures { IsReadAs (name_of text.now) result }
+{
     small(Name::read(alloc, text.as_str()))
 }
 
-pub(crate) fn label(alloc: Global, text: &Text) -> Result<Label, TablesFault> {
+#[tactic(auto, using(crate::proofs::Words::told_as_read))]
+pub(crate) fn label(alloc: Global, text: &Text) -> Result<Label, TablesFault>
+    ensures { IsReadAs (plain_of text.now) result }
+{
     small(Label::read(alloc, text.as_str()))
 }
 
-pub(crate) fn context(alloc: Global, text: &Text) -> Result<Context, TablesFault> {
+#[tactic(auto, using(crate::proofs::Words::told_as_read))]
+pub(crate) fn context(alloc: Global, text: &Text) -> Result<Context, TablesFault>
+    ensures { IsReadAs (plain_of text.now) result }
+{
     small(Context::read(alloc, text.as_str()))
 }
 
-pub(crate) fn commit(text: &Text) -> Result<Commit, TablesFault> {
+#[tactic(auto, using(crate::proofs::Words::told_as_read))]
+pub(crate) fn commit(text: &Text) -> Result<Commit, TablesFault>
+    ensures { IsReadAs (commit_of text.now) result }
+{
     small(Commit::read(text.as_str()))
 }
 
@@ -49,6 +62,9 @@ pub(crate) fn priority(number: i64) -> Result<i32, TablesFault>
     i32::try_from(number).map_err(|_| TablesFault::Store)
 }
 
-pub(crate) fn change_no(number: i64) -> Result<ChangeNo, TablesFault> {
+pub(crate) fn change_no(number: i64) -> Result<ChangeNo, TablesFault>
+    ensures some { IfOk result (λ change. number ≡ pos change) }
+    ensures none { IfErr result (λ fault. fault ≡ TablesFault.Store) }
+{
     ChangeNo::from_number(natural(number)?).ok_or(TablesFault::Store)
 }
