@@ -36,8 +36,8 @@ FLOOD = """
 import os, sys
 os.fsync = id
 from pathlib import Path
-from places import Places, Trouble
-from spool import leave
+from gate_host.places import Places, Trouble
+from gate_host.spool import leave
 places = Places(Path(sys.argv[1]))
 spool = places if leave.__code__.co_varnames[0] == "places" else places.spool
 for number in range(int(sys.argv[2])):
@@ -51,7 +51,7 @@ for number in range(int(sys.argv[2])):
 MARK = """
 import os, sys
 try:
-    from marks import mark_of
+    from gate_host.marks import mark_of
 except ImportError:
     mark_of = str
 print(mark_of(os.open(sys.argv[1], os.O_RDONLY)))

@@ -16,11 +16,11 @@ from pathlib import Path
 sys.dont_write_bytecode = True
 sys.path.insert(0, str(Path(__file__).resolve().parent.parent))
 
-import checks  # noqa: E402
-import commands  # noqa: E402
-import journal  # noqa: E402
-import reports  # noqa: E402
-import spool  # noqa: E402
+from gate_host import checks  # noqa: E402
+from gate_host import commands  # noqa: E402
+from gate_host import journal  # noqa: E402
+from gate_host import reports  # noqa: E402
+from gate_host import spool  # noqa: E402
 
 MARKS = Path(sys.argv[1])
 

@@ -15,7 +15,7 @@ sys.path.insert(0, folder)
 right = time.time
 time.time = lambda: right() + (10 * 86400 if os.path.exists(file) else 0)
 
-from commands import main  # noqa: E402
+from gate_host.commands import main  # noqa: E402
 
 if __name__ == "__main__":
     sys.exit(main(words))

@@ -16,9 +16,9 @@ from unittest import mock
 TOP = Path(__file__).resolve().parent.parent.parent
 sys.path.insert(0, str(TOP / "host"))
 
-import spool  # noqa: E402
-from places import Places  # noqa: E402
-from sandbox import why_not  # noqa: E402
+from gate_host import spool  # noqa: E402
+from gate_host.places import Places  # noqa: E402
+from gate_host.sandbox import why_not  # noqa: E402
 
 # Another host than the one of this tree may be tested, as an older one.
 HOST = Path(os.environ.get("GATE_HOST", TOP / "host/gate-host"))
@@ -570,5 +570,5 @@ exec {git} "$@"
         """Leaves a note as `gate-host say` does, of whatever it is."""
         # Half of a surrogate pair can stand there as an escape alone.
         is_short = "\ud800" in str(body.get("text"))
-        with mock.patch("spool.in_bytes", lambda given: json.dumps(given, ensure_ascii=is_short).encode()):
+        with mock.patch("gate_host.spool.in_bytes", lambda given: json.dumps(given, ensure_ascii=is_short).encode()):
             spool.leave(Places(self.repository), body)

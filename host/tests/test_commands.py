@@ -15,14 +15,14 @@ from unittest import mock
 
 sys.path.insert(0, str(Path(__file__).resolve().parent.parent))
 
-import hook  # noqa: E402
-from bot_file import lacks_answers  # noqa: E402
-from journal import Journal  # noqa: E402
-from loop import Host, free_number  # noqa: E402
-from places import Places, Trouble, make_identity, name_of_user  # noqa: E402
-from sandbox import environment_within, sandbox_of, unreadable_in, words_before  # noqa: E402
-from settings import FIRST_SETTINGS, settings_in  # noqa: E402
-from setting_up import is_for_all, python_for_all  # noqa: E402
+from gate_host import hook  # noqa: E402
+from gate_host.bot_file import lacks_answers  # noqa: E402
+from gate_host.journal import Journal  # noqa: E402
+from gate_host.loop import Host, free_number  # noqa: E402
+from gate_host.places import Places, Trouble, make_identity, name_of_user  # noqa: E402
+from gate_host.sandbox import environment_within, sandbox_of, unreadable_in, words_before  # noqa: E402
+from gate_host.settings import FIRST_SETTINGS, settings_in  # noqa: E402
+from gate_host.setting_up import is_for_all, python_for_all  # noqa: E402
 
 SCRIPT = Path(__file__).resolve().parent.parent / "gate-host"
 MYSELF = name_of_user(os.geteuid())
@@ -227,7 +227,7 @@ class DoctorTests(InRepository):
 
 class HookTests(InRepository):
     def refused(self, before, after, branch, person="otto"):
-        with mock.patch("hook.person_here", lambda owner: person):
+        with mock.patch("gate_host.hook.person_here", lambda owner: person):
             return hook.complaints([(before, after, branch)], self.places)
 
     def test_what_is_refused(self):
@@ -260,7 +260,7 @@ class HookTests(InRepository):
         self.assertEqual(self.refused(COMMIT, COMMIT, "refs/heads/main", "ines"), [])
         self.assertEqual(len(self.refused(COMMIT, COMMIT, "refs/heads/main", "otto")), 1)
         self.assertEqual(self.refused(NOTHING, COMMIT, "refs/heads/main", "otto"), [])
-        with mock.patch("hook.person_here", lambda owner: None):
+        with mock.patch("gate_host.hook.person_here", lambda owner: None):
             self.assertEqual(len(hook.complaints([], self.places)), 1)
 
 
@@ -400,12 +400,12 @@ class SandboxTests(InRepository):
         return settings_in(text)
 
     def test_when_there_is_one(self):
-        with mock.patch("sandbox.why_not", lambda: "it isn't there"):
+        with mock.patch("gate_host.sandbox.why_not", lambda: "it isn't there"):
             self.assertFalse(sandbox_of(self.settings()).is_on)
             self.assertIn("since it isn't there: they can do what the owner", sandbox_of(self.settings()).said)
             with self.assertRaisesRegex(Trouble, "it isn't there"):
                 sandbox_of(self.settings(sandbox="required"))
-        with mock.patch("sandbox.why_not", lambda: ""):
+        with mock.patch("gate_host.sandbox.why_not", lambda: ""):
             self.assertTrue(sandbox_of(self.settings()).is_on)
             self.assertFalse(sandbox_of(self.settings(sandbox="off")).is_on)
 

@@ -17,19 +17,19 @@ from unittest import mock
 
 sys.path.insert(0, str(Path(__file__).resolve().parent.parent))
 
-import hook  # noqa: E402
-import words  # noqa: E402
-from checks import remove_tree  # noqa: E402
-from client import Bot, BotEnded  # noqa: E402
-from commands import must_read_tables  # noqa: E402
-from journal import Journal  # noqa: E402
-from loop import Host, is_claim, is_commit  # noqa: E402
-from places import Places, Trouble, must_be_safe, name_of_user, person, person_here, trusted_text  # noqa: E402
-from reports import Reports, log_text  # noqa: E402
-from sandbox import why_not  # noqa: E402
-from settings import roles_in, settings_in  # noqa: E402
+from gate_host import hook  # noqa: E402
+from gate_host import words  # noqa: E402
+from gate_host.checks import remove_tree  # noqa: E402
+from gate_host.client import Bot, BotEnded  # noqa: E402
+from gate_host.commands import must_read_tables  # noqa: E402
+from gate_host.journal import Journal  # noqa: E402
+from gate_host.loop import Host, is_claim, is_commit  # noqa: E402
+from gate_host.places import Places, Trouble, must_be_safe, name_of_user, person, person_here, trusted_text  # noqa: E402
+from gate_host.reports import Reports, log_text  # noqa: E402
+from gate_host.sandbox import why_not  # noqa: E402
+from gate_host.settings import roles_in, settings_in  # noqa: E402
 
-RUNNER = Path(__file__).resolve().parent.parent / "check_runner.py"
+RUNNER = Path(__file__).resolve().parent.parent / "gate_host/check_runner.py"
 MYSELF = name_of_user(os.geteuid())
 # A user of the system who isn't the one that runs the tests.
 OTHER = next(it for it in pwd.getpwall() if it.pw_uid != os.geteuid() and person(it.pw_name))
@@ -345,7 +345,7 @@ class LogTests(InFolder):
     def test_a_log_is_written_at_its_end(self):
         reports = Reports(self.places, self.journal)
         written = []
-        with mock.patch("reports.write", lambda path, text: written.append(path.name) or path.write_text(text, encoding="utf-8")):
+        with mock.patch("gate_host.reports.write", lambda path, text: written.append(path.name) or path.write_text(text, encoding="utf-8")):
             for number in range(3):
                 self.tell(f"{number}", f"{number}\nmore")
                 reports.write_logs()
@@ -364,7 +364,7 @@ class LogTests(InFolder):
         Reports(self.places, self.journal).write_logs()
         self.assertEqual(self.log.read_text(encoding="utf-8"), log_text(self.journal.told(7)))
         self.tell("three")
-        with mock.patch("reports.log_text", mock.Mock(side_effect=OSError)), self.assertRaises(OSError):
+        with mock.patch("gate_host.reports.log_text", mock.Mock(side_effect=OSError)), self.assertRaises(OSError):
             reports.write_logs()
         reports.write_logs()
         self.assertEqual(self.log.read_text(encoding="utf-8"), log_text(self.journal.told(7)))

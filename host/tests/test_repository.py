@@ -11,12 +11,12 @@ from unittest import mock
 
 sys.path.insert(0, str(Path(__file__).resolve().parent.parent))
 
-from git import GitFailed, ask_git, run_git  # noqa: E402
-from hook import hook_command, hook_text  # noqa: E402
-from inspection import findings  # noqa: E402
-from places import Places, pointed_to  # noqa: E402
-from repository import KEPT, Repository  # noqa: E402
-from settings import FIRST_SETTINGS, settings_in  # noqa: E402
+from gate_host.git import GitFailed, ask_git, run_git  # noqa: E402
+from gate_host.hook import hook_command, hook_text  # noqa: E402
+from gate_host.inspection import findings  # noqa: E402
+from gate_host.places import Places, pointed_to  # noqa: E402
+from gate_host.repository import KEPT, Repository  # noqa: E402
+from gate_host.settings import FIRST_SETTINGS, settings_in  # noqa: E402
 
 SETTINGS = settings_in(FIRST_SETTINGS.format(main="main", staging="staging", trying="trying", program="/gate", may_push="", checks=""))
 
@@ -116,7 +116,7 @@ class MergeTests(InRepository):
         self.repository.fetch({"change/1": self.one, "change/2": self.two})
         self.repository.tidy(lambda name: True)
         self.assertNotIn("count: 0\n", self.repository.ask("count-objects", "-v"))
-        with mock.patch("repository.MOST_LOOSE", 0):
+        with mock.patch("gate_host.repository.MOST_LOOSE", 0):
             # What has no name is put into a pack if there is one already.
             for _ in range(2):
                 self.repository.tidy(lambda name: name == "change/1")

@@ -16,9 +16,9 @@ from unittest import mock
 
 sys.path.insert(0, str(Path(__file__).resolve().parent.parent))
 
-import marks  # noqa: E402
-import spool  # noqa: E402
-from places import Places, Trouble, make_identity, name_of_repository, name_of_user, person  # noqa: E402
+from gate_host import marks  # noqa: E402
+from gate_host import spool  # noqa: E402
+from gate_host.places import Places, Trouble, make_identity, name_of_repository, name_of_user, person  # noqa: E402
 from users import make_folder, may_be_others, others, run_as  # noqa: E402
 
 MYSELF = name_of_user(os.geteuid())
@@ -263,7 +263,7 @@ class NoteTests(SpoolCase):
         self.assertEqual((self.taken(), len(os.listdir(self.path))), ([1], 2))
 
     def test_a_note_that_was_interrupted_leaves_nothing(self) -> None:
-        for name in ("os.fsync", "spool.name_of_repository", "os.rename"):
+        for name in ("os.fsync", "gate_host.spool.name_of_repository", "os.rename"):
             with mock.patch(name, side_effect=OSError(errno.EIO, "broken")), self.assertRaises(OSError):
                 self.leave()
             self.assertEqual(list(self.path.iterdir()), [])
@@ -367,7 +367,7 @@ class CopyTests(SpoolCase):
         evil, other = self.make_repository("evil.git"), os.open(self.places.repository, os.O_PATH)
         self.addCleanup(os.close, other)
         self.assertEqual(name_of_repository(evil, other).partition("-")[2], str(self.places.repository.stat().st_ino))
-        with mock.patch("spool.name_of_repository", wraps=name_of_repository) as named:
+        with mock.patch("gate_host.spool.name_of_repository", wraps=name_of_repository) as named:
             spool.leave(evil, {})
         self.assertIsInstance(named.call_args[0][1], int)
 
@@ -599,7 +599,7 @@ class PartTests(SpoolCase):
         note = self.leave(number=1)
         note.rmdir()
         listed = spool.names_in
-        with self.later(), mock.patch("spool.names_in", lambda folder: (listed(folder), note.mkdir())[0]):
+        with self.later(), mock.patch("gate_host.spool.names_in", lambda folder: (listed(folder), note.mkdir())[0]):
             self.assertEqual(self.taken(), [])
         self.assertEqual(self.taken(), [1])
 

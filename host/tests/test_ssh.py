@@ -26,10 +26,10 @@ TESTS = Path(__file__).resolve().parent
 TOP = TESTS.parent.parent
 sys.path[:0] = [str(TESTS.parent), str(TESTS)]
 
-import ssh_command  # noqa: E402
-from loop import MOST_IN_COMMENT  # noqa: E402
-from places import Places  # noqa: E402
-from setting_up import make_folders  # noqa: E402
+from gate_host import ssh_command  # noqa: E402
+from gate_host.loop import MOST_IN_COMMENT  # noqa: E402
+from gate_host.places import Places  # noqa: E402
+from gate_host.setting_up import make_folders  # noqa: E402
 from stories import ENVIRONMENT  # noqa: E402
 
 PAGE = TOP / "docs/host.md"
@@ -91,7 +91,7 @@ class AskedTests(unittest.TestCase):
         named = [self.project] if repositories is None else repositories
         said = io.StringIO()
         stdin = io.TextIOWrapper(io.BytesIO(given), encoding="utf-8")
-        with mock.patch.dict(os.environ), mock.patch("os.execvpe", self.execute), mock.patch("commands.main", self.do_job), \
+        with mock.patch.dict(os.environ), mock.patch("os.execvpe", self.execute), mock.patch("gate_host.commands.main", self.do_job), \
                 mock.patch("sys.stdin", stdin), redirect_stderr(said):
             try:
                 status = ssh_command.serve(who, named, asked)
@@ -316,7 +316,7 @@ class AskedTests(unittest.TestCase):
     def test_what_is_shown_is_in_utf_8(self):
         """Whatever language the client has named."""
         shown = io.TextIOWrapper(io.BytesIO(), encoding="ascii")
-        with mock.patch.dict(os.environ), mock.patch("commands.main", lambda _: print("\u2713")), mock.patch("sys.stdout", shown):
+        with mock.patch.dict(os.environ), mock.patch("gate_host.commands.main", lambda _: print("\u2713")), mock.patch("sys.stdout", shown):
             ssh_command.serve("alice", [self.project], "queue")
             shown.flush()
         self.assertEqual(shown.buffer.getvalue().decode(), "\u2713\n")

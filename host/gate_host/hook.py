@@ -9,12 +9,14 @@ import sys
 from pathlib import Path
 from typing import Iterator, List, Tuple
 
-from places import Places, Trouble, person_here, pointed_to
-from settings import Settings, read_settings
-from spool import leave
+from .places import Places, Trouble, person_here, pointed_to
+from .settings import Settings, read_settings
+from .spool import leave
 
 MARK = "# Made by gate-host init."
-SCRIPT = Path(__file__).resolve().with_name("gate-host")
+HERE = Path(__file__).resolve().parent
+# What the hook runs: the file beside this package, or the package if it was installed without it.
+SCRIPT = HERE.with_name("gate-host") if HERE.with_name("gate-host").exists() else HERE / "__main__.py"
 CHANGE = re.compile(r"refs/heads/change/([1-9][0-9]{0,9})")
 LAST_CHANGE = 4294967295
 # A note may not be too long.

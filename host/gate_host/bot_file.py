@@ -4,8 +4,8 @@ import sqlite3
 from contextlib import closing, contextmanager
 from typing import Iterator
 
-from journal import Journal
-from places import Places, Trouble
+from .journal import Journal
+from .places import Places, Trouble
 
 # So many of the last answers are compared at each start of the bot.
 MOST_COMPARED = 200

@@ -8,15 +8,15 @@ import sys
 from pathlib import Path
 from typing import List, Optional
 
-from git import ask_git
-from hook import MARK, SCRIPT, hook_command, hook_text
-from inspection import findings, kind_of_repository, must_be_guarded, names_of_branches, settings_of_git
-from journal import Journal
-from loop import MOST_IN_SETTINGS, complain
-from places import Places, Trouble, is_open_to_others, make_identity, must_be_safe, name_of_user, person, pointed_to
-from repository import BRANCHES, Repository
-from settings import FIRST_ROLES, FIRST_SETTINGS, Settings, read_roles, read_settings, roles_in, settings_in
-from spool import leave
+from .git import ask_git
+from .hook import MARK, SCRIPT, hook_command, hook_text
+from .inspection import findings, kind_of_repository, must_be_guarded, names_of_branches, settings_of_git
+from .journal import Journal
+from .loop import MOST_IN_SETTINGS, complain
+from .places import Places, Trouble, is_open_to_others, make_identity, must_be_safe, name_of_user, person, pointed_to
+from .repository import BRANCHES, Repository
+from .settings import FIRST_ROLES, FIRST_SETTINGS, Settings, read_roles, read_settings, roles_in, settings_in
+from .spool import leave
 
 PROGRAM = SCRIPT.parent.parent / "crates/gate_bot/out/gate_bot"
 

@@ -9,9 +9,9 @@ import time
 from pathlib import Path
 from typing import Dict, List, Set
 
-from bot_file import copy_of_records
-from journal import Journal
-from places import Places
+from .bot_file import copy_of_records
+from .journal import Journal
+from .places import Places
 
 HEADING = "           batch branch  state     prio changes"
 BRANCHES = {1: "staging", 2: "trying"}

@@ -4,8 +4,8 @@ from dataclasses import dataclass
 from pathlib import Path
 from typing import Callable, Dict, Iterable, List, Mapping, Optional, Sequence
 
-from git import GitFailed, Ran, ask_git, make_mirror, make_window, run_git, settings_in_file
-from places import Places
+from .git import GitFailed, Ran, ask_git, make_mirror, make_window, run_git, settings_in_file
+from .places import Places
 
 SECONDS_FOR_MERGE = 600
 SECONDS_FOR_OBJECTS = 3600

@@ -5,7 +5,7 @@ from dataclasses import dataclass
 from pathlib import Path
 from typing import Dict, FrozenSet, Mapping, Tuple
 
-from places import Trouble, person, trusted_text
+from .places import Trouble, person, trusted_text
 
 ROLES = ("member", "reviewer")
 KEYS = {

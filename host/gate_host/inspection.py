@@ -5,11 +5,11 @@ from dataclasses import dataclass
 from pathlib import Path
 from typing import Dict, Iterator, List, Mapping
 
-from git import settings_in_file
-from hook import is_hook
-from places import Places, Trouble, pointed_to
-from repository import BRANCHES, Branch
-from settings import Settings
+from .git import settings_in_file
+from .hook import is_hook
+from .places import Places, Trouble, pointed_to
+from .repository import BRANCHES, Branch
+from .settings import Settings
 
 # Settings that name commands, or other places of objects. The host obeys none of them.
 COMMANDS = re.compile(

@@ -18,9 +18,9 @@ from dataclasses import dataclass
 from pathlib import Path
 from typing import Dict, FrozenSet, List, NoReturn, Optional, Sequence, Tuple, Union
 
-import places
-from loop import MOST_IN_COMMENT, complain
-from places import Trouble
+from . import places
+from .loop import MOST_IN_COMMENT, complain
+from .places import Trouble
 
 MOST_ASKED = 16384
 SERVICES = ("receive-pack", "upload-pack", "upload-archive")
@@ -220,7 +220,7 @@ def must_see_pushes(repository: Path) -> None:
 def run_job(wanted: Job, environment: Dict[str, str]) -> int:
     """Runs a job of gate-host in this process."""
     # Here and not above, since that file has this one among its parts.
-    from commands import main
+    from .commands import main
     os.environ.clear()
     os.environ.update(environment)
     for stream in (sys.stdout, sys.stderr):

@@ -10,8 +10,8 @@ from functools import lru_cache
 from pathlib import Path
 from typing import Dict, List, Mapping, Tuple
 
-from places import Places, Trouble
-from settings import Settings
+from .places import Places, Trouble
+from .settings import Settings
 
 # What of the system a check sees. It can't write there.
 OF_SYSTEM = ("/usr", "/bin", "/sbin", "/lib", "/lib32", "/lib64", "/libx32", "/etc", "/opt", "/nix")

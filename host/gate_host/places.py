@@ -9,7 +9,7 @@ from dataclasses import dataclass
 from pathlib import Path
 from typing import Optional, Tuple
 
-from git import ALONE, clean_environment
+from .git import ALONE, clean_environment
 
 NAME = re.compile(r"[A-Za-z0-9_.\[\]-]{1,64}")
 # A file of settings or roles is read up to this size.

@@ -8,17 +8,17 @@ from dataclasses import dataclass
 from pathlib import Path
 from typing import Iterator, List
 
-import words
-from bot_file import lacks_answers
-from hook import SCRIPT
-from inspection import findings
-from journal import Journal
-from marks import mark_is_strong
-from places import Places, Trouble, name_of_repository
-from repository import BRANCHES
-from sandbox import sandbox_of
-from setting_up import is_for_all, python_for_all
-from settings import Settings, read_roles, read_settings
+from . import words
+from .bot_file import lacks_answers
+from .hook import SCRIPT
+from .inspection import findings
+from .journal import Journal
+from .marks import mark_is_strong
+from .places import Places, Trouble, name_of_repository
+from .repository import BRANCHES
+from .sandbox import sandbox_of
+from .setting_up import is_for_all, python_for_all
+from .settings import Settings, read_roles, read_settings
 
 # A lock of git's that is older was left by a git that has died.
 SECONDS_OF_LOCK = 60

@@ -5,18 +5,18 @@ import re
 import sqlite3
 import sys
 from pathlib import Path
-from typing import List, Optional
+from typing import List, NoReturn, Optional
 
-import ssh_command
-from doctor import checks_of, stray_named
-from git import GitFailed
-from hook import before_push
-from loop import COMMAND_LINE, MOST_IN_COMMENT, Host, complain, is_locked
-from places import Places, Trouble, asked_of_git, find_places, must_be_safe, name_of_user, person_here, pointed_to
-from settings import read_settings
-from setting_up import PROGRAM, must_be_own, set_up
-from spool import leave
-from words import plain
+from . import ssh_command
+from .doctor import checks_of, stray_named
+from .git import GitFailed
+from .hook import before_push
+from .loop import COMMAND_LINE, MOST_IN_COMMENT, Host, complain, is_locked
+from .places import Places, Trouble, asked_of_git, find_places, must_be_safe, name_of_user, person_here, pointed_to
+from .settings import read_settings
+from .setting_up import PROGRAM, must_be_own, set_up
+from .spool import leave
+from .words import plain
 
 OUTPUT = re.compile(r"    output: ([0-9]+-[0-9]+-[A-Za-z0-9._-]+)")
 # A shorter beginning of the name of a commit says too little.
@@ -97,6 +97,12 @@ def add_jobs_of_people(jobs) -> None:
     job.add_argument("change", type=int, metavar="CHANGE")
     job.add_argument("--all", action="store_true", help="show the outputs of all its checks")
     add("hook", "what git runs before a push", "Looks at a push, whose updates stand on standard input. Git runs this.")
+
+
+def entry() -> NoReturn:
+    """The program `gate-host`, if it is installed as a package."""
+    sys.dont_write_bytecode = True
+    sys.exit(main(sys.argv[1:]))
 
 
 def main(words: List[str]) -> int:

@@ -28,8 +28,8 @@ from dataclasses import dataclass
 from itertools import islice
 from typing import Callable, Dict, Iterator, List, NamedTuple, Optional, Set, Tuple
 
-from marks import mark_of
-from places import Places, Trouble, name_of_repository, name_of_user, open_regular, person, read_up_to
+from .marks import mark_of
+from .places import Places, Trouble, name_of_repository, name_of_user, open_regular, person, read_up_to
 
 # The names that notes have: when they were left, and the first half of the hash of their text.
 NAME = re.compile(r"[0-9]{20}-[0-9a-f]{32}")

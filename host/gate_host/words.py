@@ -2,8 +2,8 @@
 import time
 from typing import List, Sequence
 
-from journal import Move
-from repository import listed
+from .journal import Move
+from .repository import listed
 
 DENIALS = {
     "UnknownChange": "this change was never opened",

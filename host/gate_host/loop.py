@@ -10,20 +10,20 @@ import time
 from itertools import count
 from typing import Callable, Container, Dict, List, Optional, Tuple
 
-import words
-from checks import Checks, Result
-from bot_file import has_file, lacks_answers
-from client import Bot, BotEnded
-from git import HELD, GitFailed
-from hook import LAST_CHANGE, change_in
-from inspection import blocking, findings, must_be_guarded
-from journal import Delivery, Journal, Move, Order, Test
-from places import Places, Trouble, must_be_safe, name_of_user
-from reports import Reports
-from repository import Branch, Merged, Repository, heads_of, listed
-from sandbox import sandbox_of
-from settings import read_roles, read_settings
-from spool import ROUNDS_FOR_ALL, Note, Spool
+from . import words
+from .checks import Checks, Result
+from .bot_file import has_file, lacks_answers
+from .client import Bot, BotEnded
+from .git import HELD, GitFailed
+from .hook import LAST_CHANGE, change_in
+from .inspection import blocking, findings, must_be_guarded
+from .journal import Delivery, Journal, Move, Order, Test
+from .places import Places, Trouble, must_be_safe, name_of_user
+from .reports import Reports
+from .repository import Branch, Merged, Repository, heads_of, listed
+from .sandbox import sandbox_of
+from .settings import read_roles, read_settings
+from .spool import ROUNDS_FOR_ALL, Note, Spool
 
 PAUSE_SECONDS = 0.1
 # After a note of a push the branch may still have to move. So long each pause ends with a look.

@@ -10,7 +10,7 @@ from dataclasses import dataclass
 from pathlib import Path
 from typing import Dict, Iterator, List, Optional, Tuple
 
-from places import Trouble
+from .places import Trouble
 
 VERSION = 2
 # A line that is handed in has at most so many bytes.

@@ -16,13 +16,13 @@ from dataclasses import dataclass, field
 from pathlib import Path
 from typing import Callable, Dict, List, Optional
 
-from check_runner import UNMADE
-from git import GitFailed, clean_environment
-from journal import Test
-from places import Places, Trouble
-from repository import Repository
-from sandbox import environment_within, look_again_for_hidden, sandbox_of, words_before
-from settings import Settings
+from .check_runner import UNMADE
+from .git import GitFailed, clean_environment
+from .journal import Test
+from .places import Places, Trouble
+from .repository import Repository
+from .sandbox import environment_within, look_again_for_hidden, sandbox_of, words_before
+from .settings import Settings
 
 RUNNER = Path(__file__).resolve().with_name("check_runner.py")
 # The outputs of so many checks are kept.

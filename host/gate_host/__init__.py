@@ -1,0 +1,1 @@
+"""gate-host: guards the main branch of a bare git repository with the bot `gate`."""
