@@ -16,8 +16,14 @@ from typing import List, Tuple
 # Of a longer output the beginning and the end are kept.
 MOST_AT_FRONT = 65536
 MOST_AT_END = 196608
-# The state of a check that bubblewrap couldn't run.
-UNMADE = "unmade"
+# How much of an output is told as the reason why bubblewrap couldn't run the check.
+MOST_IN_REASON = 300
+# The states of a check that has come to no verdict: bubblewrap couldn't run it, it was killed, or it or its output met a fault of the
+# system. None of them is that of a status.
+UNMADE, KILLED, UNRUN = NOBODYS = ("unmade", "killed", "unrun")
+# How a command ends that the kernel kills, as it does when memory is out. The second is what a shell and bubblewrap say then. A check
+# that ends so by itself can't be told from that.
+KILLS = (-signal.SIGKILL, 128 + signal.SIGKILL)
 
 
 class Output:
@@ -26,10 +32,12 @@ class Output:
     def __init__(self, path: str):
         self.file = open(path, "wb")
         self.front = 0
+        self.beginning = b""
         self.end = bytearray()
         self.dropped = 0
 
     def add(self, part: bytes) -> None:
+        self.beginning += part[:MOST_IN_REASON - len(self.beginning)]
         room = MOST_AT_FRONT - self.front
         self.file.write(part[:room])
         self.file.flush()
@@ -49,16 +57,17 @@ class Output:
 
 
 def run(seconds: float, output: Output, words: List[str]) -> Tuple[str, str]:
-    """Runs the command to its end, and gives the state of its status and how it ended. If bubblewrap couldn't make the sandbox, so that
-    nothing was run, the state is none of a status."""
+    """Runs the command to its end, and gives the state of its status and how it ended. If bubblewrap couldn't make the sandbox, nothing was
+    run, and the words are its own."""
     start = time.monotonic()
     told: List[int] = []
     if words[0] == "bwrap":
         # There it tells that the command has ended. It hands the file on to nothing that it runs.
         told = [os.memfd_create("sandbox")]
         words = ["bwrap", "--json-status-fd", str(told[0]), *words[1:]]
-    child = subprocess.Popen(words, stdin=subprocess.DEVNULL, stdout=subprocess.PIPE, stderr=subprocess.STDOUT, pass_fds=told)
-    pipe = child.stdout.fileno()
+    pipe, end = os.pipe()
+    child = subprocess.Popen(words, stdin=subprocess.DEVNULL, stdout=end, stderr=subprocess.STDOUT, pass_fds=told)
+    os.close(end)
     os.set_blocking(pipe, False)
     watched = [pipe, sys.stdin.fileno()]
     while child.poll() is None:
@@ -74,7 +83,9 @@ def run(seconds: float, output: Output, words: List[str]) -> Tuple[str, str]:
     read(pipe, output)
     took = f"after {time.monotonic() - start:.0f} seconds"
     if child.returncode == 1 and told and b"exit-code" not in os.pread(told[0], 65536, 0):
-        return UNMADE, "the sandbox couldn't be made"
+        return UNMADE, f"the sandbox couldn't be made: {' '.join(output.beginning.decode(errors='replace').split())}"
+    if child.returncode in KILLS:
+        return KILLED, f"it was killed {took}"
     if child.returncode < 0:
         return "error", f"it was ended by signal {-child.returncode} {took}"
     return ("success" if child.returncode == 0 else "failure"), f"it ended with status {child.returncode} {took}"
@@ -98,12 +109,12 @@ def main() -> None:
     # A check begins with none of these ignored, however the host was started.
     for number in (signal.SIGTERM, signal.SIGINT, signal.SIGHUP):
         signal.signal(number, signal.SIG_DFL)
-    output = Output(path)
     try:
+        output = Output(path)
         state, said = run(float(seconds), output, words)
+        output.close(said)
     except OSError as fault:
-        state, said = "error", f"it couldn't be run: {fault}"
-    output.close(said)
+        state, said = UNRUN, f"it couldn't be run: {fault}"
     print(json.dumps({"state": state, "said": said}), flush=True)
     os.killpg(0, signal.SIGKILL)
 

@@ -5,6 +5,7 @@ import subprocess
 import tempfile
 import time
 from pathlib import Path
+from typing import IO, Optional
 
 # The first answer comes when the bot has read its file, which takes time in its size.
 SECONDS_FOR_FIRST = 600
@@ -28,22 +29,26 @@ class Bot:
         except OSError as fault:
             self.said.close()
             raise BotEnded(f"{program} can't be started: {fault.strerror}") from fault
+        self.given, self.answers = piped(self.process.stdin), piped(self.process.stdout)
         self.seconds = SECONDS_FOR_FIRST
         self.rest = b""
 
     def hand_in(self, line: str) -> str:
         """Hands a delivery in, and gives the answer."""
+        left = line.encode() + b"\n"
         try:
-            self.process.stdin.write(line.encode() + b"\n")
+            # A signal may come when only a part is written.
+            while left:
+                left = left[self.given.write(left):]
         except OSError:
             raise self.ended() from None
         late = time.monotonic() + self.seconds
         while b"\n" not in self.rest:
-            ready, _, _ = select.select([self.process.stdout], [], [], max(0.0, late - time.monotonic()))
+            ready, _, _ = select.select([self.answers], [], [], max(0.0, late - time.monotonic()))
             if not ready:
                 self.process.kill()
                 raise BotEnded(f"the bot gave no answer for {self.seconds} seconds")
-            part = os.read(self.process.stdout.fileno(), 65536)
+            part = os.read(self.answers.fileno(), 65536)
             if not part:
                 raise self.ended()
             self.rest += part
@@ -64,11 +69,18 @@ class Bot:
 
     def close(self) -> None:
         """Ends the bot by the end of its input, which has it leave its file in order."""
-        self.process.stdin.close()
+        self.given.close()
         try:
             self.process.wait(60)
         except subprocess.TimeoutExpired:
             self.process.kill()
             self.process.wait()
-        self.process.stdout.close()
+        self.answers.close()
         self.said.close()
+
+
+def piped(stream: Optional[IO[bytes]]) -> IO[bytes]:
+    """A stream of a child that was started with a pipe there."""
+    if stream is None:
+        raise BotEnded("the bot was started without pipes")
+    return stream

@@ -8,15 +8,19 @@ from pathlib import Path
 from typing import List, NoReturn, Optional
 
 from . import ssh_command
+from .bare import run_host
 from .doctor import checks_of, stray_named
 from .git import GitFailed
 from .hook import before_push
-from .loop import COMMAND_LINE, MOST_IN_COMMENT, Host, complain, is_locked
-from .places import Places, Trouble, asked_of_git, find_places, must_be_safe, name_of_user, person_here, pointed_to
+from .core.notes import MOST_IN_COMMENT, AcceptanceLeft, CommentLeft, command_lines
+from .core.words import plain
+from .locks import is_locked
+from .troubles import complain
+from .faults import Trouble
+from .places import Places, asked_of_git, find_places, must_be_safe, name_of_user, person_here, pointed_to
 from .settings import read_settings
 from .setting_up import PROGRAM, must_be_own, set_up
 from .spool import leave
-from .words import plain
 
 OUTPUT = re.compile(r"    output: ([0-9]+-[0-9]+-[A-Za-z0-9._-]+)")
 # A shorter beginning of the name of a commit says too little.
@@ -45,7 +49,7 @@ def arguments_of(words: List[str]) -> argparse.Namespace:
     return parser.parse_args(words)
 
 
-def add_jobs_of_owner(jobs) -> None:
+def add_jobs_of_owner(jobs: "argparse._SubParsersAction[argparse.ArgumentParser]") -> None:
     job = jobs.add_parser("init", help="set a bare repository up: settings, roles, hook", description=(
         "Makes the folder gate in a bare repository that is yours, and its hook. If they are there, it adds the checks and people that are "
         "named, and leaves the rest as it is. If the main branch has no bors.toml, a commit adds one that names the checks."))
@@ -77,9 +81,9 @@ def add_jobs_of_owner(jobs) -> None:
     job.add_argument("repository", nargs="+", metavar="REPOSITORY")
 
 
-def add_jobs_of_people(jobs) -> None:
+def add_jobs_of_people(jobs: "argparse._SubParsersAction[argparse.ArgumentParser]") -> None:
     def add(name: str, what: str, more: str) -> argparse.ArgumentParser:
-        job = jobs.add_parser(name, help=what, description=more)
+        job: argparse.ArgumentParser = jobs.add_parser(name, help=what, description=more)
         job.add_argument("--repository", metavar="REPOSITORY", help="the bare repository; else it is the one of the folder you stand in")
         return job
 
@@ -144,11 +148,7 @@ def run(arguments: argparse.Namespace) -> int:
     must_read_tables()
     if os.geteuid() == 0:
         complain("this runs as root, and so does each check; better let a user of its own own the repository")
-    host = Host(places, arguments.again)
-    try:
-        host.run()
-    finally:
-        host.close()
+    run_host(places, arguments.again)
     return 0
 
 
@@ -159,7 +159,7 @@ def look_after(arguments: argparse.Namespace) -> int:
     must_be_safe(places)
     if arguments.accept:
         commit = stray_named(places, arguments.accept)
-        leave(places, {"kind": "accept", "person": name_of_user(os.geteuid()), "commit": commit})
+        leave(places, AcceptanceLeft(name_of_user(os.geteuid()), commit))
         print(f"the host takes it that the move to {commit} was right" + ("" if is_running(places) else ", when it runs again"))
         return 0
     checked = checks_of(places, is_locked(places))
@@ -195,9 +195,9 @@ def say(arguments: argparse.Namespace) -> int:
     seen = arguments.head or head_in_clone(arguments) or head
     if not is_beginning(seen.lower(), head):
         raise Trouble(f"change/{arguments.change} is at {head} now, and you have looked at {seen}; fetch it, and look again")
-    leave(places, {"kind": "comment", "person": who, "change": arguments.change, "text": text, "head": head})
+    leave(places, CommentLeft(who, arguments.change, text, head))
     print(f"said by {who} of change {arguments.change} of {places.repository} at {head}; gate-host log {arguments.change} shows the answer")
-    if not any(COMMAND_LINE.match(line) for line in text.split("\n")):
+    if not command_lines(text):
         complain("this has no command; a line that begins with bors is one, as in 'bors r+'")
     if not is_running(places):
         complain(f"no host runs at present, so this waits; the owner starts it by gate-host run {places.repository}")

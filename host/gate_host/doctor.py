@@ -8,13 +8,15 @@ from dataclasses import dataclass
 from pathlib import Path
 from typing import Iterator, List
 
-from . import words
 from .bot_file import lacks_answers
 from .hook import SCRIPT
 from .inspection import findings
 from .journal import Journal
+from .loop import time_of_day
 from .marks import mark_is_strong
-from .places import Places, Trouble, name_of_repository
+from .core.words import stray
+from .faults import Trouble
+from .places import Places, name_of_repository
 from .repository import BRANCHES
 from .sandbox import sandbox_of
 from .setting_up import is_for_all, python_for_all
@@ -86,9 +88,9 @@ def in_records(places: Places, is_running: bool) -> Iterator[Checked]:
     if not path.exists():
         yield Checked(True, "the host hasn't run yet, so there are no records")
         return
-    with closing(Journal(path)) as journal:
-        for move in journal.strays():
-            yield Checked(False, words.stray(move))
+    with closing(Journal(path, is_hosts=False)) as journal:
+        for move in journal.known().strays():
+            yield Checked(False, stray(time_of_day(move.at), move.before, move.target))
         if not is_running:
             try:
                 is_behind = bool(journal.count_answered()) and lacks_answers(places, journal)
@@ -103,8 +105,8 @@ def stray_named(places: Places, named: str) -> str:
     path = places.records / "journal.db"
     strays = []
     if path.exists():
-        with closing(Journal(path)) as journal:
-            strays = [move.target for move in journal.strays() if move.target.startswith(named)]
+        with closing(Journal(path, is_hosts=False)) as journal:
+            strays = [move.target for move in journal.known().strays() if move.target.startswith(named)]
     if len(set(strays)) != 1:
         raise Trouble(f"there is no move of the main branch to {named} that has to be accepted")
     return strays[0]

@@ -16,6 +16,8 @@ from dataclasses import dataclass
 from pathlib import Path
 from typing import Dict, List, Optional, Sequence
 
+from .faults import Unable
+
 SECONDS = 60
 
 # What git is never to find: settings of the system and of the user, replace objects, attributes of the system, objects elsewhere.
@@ -55,7 +57,7 @@ SETTINGS = """\
 """
 
 
-class GitFailed(Exception):
+class GitFailed(Unable):
     """A command of git that ended in a way that says nothing of the question, with its words."""
 
 
@@ -104,9 +106,11 @@ def run_git(
     return Ran(process.returncode, output.decode(errors="replace"), words_of(said))
 
 
-def ask_git(folder: Optional[Path], *arguments: str, **more) -> str:
+def ask_git(
+    folder: Optional[Path], *arguments: str, seconds: float = SECONDS, more: Optional[Dict[str, str]] = None, given: bytes = b"",
+) -> str:
     """What git writes. Any status but 0 is a failure."""
-    ran = run_git(folder, *arguments, **more)
+    ran = run_git(folder, *arguments, seconds=seconds, more=more, given=given)
     if ran.status != 0:
         raise GitFailed(f"git {arguments[0]} ended with status {ran.status}: {ran.said}")
     return ran.output

@@ -9,7 +9,9 @@ import sys
 from pathlib import Path
 from typing import Iterator, List, Tuple
 
-from .places import Places, Trouble, person_here, pointed_to
+from .core.notes import LAST_CHANGE, PushLeft
+from .faults import Trouble
+from .places import Places, person_here, pointed_to
 from .settings import Settings, read_settings
 from .spool import leave
 
@@ -18,7 +20,6 @@ HERE = Path(__file__).resolve().parent
 # What the hook runs: the file beside this package, or the package if it was installed without it.
 SCRIPT = HERE.with_name("gate-host") if HERE.with_name("gate-host").exists() else HERE / "__main__.py"
 CHANGE = re.compile(r"refs/heads/change/([1-9][0-9]{0,9})")
-LAST_CHANGE = 4294967295
 # A note may not be too long.
 MOST_IN_NOTE = 300
 BRANCHES = "refs/heads/"
@@ -87,8 +88,12 @@ def complaints_of(update: Update, pusher: str, places: Places, settings: Setting
     if branch.startswith("refs/gate/"):
         yield f"{branch} has a name that is the host's"
     # What else shouldn't be there may be taken away.
-    if is_nothing(after):
-        return
+    if not is_nothing(after):
+        yield from complaints_of_name(branch, settings)
+
+
+def complaints_of_name(branch: str, settings: Settings) -> Iterator[str]:
+    """Why there may be no reference of this name, if so."""
     for name in (settings.main, settings.staging, settings.trying):
         if branch.startswith(f"{BRANCHES}{name}/") or f"{BRANCHES}{name}".startswith(f"{branch}/"):
             yield f"{branch} would be in the way of the branch {name}"
@@ -102,17 +107,21 @@ def tell_of(updates: List[Update], places: Places) -> None:
     """Leaves notes of the heads that are pushed, and of moves of the main branch. A note without any has the
     host look at the branches."""
     person = person_here(places.owner)
-    heads = [[change_in(branch), after] for _, after, branch in updates if change_in(branch) and not is_nothing(after)]
+    heads = tuple((change_in(branch), after) for _, after, branch in updates if change_in(branch) and not is_nothing(after))
     main = BRANCHES + read_settings(places.settings, places.owner).main
-    moves = [[before, after] for before, after, branch in updates if branch == main]
+    moves = tuple((before, after) for before, after, branch in updates if branch == main)
     for start in range(0, max(1, len(heads)), MOST_IN_NOTE):
-        leave(places, {"kind": "push", "person": person, "heads": heads[start:start + MOST_IN_NOTE], "moves": moves})
+        leave(places, PushLeft(person, heads[start:start + MOST_IN_NOTE], moves))
 
 
 def updates_in(given: bytes) -> List[Update]:
     """The updates that git tells, one on each line. A name of a branch may have characters that end lines elsewhere."""
-    lines = given.decode(errors="replace").split("\n")
-    return [tuple(line.split(" ", 2)) for line in lines if line]
+    return [update_in(line) for line in given.decode(errors="replace").split("\n") if line]
+
+
+def update_in(line: str) -> Update:
+    before, after, branch = line.split(" ", 2)
+    return before, after, branch
 
 
 def before_push(places: Places) -> int:

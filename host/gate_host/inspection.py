@@ -7,7 +7,8 @@ from typing import Dict, Iterator, List, Mapping
 
 from .git import settings_in_file
 from .hook import is_hook
-from .places import Places, Trouble, pointed_to
+from .faults import Trouble
+from .places import Places, pointed_to
 from .repository import BRANCHES, Branch
 from .settings import Settings
 

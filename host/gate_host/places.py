@@ -7,8 +7,9 @@ import stat
 import subprocess
 from dataclasses import dataclass
 from pathlib import Path
-from typing import Optional, Tuple
+from typing import Optional, Tuple, Union
 
+from .faults import Trouble
 from .git import ALONE, clean_environment
 
 NAME = re.compile(r"[A-Za-z0-9_.\[\]-]{1,64}")
@@ -17,10 +18,6 @@ MOST_BYTES = 65536
 # A reference of git's has a commit or the name of another one, with `ref: ` before it.
 COMMIT = re.compile(r"[0-9a-f]{40}")
 IDENTITY = re.compile(r"[0-9a-f]{32}")
-
-
-class Trouble(Exception):
-    """What keeps a command from being done, in words for its user."""
 
 
 @dataclass(frozen=True)
@@ -118,7 +115,7 @@ def person_here(owner: int) -> Optional[str]:
     return name_of_user(user)
 
 
-def open_regular(path, folder: Optional[int] = None) -> int:
+def open_regular(path: Union[str, Path], folder: Optional[int] = None) -> int:
     """Opens a file for reading, without following a link and without waiting for what is no file."""
     return os.open(path, os.O_RDONLY | os.O_NOFOLLOW | os.O_NONBLOCK | os.O_CLOEXEC, dir_fd=folder)
 

@@ -1,62 +1,45 @@
 """The reports: files that everybody may read, also while no host runs.
 
-The queue and the changes are those of the bot's own file, which docs/formats.md describes. The bot keeps that file locked, so a copy of it
-is read. The copy is made while the bot has nothing to do, since the host alone gives it work. So it is whole, and of one moment.
+The queue and the changes are texts of the bot, byte for byte. Since the bot that decides gives answers and no reports, a second one runs
+beside it for that, over a copy of its file. It is handed in what was answered when a report is due. If it is lost, it is made again.
 """
 import os
+import shutil
 import sqlite3
+import tempfile
 import time
 from pathlib import Path
-from typing import Dict, List, Set
+from typing import Callable, Collection, Dict, List, Optional, Sequence, Set, Tuple
 
-from .bot_file import copy_of_records
+from .bot_file import copy_up_to_date, has_file
+from .core.deliveries import Delivery
+from .core.words import plain
+from .faults import Trouble
 from .journal import Journal
 from .places import Places
+from .report_bot import NoReport, ReportBot
 
-HEADING = "           batch branch  state     prio changes"
-BRANCHES = {1: "staging", 2: "trying"}
-STATES = {1: "waiting", 2: "ordered", 3: "staged", 4: "landing"}
-PHASES = {1: "open", 2: "closed", 3: "landed"}
-LABEL, REVIEW, DELEGATE, APPROVER = 1, 2, 3, 4
-
-IN_ORDER_OF_SERVICE = """SELECT number, branch, phase, priority FROM batches
-ORDER BY branch, phase = 1, priority DESC, again DESC, number"""
-
-
-def queue_text(bot: sqlite3.Connection) -> str:
-    """The report of the queue, as `gate report` prints it."""
-    base, clock = bot.execute("SELECT base, clock FROM desk").fetchone()
-    members: Dict[int, List[str]] = {}
-    for batch, change in bot.execute("SELECT batch, change_no FROM members ORDER BY batch, place"):
-        members.setdefault(batch, []).append(str(change))
-    lines = [f"base {base or 'none'}", f"clock {clock}", HEADING]
-    for number, branch, phase, priority in bot.execute(IN_ORDER_OF_SERVICE):
-        changes = ",".join(members[number])
-        lines.append(f"{number:>16} {BRANCHES[branch]:<7} {STATES[phase]:<8} {priority:>5} {changes}")
-    return "".join(f"{line}\n" for line in lines)
+# The folders with a copy of the bot's file begin so.
+COPY = "reports-"
+# How long a refresh waits for a bot that starts. If it takes longer, a later one goes on.
+SECONDS_OF_STARTING = 0.3
+# So long after a start comes the next one at the earliest, and twice as long with each that comes soon after another. So whoever keeps the
+# bot for reports from answering keeps the host from its work for two seconds of each minute, and no longer.
+PAUSE = 2.0
+MOST_PAUSE = 60.0
+SOON = 120.0
+# So long a refresh goes on to hand in what was answered.
+SECONDS_OF_HANDING_IN = 1.0
+# So long a refresh goes on to ask for changes. The others come with the next ones, so that many of them hold nobody up.
+SECONDS_OF_ASKING = 0.05
+# The base, the clock and the heading. Below them is a line for each batch.
+LINES_WITHOUT_BATCH = 3
+# The file that has the identifier of the delivery up to which all is written, and what names the start of the system by then.
+MARK = ".written-up-to"
+BOOT = Path("/proc/sys/kernel/random/boot_id")
 
 
-def change_texts(bot: sqlite3.Connection) -> Dict[int, str]:
-    """The report of each change, as the program gives it."""
-    tried = {change for change, in bot.execute("SELECT change_no FROM members JOIN batches ON batch = number WHERE branch = 2")}
-    marks: Dict[tuple, List[str]] = {}
-    for change, kind, word in bot.execute("SELECT change_no, kind, word FROM marks WHERE kind <= 4 ORDER BY place, word"):
-        marks.setdefault((change, kind), []).append(word)
-    texts = {}
-    for number, author, head, phase, priority in bot.execute("SELECT number, author, head, phase, priority FROM changes"):
-        def names(kind: int, of: int = number) -> str:
-            return ", ".join(marks.get((of, kind), [])) or "-"
-
-        rows = [
-            ("change", number), ("author", author), ("head", head), ("state", PHASES[phase]), ("priority", priority),
-            ("labels", names(LABEL)), ("reviews", names(REVIEW)), ("delegates", names(DELEGATE)), ("approved", names(APPROVER)),
-            ("trying", "yes" if number in tried else "no"),
-        ]
-        texts[number] = "".join(f"{word:<10}{value}\n" for word, value in rows)
-    return texts
-
-
-def log_text(told: List[tuple]) -> str:
+def log_text(told: Sequence[Tuple[int, str]]) -> str:
     """What people were told of a change, each with its time."""
     lines = []
     for at, text in told:
@@ -69,7 +52,7 @@ def log_text(told: List[tuple]) -> str:
 def write(path: Path, text: str) -> None:
     """Puts a text in place of a file at once, for everybody to read."""
     part = path.with_name(f".{path.name}")
-    part.write_text(text, encoding="utf-8")
+    part.write_bytes(text.encode())
     part.chmod(0o644)
     os.replace(part, path)
 
@@ -77,28 +60,183 @@ def write(path: Path, text: str) -> None:
 class Reports:
     """The files of reports, and whether something waits in the queue."""
 
-    def __init__(self, places: Places, journal: Journal):
+    def __init__(self, places: Places, journal: Journal, complain: Callable[[str], None]):
         self.places = places
         self.journal = journal
-        self.written: Dict[str, str] = {}
+        self.complain = complain
         self.whole_logs: Set[int] = set()
-        self.is_waiting = True
+        self.bot: Optional[ReportBot] = None
+        self.folder: Optional[Path] = None
+        # When the last start was, how long the pause after it is, and when the next one may come.
+        self.last_start, self.pause, self.next_start = -SOON, PAUSE, 0.0
+        # The last report of the queue, whether it is the one of the bot that runs, and what that hasn't been handed in yet.
+        self.queue: Optional[str] = None
+        self.is_known = False
+        self.lines: List[str] = []
+        # Why the bot for reports is lost, or why the files can't be written. Each is complained of once, and forgotten when all is well.
+        self.lost = self.unwritten = ""
+        self.next_write = 0.0
+        # The changes whose reports may be old. The one that was noted last is asked for first.
+        self.due: Dict[int, None] = {}
+        # The identifier of the last delivery that was answered, and the mark as it was written last.
+        self.last = self.marked = ""
+        self.boot = boot()
+        # Up to which delivery a host of before has written all; whether that one was noted, or all that was answered before.
+        self.written = self.written_up_to()
+        self.is_behind_mark = self.has_begun = False
 
-    def refresh(self, remarks: List[str]) -> None:
-        """Writes what has changed."""
-        with copy_of_records(self.places) as bot:
-            queue, changes = queue_text(bot), change_texts(bot)
-            self.is_waiting = bool(bot.execute("SELECT count(*) FROM batches").fetchone()[0])
-        self.put("queue", queue + "".join(f"\n{remark}" for remark in remarks) + "\n" * bool(remarks))
-        for number, text in changes.items():
-            self.put(f"change-{number}", text)
-        self.write_logs()
+    # What the loop asks and tells
+
+    def begin(self, changes: Collection[int]) -> None:
+        """Begins, when all has been noted that was answered before. The files of these changes may be old: those that aren't there, and
+        those of the deliveries behind the mark. That may be each if the system was started anew, since what wasn't on the disk is lost
+        then; or if the journal is older than the mark, as a copy that was put back."""
+        for left in self.places.records.glob(f"{COPY}*"):
+            shutil.rmtree(left, ignore_errors=True)
+        old = list(changes)
+        if self.is_behind_mark:
+            with os.scandir(self.places.reports) as files:
+                there = {it.name for it in files if it.stat(follow_symlinks=False).st_size}
+            old = [change for change in changes if f"change-{change}" not in there]
+        self.due = {**dict.fromkeys(old), **self.due}
+        self.has_begun = True
+
+    def note(self, delivery: Delivery, changes: Sequence[int]) -> None:
+        """Takes note of a delivery that was answered, and of the changes whose reports it may have altered."""
+        self.last = delivery.id
+        # A bot that starts later begins with a copy that has it.
+        if self.bot:
+            self.lines.append(delivery.line)
+        for change in changes if self.has_begun or self.is_behind_mark else ():
+            self.due.pop(change, None)
+            self.due[change] = None
+        self.is_behind_mark = self.is_behind_mark or delivery.id == self.written
+
+    @property
+    def is_waiting(self) -> bool:
+        """Whether something waits in the queue. If that isn't known, it may."""
+        return not self.is_known or bool(self.lines) or self.queue is None or self.queue.count("\n") > LINES_WITHOUT_BATCH
+
+    @property
+    def is_behind(self) -> bool:
+        """Whether a refresh has something to do that was left by the last one."""
+        is_left = not self.is_known or self.lines or self.due or self.unwritten
+        return bool(is_left) and time.monotonic() >= max(self.next_write, 0.0 if self.bot else self.next_start)
+
+    def refresh(self, program: str, remarks: Sequence[str]) -> None:
+        """Writes what has changed. What can't be written now is left for a later call."""
+        texts: Dict[int, str] = {}
+        try:
+            texts = self.asked(program)
+        except (NoReport, OSError) as fault:
+            self.lose(f"{fault}; it is started again, and the reports may be old until then")
+        try:
+            self.write_files(texts, remarks)
+            self.write_logs()
+            self.unwritten = ""
+        except (OSError, sqlite3.Error) as fault:
+            self.next_write = time.monotonic() + PAUSE
+            why = f"the reports can't be written: {fault}"
+            if why != self.unwritten:
+                self.complain(why)
+            self.unwritten = why
+
+    def close(self) -> None:
+        """Ends the bot for reports."""
+        self.is_known = False
+        self.lines.clear()
+        if self.bot:
+            self.bot.close()
+        if self.folder:
+            shutil.rmtree(self.folder, ignore_errors=True)
+        self.bot = self.folder = None
+
+    # The bot for reports
+
+    def asked(self, program: str) -> Dict[int, str]:
+        """The reports of changes that are due, as many as there is time for. The queue comes first. A change that was never opened has an
+        empty one."""
+        bot = self.running_bot(program)
+        if bot is None:
+            return {}
+        late = time.monotonic() + SECONDS_OF_HANDING_IN
+        while self.lines:
+            if time.monotonic() > late:
+                return {}
+            bot.hand_in(self.lines[0])
+            del self.lines[0]
+        self.queue = bot.queue()
+        texts: Dict[int, str] = {}
+        late = time.monotonic() + SECONDS_OF_ASKING
+        for change in reversed(list(self.due)):
+            texts[change] = bot.change(change) or ""
+            if time.monotonic() > late:
+                break
+        self.is_known, self.lost = True, ""
+        return texts
+
+    def running_bot(self, program: str) -> Optional[ReportBot]:
+        """The bot for reports, or none as long as it can't be asked."""
+        seconds = 0.0
+        if self.bot is None and has_file(self.places) and time.monotonic() >= self.next_start:
+            seconds = SECONDS_OF_STARTING
+            self.start(program)
+        return self.bot if self.bot and self.bot.is_ready(seconds) else None
+
+    def start(self, program: str) -> None:
+        """Starts a bot for reports over a new copy, which has all that was answered. If the bot's file hasn't, it is filled when the next
+        delivery is handed in; and what is wrong with the file is told then."""
+        now = time.monotonic()
+        self.pause = min(MOST_PAUSE, 2 * self.pause) if now < self.last_start + SOON else PAUSE
+        self.last_start, self.next_start = now, now + self.pause
+        try:
+            folder = self.folder = Path(tempfile.mkdtemp(prefix=COPY, dir=self.places.records))
+            is_up_to_date = copy_up_to_date(self.places, self.journal, folder)
+        except Trouble:
+            is_up_to_date = False
+        except (OSError, sqlite3.Error) as fault:
+            raise NoReport(f"the bot for reports gets no copy of {self.places.bot}: {fault}") from fault
+        if is_up_to_date:
+            self.bot = ReportBot(program, folder)
+        else:
+            self.close()
+
+    def lose(self, why: str) -> None:
+        """Gives the bot for reports up. What it was told is lost without harm: the next one begins with a copy that has it."""
+        self.close()
+        if why != self.lost:
+            self.complain(why)
+        self.lost = why
+
+    # The files
+
+    def write_files(self, texts: Dict[int, str], remarks: Sequence[str]) -> None:
+        """Writes the queue and these changes. When none is left, the mark says so."""
+        if self.queue is not None:
+            below = [*remarks, *([f"trouble: {plain(self.lost)}"] if self.lost else [])]
+            self.put("queue", self.queue + "".join(f"\n{remark}" for remark in below) + "\n" * bool(below))
+        for change, text in texts.items():
+            if text:
+                self.put(f"change-{change}", text)
+            self.due.pop(change, None)
+        mark = f"{self.last} {self.boot}\n"
+        if self.is_known and not self.due and mark != self.marked:
+            write(self.places.reports / MARK, mark)
+            self.marked = mark
+
+    def written_up_to(self) -> str:
+        """The delivery up to which a host of before has written all, since the system was started; or none if that isn't known."""
+        try:
+            last, started = (self.places.reports / MARK).read_text(encoding="utf-8").split()
+            return last if started == self.boot else ""
+        except (OSError, ValueError):
+            return ""
 
     def write_logs(self) -> None:
         """Writes at the end of each log what was told since. What was written right before a start may not be whole, so the first time a
         log is written anew."""
         last = self.journal.count_told()
-        written = int(self.journal.fact("log written up to") or 0)
+        written = int(self.journal.mark("log written up to") or 0)
         for change in self.journal.told_since(written):
             path = self.places.reports / f"log-{change}"
             is_whole = change in self.whole_logs and path.exists()
@@ -112,13 +250,18 @@ class Reports:
             self.whole_logs.add(change)
         if last > written:
             with self.journal.step():
-                self.journal.set_fact("log written up to", str(last))
+                self.journal.set_mark("log written up to", str(last))
 
     def put(self, name: str, text: str) -> None:
         """Writes a report, unless its file has this text."""
-        if self.written.get(name) == text:
-            return
         path = self.places.reports / name
-        if not path.exists() or path.read_text(encoding="utf-8") != text:
+        if not path.exists() or path.read_bytes() != text.encode():
             write(path, text)
-        self.written[name] = text
+
+
+def boot() -> str:
+    """What names this start of the system."""
+    try:
+        return BOOT.read_text(encoding="utf-8").strip()
+    except OSError:
+        return ""

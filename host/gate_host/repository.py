@@ -2,9 +2,10 @@
 import fcntl
 from dataclasses import dataclass
 from pathlib import Path
-from typing import Callable, Dict, Iterable, List, Mapping, Optional, Sequence
+from typing import Callable, Dict, Iterable, Mapping, Optional, Sequence
 
-from .git import GitFailed, Ran, ask_git, make_mirror, make_window, run_git, settings_in_file
+from .core.orders import Land, Stage
+from .git import SECONDS, GitFailed, Ran, ask_git, make_mirror, make_window, run_git, settings_in_file
 from .places import Places
 
 SECONDS_FOR_MERGE = 600
@@ -13,6 +14,8 @@ SECONDS_FOR_OBJECTS = 3600
 MOST_LOOSE = 5000
 MOST_PACKS = 50
 BRANCHES = "refs/heads/"
+# What files take on a disk are whole blocks of so many bytes.
+BLOCK = 4096
 # Under these names the mirror keeps what it has fetched, and the guarded repository what stood on a branch that the host took.
 FETCHED = "refs/gate/"
 KEPT = "refs/gate/kept/"
@@ -23,7 +26,7 @@ class Merged:
     """What came of an order to stage: a commit, or which change doesn't merge, and why."""
 
     commit: Optional[str] = None
-    conflicting: Optional[int] = None
+    conflicting: int = 0
     why: str = ""
 
 
@@ -48,9 +51,11 @@ class Repository:
         make_mirror(self.mirror)
         make_window(self.window, places.repository, logs_of(settings), shared_by(settings), places.is_shared())
 
-    def ask(self, *arguments: str, **more) -> str:
+    def ask(
+        self, *arguments: str, seconds: float = SECONDS, more: Optional[Dict[str, str]] = None, given: bytes = b"",
+    ) -> str:
         """What git writes of the mirror."""
-        return ask_git(self.mirror, *arguments, **more)
+        return ask_git(self.mirror, *arguments, seconds=seconds, more=more, given=given)
 
     # Branches of the guarded repository
 
@@ -101,6 +106,10 @@ class Repository:
         if lines:
             self.ask("update-ref", "--stdin", given=lines.encode())
 
+    def keep(self, name: str, commit: str) -> None:
+        """Keeps a commit of the mirror under a name."""
+        self.ask("update-ref", FETCHED + name, commit)
+
     def must_have(self, name: str, commit: str) -> None:
         """Has a commit in the mirror. One that can't come is no conflict."""
         for why in self.fetch({name: commit}).values():
@@ -130,13 +139,13 @@ class Repository:
 
     # Merges
 
-    def merge_batch(self, order: dict, now: int) -> Merged:
+    def merge_batch(self, stage: Stage, now: int) -> Merged:
         """Makes one commit, whose parents are the base and the heads. If it is done again, it is the same commit."""
-        base, commit, parents = order["base"], order["base"], ["-p", order["base"]]
-        message = f"Batch {order['batch']}: " + ", ".join(f"change {change}" for change, _ in order["heads"])
+        base, commit, parents = stage.base, stage.base, ["-p", stage.base]
+        message = f"Batch {stage.batch}: " + ", ".join(f"change {change}" for change in stage.changes)
         dates = {"GIT_AUTHOR_DATE": f"@{now} +0000", "GIT_COMMITTER_DATE": f"@{now} +0000"}
         self.must_have("main", base)
-        for change, head in order["heads"]:
+        for change, head in stage.heads:
             self.must_have(f"change/{change}", head)
             found = self.merge(commit, head)
             if found.commit is None:
@@ -176,7 +185,7 @@ class Repository:
         another name, which is given."""
         branch = self.staged_on[name]
         self.must_be_one(branch)
-        self.ask("update-ref", f"{FETCHED}staged/{name}", commit)
+        self.keep(f"staged/{name}", commit)
         kept = None
         if before and before != commit and not is_own:
             kept = f"{KEPT}{name}/{before}"
@@ -193,7 +202,7 @@ class Repository:
         if found and found.of:
             raise GitFailed(f"{branch} is another name of {found.of}")
 
-    def land(self, order: dict) -> bool:
+    def land(self, order: Land) -> bool:
         """Moves the main branch if it is at exactly the base. True if the commit is on it then, as it may be since before; and false only
         if it never comes there by this order: no git of ours runs, and the branch is at neither of the two.
 
@@ -204,19 +213,19 @@ class Repository:
             except OSError:
                 raise GitFailed(f"a git that was started before may still move {self.main}; it has {lock.name} open") from None
             self.must_be_one(self.main)
-            ran = self.push(order["commit"], self.main, order["base"], [lock.fileno()])
+            ran = self.push(order.commit, self.main, order.base, [lock.fileno()])
         now = self.branches().get(self.main)
-        if now == order["commit"]:
+        if now == order.commit:
             return True
-        if now == order["base"]:
+        if now == order.base:
             raise GitFailed(f"{self.main} can't be moved: {reason_in(ran)}")
         if now is None:
             return False
         self.must_have("main", now)
-        if run_git(self.mirror, "cat-file", "-e", order["commit"]).status != 0:
+        if run_git(self.mirror, "cat-file", "-e", order.commit).status != 0:
             # All that belongs to the branch is here, and the commit isn't.
             return False
-        looked = run_git(self.mirror, "merge-base", "--is-ancestor", order["commit"], now)
+        looked = run_git(self.mirror, "merge-base", "--is-ancestor", order.commit, now)
         if looked.status not in (0, 1):
             raise GitFailed(f"git merge-base: {looked.said}")
         return looked.status == 0
@@ -256,6 +265,13 @@ class Repository:
         ran = run_git(path / ".git", "checkout", "--quiet", "--detach", commit, more=work, seconds=seconds)
         return None if ran.status == 0 else ran.said or "git says no more"
 
+    def room_for(self, commit: str) -> int:
+        """How many bytes the files of a commit take on a disk, about and at the most: each takes whole blocks, and one for its name. It is
+        0 if that can't be told."""
+        ran = run_git(self.mirror, "ls-tree", "-r", "-z", "--format=%(objectsize)", commit)
+        sizes = ran.output.split("\0") if ran.status == 0 else []
+        return sum((int(size) // BLOCK + 2) * BLOCK for size in sizes if size.isdigit())
+
 
 def logs_of(settings: Mapping[str, str]) -> str:
     """Whether the moves of branches are logged in the guarded repository, as its own setting says."""
@@ -274,12 +290,3 @@ def reason_in(ran: Ran) -> str:
     """Why a push moved nothing: what git said, or the line about the branch."""
     lines = [line for line in ran.output.split("\n") if line.startswith("!")]
     return "; ".join(filter(None, [ran.said, *(" ".join(line.split()) for line in lines)])) or f"git ended with status {ran.status}"
-
-
-def heads_of(order: dict) -> List[int]:
-    return [change for change, _ in order["heads"]]
-
-
-def listed(changes: Sequence[int]) -> str:
-    """The numbers of changes, in words."""
-    return ("change " if len(changes) == 1 else "changes ") + ", ".join(map(str, changes))

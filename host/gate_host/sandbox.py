@@ -10,7 +10,8 @@ from functools import lru_cache
 from pathlib import Path
 from typing import Dict, List, Mapping, Tuple
 
-from .places import Places, Trouble
+from .faults import Trouble
+from .places import Places
 from .settings import Settings
 
 # What of the system a check sees. It can't write there.
@@ -109,9 +110,12 @@ def hidden_files() -> List[Tuple[str, bool]]:
     return [(path, is_folder) for path, is_folder in HIDDEN if os.path.lexists(path)]
 
 
-def look_again_for_hidden() -> None:
-    """Has what is hidden be looked for at the next check: something of it may be another thing by now."""
+def look_again() -> None:
+    """Has what is hidden be looked for at the next check: something of it may be another thing by now. A bubblewrap that couldn't be used
+    is tried again. One that could isn't: checks in the sandbox never come to run without."""
     HIDDEN_UNTIL[0] = 0.0
+    if why_not():
+        why_not.cache_clear()
 
 
 def unreadable_in(folder: str, is_needed: bool = False) -> List[Tuple[str, bool]]:

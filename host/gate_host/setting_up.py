@@ -5,15 +5,19 @@ import shlex
 import stat
 import subprocess
 import sys
+from contextlib import closing
 from pathlib import Path
-from typing import List, Optional
+from typing import List, Optional, Set
 
 from .git import ask_git
 from .hook import MARK, SCRIPT, hook_command, hook_text
 from .inspection import findings, kind_of_repository, must_be_guarded, names_of_branches, settings_of_git
 from .journal import Journal
-from .loop import MOST_IN_SETTINGS, complain
-from .places import Places, Trouble, is_open_to_others, make_identity, must_be_safe, name_of_user, person, pointed_to
+from .core.notes import PushLeft
+from .core.words import MOST_IN_SETTINGS
+from .faults import Trouble
+from .troubles import complain
+from .places import Places, is_open_to_others, make_identity, must_be_safe, name_of_user, person, pointed_to
 from .repository import BRANCHES, Repository
 from .settings import FIRST_ROLES, FIRST_SETTINGS, Settings, read_roles, read_settings, roles_in, settings_in
 from .spool import leave
@@ -214,14 +218,21 @@ def write_hook(repository: Path) -> None:
 def others_branches(places: Places, settings: Settings) -> List[str]:
     """The branches with the names of the host's on which somebody else has put something."""
     found = []
-    journal = Journal(places.records / "journal.db") if (places.records / "journal.db").exists() else None
+    made = commits_made(places)
     for name in (settings.staging, settings.trying):
         commit, _ = pointed_to(places.repository, BRANCHES + name)
-        if commit and not (journal and journal.has_made(commit)):
+        if commit and commit not in made:
             found.append(name)
-    if journal:
-        journal.close()
     return found
+
+
+def commits_made(places: Places) -> Set[str]:
+    """The commits that the host has made."""
+    path = places.records / "journal.db"
+    if not path.exists():
+        return set()
+    with closing(Journal(path, is_hosts=False)) as journal:
+        return journal.known().made
 
 
 def must_be_free(places: Places, settings: Settings, is_taken: bool) -> None:
@@ -259,7 +270,7 @@ def add_settings_of_bot(guarded: Repository, places: Places, settings: Settings)
     else:
         text = f"# Each of these has to succeed before something lands.\nstatus = [{', '.join(quoted(name) for name in settings.checks)}]\n"
         made = guarded.commit_with("bors.toml", text, commit)
-        leave(places, {"kind": "push", "person": name_of_user(os.geteuid()), "heads": [], "moves": [[commit, made]] if commit else []})
+        leave(places, PushLeft(name_of_user(os.geteuid()), moves=((commit, made),) if commit else ()))
         guarded.move_main(made, commit)
         print(f"A commit adds bors.toml, which names them, to the branch {settings.main}.")
 

@@ -5,12 +5,13 @@ from dataclasses import dataclass
 from pathlib import Path
 from typing import Dict, FrozenSet, Mapping, Tuple
 
-from .places import Trouble, person, trusted_text
+from .faults import Trouble
+from .places import person, trusted_text
 
 ROLES = ("member", "reviewer")
 KEYS = {
-    "main", "program", "tick_seconds", "look_seconds", "check_seconds", "may_push", "staging", "trying", "sandbox", "sandbox_network",
-    "sandbox_reads", "sandbox_writes",
+    "main", "program", "tick_seconds", "look_seconds", "check_seconds", "retry_seconds", "parallel", "may_push", "staging", "trying",
+    "sandbox", "sandbox_network", "sandbox_reads", "sandbox_writes",
 }
 
 # Names that git takes for branches, without those that its commands read in another way.
@@ -40,6 +41,14 @@ look_seconds = 1
 # How long a check may take.
 check_seconds = 3600
 
+# How long the host waits before it runs a check again that came to no verdict by a fault of the host: it was killed, its clone or its
+# sandbox couldn't be made, or the disk is full. Each pause is twice as long as the one before, up to a minute. A check that was tried five
+# times fails with the reason; but while the disk is full it goes on being tried.
+retry_seconds = 5
+
+# Whether the checks of one commit run side by side: yes or no. Then each has a clone of its own, and finds nothing that another one made.
+parallel = no
+
 # Who may push to the main branch past the queue: names with spaces between them.
 may_push = {may_push}
 
@@ -55,7 +64,7 @@ sandbox_reads =
 sandbox_writes =
 
 # Each check is a command, by the name that bors.toml has under `status`. The shell runs it in a clone of the commit that is tested.
-# They run as the owner of the repository, one after the other in the same clone.
+# They run as the owner of the repository, and one after the other in the same clone, unless `parallel` is yes.
 [checks]
 {checks}"""
 
@@ -74,6 +83,9 @@ class Settings:
     tick_seconds: float
     look_seconds: float
     check_seconds: float
+    # How long the first pause is before a check is run again that came to no verdict, and whether checks run side by side.
+    retry_seconds: float
+    parallel: bool
     may_push: FrozenSet[str]
     staging: str
     trying: str
@@ -123,11 +135,16 @@ def paths_in(table: Mapping[str, str], key: str) -> Tuple[str, ...]:
     return paths
 
 
+class Reader(configparser.ConfigParser):
+    """A reader of settings. Names of checks are compared as they stand."""
+
+    def optionxform(self, optionstr: str) -> str:
+        return optionstr
+
+
 def settings_in(text: str) -> Settings:
     """Reads the text of a file of settings."""
-    parser = configparser.ConfigParser(delimiters=("=",), interpolation=None, empty_lines_in_values=False)
-    # Names of checks are compared as they stand.
-    parser.optionxform = str
+    parser = Reader(delimiters=("=",), interpolation=None, empty_lines_in_values=False)
     try:
         parser.read_string(text)
     except configparser.Error as fault:
@@ -148,6 +165,7 @@ def settings_in(text: str) -> Settings:
     return Settings(
         main=main, program=host["program"], tick_seconds=seconds_in(host, "tick_seconds", "10"),
         look_seconds=seconds_in(host, "look_seconds", "1"), check_seconds=seconds_in(host, "check_seconds", "3600"),
+        retry_seconds=seconds_in(host, "retry_seconds", "5"), parallel=word_in(host, "parallel", ("no", "yes")) == "yes",
         may_push=frozenset(name.lower() for name in host.get("may_push", "").split()), staging=staging,
         trying=trying, sandbox=word_in(host, "sandbox", ("auto", "required", "off")),
         sandbox_network=word_in(host, "sandbox_network", ("no", "yes")) == "yes", sandbox_reads=paths_in(host, "sandbox_reads"),

@@ -26,10 +26,14 @@ from collections import Counter
 from contextlib import ExitStack, contextmanager, suppress
 from dataclasses import dataclass
 from itertools import islice
-from typing import Callable, Dict, Iterator, List, NamedTuple, Optional, Set, Tuple
+from pathlib import Path
+from typing import Callable, Dict, Iterator, List, Mapping, NamedTuple, Optional, Set, Tuple, Union
 
+from .core.notes import Left, note_in, table_of
+from .core.notes import Note as Said
 from .marks import mark_of
-from .places import Places, Trouble, name_of_repository, name_of_user, open_regular, person, read_up_to
+from .faults import Trouble
+from .places import Places, name_of_repository, name_of_user, open_regular, person, read_up_to
 
 # The names that notes have: when they were left, and the first half of the hash of their text.
 NAME = re.compile(r"[0-9]{20}-[0-9a-f]{32}")
@@ -61,7 +65,9 @@ class Note:
 
     name: str
     person: str
-    body: dict
+    # What it says, and the table in which that stands.
+    said: Said
+    body: Mapping[str, object]
     # When the system says that its folder was made. Nobody can set that time.
     left: int
 
@@ -79,7 +85,12 @@ class Refused(Exception):
     """Why something isn't taken for a note."""
 
 
-def leave(places: Places, body: dict) -> None:
+def leave(places: Places, left: Left) -> None:
+    """Leaves a note."""
+    leave_table(places, table_of(left))
+
+
+def leave_table(places: Places, body: Mapping[str, object]) -> None:
     """Leaves a note. When its folder is made, its text is whole."""
     with opened_spool(places) as (repository, spool):
         part = f".part-{secrets.token_hex(16)}"
@@ -106,7 +117,7 @@ def leave(places: Places, body: dict) -> None:
         os.mkdir(name, 0o755, dir_fd=spool)
 
 
-def in_bytes(body: dict) -> bytes:
+def in_bytes(body: Mapping[str, object]) -> bytes:
     return json.dumps(body, ensure_ascii=False).encode("utf-8", "replace")
 
 
@@ -121,7 +132,7 @@ def opened_spool(places: Places) -> Iterator[Tuple[int, int]]:
     with ExitStack() as opened:
         folders: List[int] = []
         for path in (places.repository, places.folder, places.spool):
-            name = path.name if folders else path
+            name: Union[str, Path] = path.name if folders else path
             try:
                 flags = os.O_PATH | os.O_DIRECTORY | os.O_NOFOLLOW | os.O_CLOEXEC
                 folders.append(os.open(name, flags, dir_fd=folders[-1] if folders else None))
@@ -266,7 +277,8 @@ class Spool:
         if not name.endswith(hash_of(text)):
             raise Refused("its text isn't the one that was left")
         body = self.body_of(text, mark)
-        return Note(name, self.person_of(found.st_uid, body), body, found.st_ctime_ns)
+        who = self.person_of(found.st_uid, body)
+        return Note(name, who, note_in(name, who, body), body, found.st_ctime_ns)
 
     def text_of(self, folder: int, name: str, user: int) -> Tuple[bytes, str]:
         """The text of a note, with the mark of the file in which it stands."""
@@ -290,7 +302,7 @@ class Spool:
             raise Refused("it is too long")
         return text, mark
 
-    def body_of(self, text: bytes, mark: str) -> dict:
+    def body_of(self, text: bytes, mark: str) -> Dict[str, object]:
         try:
             body = json.loads(text)
         except (ValueError, RecursionError) as fault:
@@ -303,7 +315,7 @@ class Spool:
             raise Refused("its text is a copy: it was written for another file")
         return body
 
-    def person_of(self, user: int, body: dict) -> str:
+    def person_of(self, user: int, body: Mapping[str, object]) -> str:
         """The owner of the folder. The owner of the repository may write for others: so the hook does where all come by ssh."""
         named = body.get("person")
         found = person(named) if user == self.owner and isinstance(named, str) else name_of_user(user)

@@ -19,8 +19,9 @@ from pathlib import Path
 from typing import Dict, FrozenSet, List, NoReturn, Optional, Sequence, Tuple, Union
 
 from . import places
-from .loop import MOST_IN_COMMENT, complain
-from .places import Trouble
+from .core.notes import MOST_IN_COMMENT
+from .faults import Trouble
+from .troubles import complain
 
 MOST_ASKED = 16384
 SERVICES = ("receive-pack", "upload-pack", "upload-archive")

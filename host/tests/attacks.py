@@ -652,7 +652,13 @@ class ManyBranches(Attack):
 
 
 class CannotBeCheckedOut(Attack):
-    """A commit that git can't check out fails its check at once, with the reason."""
+    """A commit that git can't check out is tried a few times, and then fails its check with the reason."""
+
+    def make_repository(self):
+        super().make_repository()
+        # A host that doesn't try again has no such setting.
+        if "retry_seconds = 5" in (self.repository / "gate/settings").read_text(encoding="utf-8"):
+            self.set("retry_seconds = 5", "retry_seconds = 0.1")
 
     def happen(self):
         blob = self.write("x", "hash-object", "-w", "--stdin")
@@ -665,6 +671,35 @@ class CannotBeCheckedOut(Attack):
         self.say("rosa", 1, "bors r+")
         self.told(1, "the commit can't be checked out: ", "(Failed)")
         must("whether that was soon", time.monotonic() - begin < 120)
+
+
+class KilledCheck(Attack):
+    """A check is killed, as when memory is out. No change is blamed for that, and the check is run again."""
+
+    parallel = "no"
+
+    def make_repository(self):
+        super().make_repository()
+        self.set("retry_seconds = 5", "retry_seconds = 0.2")
+        self.set("parallel = no", f"parallel = {self.parallel}")
+
+    def happen(self):
+        mark = self.room / "mark"
+        self.push("otto", 1, {"parts/killed": f"test -e {mark} || kill -9 $PPID; test 1 -gt 0\n"})
+        self.until("the change is open", lambda: self.report("change-1"))
+        self.say("rosa", 1, "bors r+")
+        self.told(1, "it was killed after")
+        self.until("the queue says so", lambda: "trouble: " in self.report("queue") and "it was killed after" in self.report("queue"))
+        mark.touch()
+        self.told(1, "Landed on main")
+        want("how often that was told", self.report("log-1").count("it was killed after"), 1)
+        self.until("the queue says no more so", lambda: "trouble: " not in self.report("queue"))
+
+
+class KilledBesideOthers(KilledCheck):
+    """The same with checks that run side by side."""
+
+    parallel = "yes"
 
 
 class LastNumber(Attack):
@@ -712,6 +747,6 @@ def without_sandbox():
 ATTACKS = [
     ReplacedHead, ReplacedFile, ForgedObject, Graft, OtherName, NoHook, Stray, NamedCommand, BranchInTheWay, OwnStaging, OtherNames,
     StaleLock, StalledGit, OlderFile, OfAnotherHistory, TryReachesOut, OutOfTheSandbox, OtherNameOfTrying, OtherRepository, LostMirror,
-    LockInMirror, HiddenStray, ManyBranches, JumpingClock, CannotBeCheckedOut, LastNumber,
+    LockInMirror, HiddenStray, ManyBranches, JumpingClock, CannotBeCheckedOut, KilledCheck, KilledBesideOthers, LastNumber,
 ]
 CASES = [checker_finds_a_replaced_head]

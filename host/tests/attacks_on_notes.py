@@ -37,12 +37,11 @@ import os, sys
 os.fsync = id
 from pathlib import Path
 from gate_host.places import Places, Trouble
-from gate_host.spool import leave
+from gate_host.spool import leave_table
 places = Places(Path(sys.argv[1]))
-spool = places if leave.__code__.co_varnames[0] == "places" else places.spool
 for number in range(int(sys.argv[2])):
     try:
-        leave(spool, {"kind": "comment", "person": "somebody", "change": 1, "text": f"{number}", "head": sys.argv[3]})
+        leave_table(places, {"kind": "comment", "person": "somebody", "change": 1, "text": f"{number}", "head": sys.argv[3]})
     except Trouble:
         # The host says that there are too many.
         pass

@@ -6,7 +6,6 @@
 MARKS is a folder with a mark for each death. Steps are those of the journal, by the function that makes them, a note that is removed from
 the spool, a check that has begun or ended, and a report that is written.
 """
-import json
 import os
 import signal
 import sys
@@ -21,6 +20,7 @@ from gate_host import commands  # noqa: E402
 from gate_host import journal  # noqa: E402
 from gate_host import reports  # noqa: E402
 from gate_host import spool  # noqa: E402
+from gate_host.core.orders import orders_of  # noqa: E402
 
 MARKS = Path(sys.argv[1])
 
@@ -43,11 +43,12 @@ def dying(step, name):
 
 
 def name_of_step(frame):
-    """The name of the function that makes a step, with the event and the orders that it is about."""
+    """The name of the function that makes a step, with the fact that it is about, or with the event and the orders of an answer."""
     seen = frame.f_locals
-    event = seen["delivery"].body["event"] if "delivery" in seen else seen.get("event")
-    orders = {order["order"] for reply in json.loads(seen.get("answer", "[]")) for order in reply.get("orders", [])}
-    return "-".join([frame.f_code.co_name, *filter(None, [event]), *sorted(orders)])
+    about = [type(seen["fact"]).__name__] if "fact" in seen else []
+    if "read" in seen:
+        about = [seen["delivery"].event, *sorted({type(order).__name__.lower() for order in orders_of(seen["read"])})]
+    return "-".join([frame.f_code.co_name, *about])
 
 
 def steps_die(step):

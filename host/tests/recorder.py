@@ -4,7 +4,7 @@
     recorder.py ANSWERS MARKS PUSH PROGRAM ARGUMENT..
 
 ANSWERS gets a line for each answer, before the host has it. MARKS is a folder with a mark for each death, or `-` if nobody is to die. PUSH
-is a command that runs before the host has the first order to stage, or `-`.
+is a command that runs before the host has the first order to stage, or `-`. Of other jobs than `run` it takes no note.
 """
 import json
 import os
@@ -36,6 +36,8 @@ def end(bot):
 
 def main():
     answers, marks, push, *command = sys.argv[1:]
+    if command[1:2] != ["run"]:
+        os.execv(command[0], command)
     host = os.getppid()
     bot = subprocess.Popen(command, stdin=subprocess.PIPE, stdout=subprocess.PIPE, bufsize=0)
     for line in sys.stdin.buffer:

@@ -571,4 +571,4 @@ exec {git} "$@"
         # Half of a surrogate pair can stand there as an escape alone.
         is_short = "\ud800" in str(body.get("text"))
         with mock.patch("gate_host.spool.in_bytes", lambda given: json.dumps(given, ensure_ascii=is_short).encode()):
-            spool.leave(Places(self.repository), body)
+            spool.leave_table(Places(self.repository), body)

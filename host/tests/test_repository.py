@@ -1,8 +1,7 @@
-"""Tests of what the host asks of git, and of what it finds in a guarded repository."""
+"""Tests of what the host asks of git: fetches, merges and moves of branches."""
 import os
 import subprocess
 import sys
-import tempfile
 import threading
 import time
 import unittest
@@ -11,55 +10,14 @@ from unittest import mock
 
 sys.path.insert(0, str(Path(__file__).resolve().parent.parent))
 
-from gate_host.git import GitFailed, ask_git, run_git  # noqa: E402
-from gate_host.hook import hook_command, hook_text  # noqa: E402
-from gate_host.inspection import findings  # noqa: E402
-from gate_host.places import Places, pointed_to  # noqa: E402
+from folders import InHistory  # noqa: E402
+from gate_host.core.orders import Land  # noqa: E402
+from gate_host.git import GitFailed  # noqa: E402
+from gate_host.places import Places  # noqa: E402
 from gate_host.repository import KEPT, Repository  # noqa: E402
-from gate_host.settings import FIRST_SETTINGS, settings_in  # noqa: E402
-
-SETTINGS = settings_in(FIRST_SETTINGS.format(main="main", staging="staging", trying="trying", program="/gate", may_push="", checks=""))
 
 
-class InRepository(unittest.TestCase):
-    """A repository with a main branch at `base`, two heads that merge, one that conflicts with the first, and one that stands alone."""
-
-    def setUp(self):
-        room = tempfile.TemporaryDirectory()
-        self.addCleanup(room.cleanup)
-        self.room = Path(room.name)
-        self.path = self.room / "project.git"
-        subprocess.run(["git", "init", "--quiet", "--bare", "--initial-branch=main", str(self.path)], check=True, timeout=30)
-        self.places = Places(self.path)
-        self.places.records.mkdir(parents=True)
-        self.base = self.commit({"a": "1\n"})
-        self.one = self.commit({"a": "1\n", "b": "2\n"}, self.base)
-        self.two = self.commit({"a": "1\n", "c": "3\n"}, self.base)
-        self.clash = self.commit({"a": "1\n", "b": "9\n"}, self.base)
-        self.alone = self.commit({"d": "4\n"})
-        self.git("update-ref", "refs/heads/main", self.base)
-        self.repository = Repository(self.places, "main")
-
-    def git(self, *arguments, given=""):
-        """What git writes of the guarded repository, as somebody else runs it."""
-        command = ["git", "-C", str(self.path), *arguments]
-        return subprocess.run(command, input=given.encode(), capture_output=True, check=True, timeout=30).stdout.decode().strip()
-
-    def commit(self, files, *parents):
-        lines = [f"100644 blob {self.git('hash-object', '-w', '--stdin', given=text)}\t{name}\n" for name, text in files.items()]
-        given = [it for parent in parents for it in ("-p", parent)]
-        author = ["-c", "user.name=x", "-c", "user.email=x@localhost"]
-        return self.git(*author, "commit-tree", self.git("mktree", given="".join(lines)), *given, "-m", "x")
-
-    def order(self, *heads):
-        numbered = [[number, head] for number, head in enumerate(heads, 1)]
-        return {"order": "stage", "batch": 3, "branch": "staging", "base": self.base, "heads": numbered}
-
-    def made(self, *heads):
-        return self.repository.merge_batch(self.order(*heads), 5).commit
-
-
-class MergeTests(InRepository):
+class MergeTests(InHistory):
     def test_a_batch_becomes_one_commit_which_is_the_same_when_it_is_made_again(self):
         made = self.made(self.one, self.two)
         self.assertEqual(self.repository.ask("rev-list", "--parents", "-n", "1", made).split(), [made, self.base, self.one, self.two])
@@ -139,7 +97,7 @@ class MergeTests(InRepository):
         return self.git("-c", "user.name=x", "-c", "user.email=x", "commit-tree", tree, "-m", "x")
 
 
-class MoveTests(InRepository):
+class MoveTests(InHistory):
     def test_branches_have_any_name_that_git_takes(self):
         for name in ("refs/heads/a\u2028b", "refs/heads/a\u0085b"):
             self.git("update-ref", name, self.one)
@@ -159,7 +117,7 @@ class MoveTests(InRepository):
 
     def test_landing_compares(self):
         made = self.made(self.one)
-        land = {"order": "land", "batch": 3, "base": self.base, "commit": made}
+        land = Land(3, self.base, made)
         self.git("update-ref", "refs/heads/main", self.two)
         self.assertFalse(self.repository.land(land))
         self.assertEqual(self.git("rev-parse", "main"), self.two)
@@ -182,7 +140,7 @@ class MoveTests(InRepository):
         self.git("update-ref", "-d", "refs/heads/main")
         self.git("symbolic-ref", "refs/heads/main", "refs/heads/other")
         with self.assertRaisesRegex(GitFailed, "refs/heads/main is another name of refs/heads/other"):
-            self.repository.land({"order": "land", "batch": 3, "base": self.base, "commit": made})
+            self.repository.land(Land(3, self.base, made))
         self.assertEqual(self.git("rev-parse", "other"), self.base)
 
     def test_locks_that_were_left_are_removed(self):
@@ -204,10 +162,10 @@ class MoveTests(InRepository):
 
     def test_a_commit_that_is_gone_is_refused_once_the_main_branch_is_elsewhere(self):
         self.git("update-ref", "refs/heads/main", self.two)
-        self.assertFalse(self.repository.land({"order": "land", "batch": 3, "base": self.base, "commit": "7" * 40}))
+        self.assertFalse(self.repository.land(Land(3, self.base, "7" * 40)))
 
     def test_a_landing_that_git_cannot_do_is_no_refusal(self):
-        land = {"order": "land", "batch": 3, "base": self.base, "commit": self.made(self.one)}
+        land = Land(3, self.base, self.made(self.one))
         lock = self.path / "refs/heads/main.lock"
         lock.touch()
         with self.assertRaisesRegex(GitFailed, "refs/heads/main can't be moved: .*main.lock"):
@@ -217,7 +175,7 @@ class MoveTests(InRepository):
 
     def test_no_landing_is_judged_while_a_git_of_before_runs(self):
         """A git that the host has started keeps the lock, whatever becomes of the host."""
-        land = {"order": "land", "batch": 3, "base": self.base, "commit": self.made(self.one)}
+        land = Land(3, self.base, self.made(self.one))
         script = '#!/bin/sh\n[ "$1" != push ] || { touch "$0.began"; sleep 1; }\nPATH=$REST\nexec git "$@"\n'
         (self.room / "git").write_text(script, encoding="utf-8")
         (self.room / "git").chmod(0o755)
@@ -231,12 +189,19 @@ class MoveTests(InRepository):
             first.join()
         self.assertTrue(self.repository.land(land))
 
-    def test_a_command_has_a_limit(self):
-        (self.room / "git").write_text("#!/bin/sh\nsleep 60\n", encoding="utf-8")
-        (self.room / "git").chmod(0o755)
-        with mock.patch.dict(os.environ, PATH=f"{self.room}:{os.environ['PATH']}"):
-            with self.assertRaisesRegex(GitFailed, "took more than"):
-                run_git(self.places.mirror, "status", seconds=0.2)
+    def test_which_room_a_commit_needs(self):
+        of_base = self.git("rev-parse", f"{self.base}^{{tree}}")
+        lines = "".join(f"{kind} {name}\t{path}\n" for kind, name, path in (
+            ("040000 tree", of_base, "folder"), ("100644 blob", self.git("rev-parse", f"{self.base}:a"), "file"),
+        ))
+        nested = self.git("-c", "user.name=x", "-c", "user.email=x", "commit-tree", self.git("mktree", given=lines), "-m", "x")
+        for commit, due in (
+            (self.commit({"a": ""}), 8192), (self.commit({"a": "x" * 4095, "b": "x" * 4096}), 8192 + 12288), (self.commit({}), 0),
+            (nested, 2 * 8192),
+        ):
+            self.repository.must_have("x", commit)
+            self.assertEqual(self.repository.room_for(commit), due)
+        self.assertEqual(self.repository.room_for("1" * 40), 0)
 
     def test_a_file_is_added_to_main(self):
         made = self.repository.commit_with("bors.toml", "x", self.base)
@@ -278,123 +243,6 @@ class MoveTests(InRepository):
         self.assertEqual(self.git("for-each-ref", "--format=%(refname)"), "refs/heads/main")
         self.assertEqual(self.repository.ask("cat-file", "-t", made), "commit\n")
         self.assertIn("1111", self.repository.check_out("1" * 40, self.room / "other", 60))
-
-
-class InspectionTests(InRepository):
-    def setUp(self):
-        super().setUp()
-        self.hook = self.path / "hooks/pre-receive"
-        self.hook.write_text(hook_text("python3"), encoding="utf-8")
-        self.hook.chmod(0o755)
-
-    def found(self, *words, is_grave):
-        """One thing is found, and said with these words."""
-        found = findings(self.places, SETTINGS)
-        self.assertEqual([it.is_grave for it in found], [is_grave], found)
-        for word in words:
-            self.assertIn(word, found[0].said)
-
-    def test_a_sound_repository(self):
-        self.assertEqual(findings(self.places, SETTINGS), [])
-        self.git("config", "core.hooksPath", "hooks")
-        self.git("pack-refs", "--all")
-        self.git("update-ref", "refs/heads/change/7", self.one)
-        self.assertEqual(findings(self.places, SETTINGS), [])
-        self.git("config", "core.bare", "yes")
-        self.assertEqual(findings(self.places, SETTINGS), [])
-
-    def test_settings_of_git(self):
-        for name, value, word, is_grave in (
-            ("core.hooksPath", "/elsewhere", "core.hooksPath", True), ("core.bare", "false", "no bare repository", True),
-            ("extensions.objectFormat", "sha256", "SHA-1", True), ("extensions.refStorage", "reftable", "in another way", True),
-            ("filter.a.b.smudge", "evil", "filter.a.b.smudge", False), ("remote.x.uploadpack", "evil", "remote.x.uploadpack", False),
-            ("extensions.partialClone", "x", "extensions.partialclone", False), ("core.sshCommand", "x", "core.sshcommand", False),
-            ("includeIf.gitdir:/**.path", "x", "count only at times", True),
-        ):
-            config = (self.path / "config").read_bytes()
-            ask_git(None, "config", "--file", str(self.path / "config"), name, value)
-            self.found(word, is_grave=is_grave)
-            (self.path / "config").write_bytes(config)
-
-    def test_settings_that_are_included(self):
-        (self.path / "more").write_text("[core]\n    hooksPath = /elsewhere\n", encoding="utf-8")
-        self.git("config", "include.path", str(self.path / "more"))
-        self.found("core.hooksPath", is_grave=True)
-
-    def test_hooks(self):
-        self.hook.chmod(0o644)
-        self.found("can't be executed", is_grave=True)
-        command = f"{hook_command()} --repository ."
-        own = hook_text("python3")
-        more = (own + "exit 0\n", f"exit 0\n{own}", own.replace("python3", "'"), own.replace("python3", "true;"))
-        for text in ("#!/bin/sh\n", f"#!/bin/sh\n# {command}\nexit 0\n", *more):
-            self.hook.write_text(text, encoding="utf-8")
-            self.hook.chmod(0o755)
-            self.found("doesn't run gate-host", is_grave=True)
-        for text in (f"#!/bin/sh\npython3 {command} || exit\nexit 0\n", hook_text("/other/python 3")):
-            self.hook.write_text(text, encoding="utf-8")
-            self.assertEqual(findings(self.places, SETTINGS), [], text)
-        for path in (self.hook, self.hook.parent):
-            path.chmod(0o775)
-            self.found("others may write the hook", is_grave=True)
-            path.chmod(0o755)
-        self.hook.unlink()
-        self.found("isn't there", is_grave=True)
-
-    def test_names(self):
-        self.git("symbolic-ref", "HEAD", "refs/heads/other")
-        self.found("HEAD names refs/heads/other", is_grave=False)
-        self.git("symbolic-ref", "HEAD", "refs/heads/main")
-        for name, target, is_grave in (("master", "main", True), ("staging", "main", True), ("x", "trying", True), ("x", "y", False)):
-            self.git("symbolic-ref", f"refs/heads/{name}", f"refs/heads/{target}")
-            self.found(f"refs/heads/{name} is another name of refs/heads/{target}", is_grave=is_grave)
-            self.git("symbolic-ref", "--delete", f"refs/heads/{name}")
-        (self.path / "refs/heads/master").symlink_to("refs/heads/main")
-        self.found("refs/heads/master is another name of refs/heads/main", is_grave=True)
-
-    def test_names_in_the_way(self):
-        for name, branch in (("trying/x", "trying"), ("staging/a/b", "staging"), ("change", "change/1")):
-            for is_packed in (False, True):
-                self.git("update-ref", f"refs/heads/{name}", self.one)
-                if is_packed:
-                    self.git("pack-refs", "--all")
-                self.found(f"refs/heads/{name} is in the way of the branch {branch}", is_grave=False)
-                self.git("update-ref", "-d", f"refs/heads/{name}")
-
-    def test_what_git_reads_besides(self):
-        self.git("replace", self.one, self.two)
-        self.found("refs/replace", is_grave=False)
-        self.git("pack-refs", "--all")
-        self.found("refs/replace", is_grave=False)
-        self.git("replace", "--delete", self.one)
-        for name, is_grave in (
-            ("info/grafts", False), ("objects/info/alternates", False), ("info/attributes", False), ("shallow", True), ("commondir", True),
-        ):
-            path = self.path / name
-            path.parent.mkdir(exist_ok=True)
-            path.write_text("\n", encoding="utf-8")
-            self.found(name, is_grave=is_grave)
-            path.unlink()
-
-    def test_links(self):
-        (self.path / "logs").symlink_to(self.room)
-        self.found("logs is a symbolic link", is_grave=False)
-
-
-class ReferenceTests(InRepository):
-    def test_where_references_point(self):
-        self.assertEqual(pointed_to(self.path, "HEAD"), (self.base, "refs/heads/main"))
-        self.assertEqual(pointed_to(self.path, "refs/heads/none"), (None, "refs/heads/none"))
-        self.git("pack-refs", "--all")
-        self.assertEqual(pointed_to(self.path, "refs/heads/main"), (self.base, "refs/heads/main"))
-        self.git("symbolic-ref", "refs/heads/a", "refs/heads/b")
-        self.git("symbolic-ref", "refs/heads/b", "refs/heads/a")
-        self.assertIsNone(pointed_to(self.path, "refs/heads/a")[0])
-        os.mkfifo(self.path / "refs/heads/pipe")
-        self.assertEqual(pointed_to(self.path, "refs/heads/pipe"), (None, "refs/heads/pipe"))
-        (self.path / "refs/heads/pipe").unlink()
-        (self.path / "refs/heads/odd").write_text("x" * 40, encoding="utf-8")
-        self.assertEqual(pointed_to(self.path, "refs/heads/odd"), (None, "refs/heads/odd"))
 
 
 if __name__ == "__main__":

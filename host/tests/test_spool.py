@@ -1,4 +1,4 @@
-"""Tests of the spool and of the marks of files. `.ci/test_gate_host` runs them; attacks_on_notes.py has a whole host attacked besides."""
+"""Tests of the spool. `.ci/test_gate_host` runs them; attacks_on_notes.py has a whole host attacked besides."""
 import errno
 import json
 import os
@@ -10,8 +10,7 @@ import tempfile
 import time
 import unittest
 from pathlib import Path
-from types import SimpleNamespace
-from typing import Callable, List, Optional, Tuple
+from typing import Callable, List, Optional
 from unittest import mock
 
 sys.path.insert(0, str(Path(__file__).resolve().parent.parent))
@@ -61,7 +60,7 @@ class SpoolCase(InFolder):
     def leave(self, user: Optional[int] = None, **body) -> Path:
         """Leaves a note, if need be as one of somebody else, and gives its folder."""
         before = set(os.listdir(self.path))
-        spool.leave(self.places, body)
+        spool.leave_table(self.places, body)
         name = next(it for it in set(os.listdir(self.path)) - before if not it.startswith("."))
         if user is not None:
             self.give(user, self.path / name, self.text(self.path / name))
@@ -304,7 +303,7 @@ class CopyTests(SpoolCase):
         self.assertEqual(self.taken(), [1])
         evil = self.make_repository("evil.git")
         others = spool.Spool(evil, os.geteuid(), self.complaints.append)
-        spool.leave(evil, {"number": 2})
+        spool.leave_table(evil, {"number": 2})
         note = others.take()[0]
         self.bring(evil.spool / note.name)
         self.assertEqual((self.taken(), others.take()), ([1], []))
@@ -313,7 +312,7 @@ class CopyTests(SpoolCase):
     def test_a_copied_identity_does_not_help(self) -> None:
         evil = self.make_repository("evil.git")
         evil.identity.write_bytes(self.places.identity.read_bytes())
-        spool.leave(evil, {"number": 2})
+        spool.leave_table(evil, {"number": 2})
         self.assertEqual(len(spool.Spool(evil, os.geteuid(), self.complaints.append).take()), 1)
         self.bring(next(it for it in evil.spool.iterdir() if not it.name.startswith(".")))
         self.refused("left for another repository")
@@ -328,18 +327,18 @@ class CopyTests(SpoolCase):
 
     def test_no_link_leads_to_the_spool(self) -> None:
         evil = self.make_repository("evil.git")
-        spool.leave(evil, {})
+        spool.leave_table(evil, {})
         for path, target in ((evil.folder, self.places.folder), (evil.spool, self.places.spool)):
             path.rename(self.room / "aside")
             path.symlink_to(target)
             with self.assertRaisesRegex(Trouble, "no link"):
-                spool.leave(evil, {})
+                spool.leave_table(evil, {})
             path.unlink()
             with self.assertRaisesRegex(Trouble, "No such file"):
-                spool.leave(evil, {})
+                spool.leave_table(evil, {})
             path.touch()
             with self.assertRaisesRegex(Trouble, "Not a directory"):
-                spool.leave(evil, {})
+                spool.leave_table(evil, {})
             path.unlink()
             (self.room / "aside").rename(path)
         self.assertEqual(list(self.path.iterdir()), [])
@@ -348,18 +347,18 @@ class CopyTests(SpoolCase):
         """A folder above it becomes a link after the path was looked up."""
         (self.room / "eve").mkdir()
         evil = self.make_repository("eve/project.git")
-        spool.leave(evil, {})
+        spool.leave_table(evil, {})
         (self.room / "eve").rename(self.room / "aside")
         (self.room / "eve").symlink_to(self.room)
         self.assertTrue(evil.spool.samefile(self.path))
         with self.assertRaisesRegex(Trouble, "leads to another place"):
-            spool.leave(evil, {})
+            spool.leave_table(evil, {})
         (self.room / "eve").unlink()
         (self.room / "aside").rename(self.room / "eve")
         evil.repository.rename(self.room / "aside")
         evil.repository.symlink_to(self.places.repository)
         with self.assertRaisesRegex(Trouble, "no link"):
-            spool.leave(evil, {})
+            spool.leave_table(evil, {})
         self.assertEqual(list(self.path.iterdir()), [])
 
     def test_the_folder_that_is_open_names_the_repository(self) -> None:
@@ -368,7 +367,7 @@ class CopyTests(SpoolCase):
         self.addCleanup(os.close, other)
         self.assertEqual(name_of_repository(evil, other).partition("-")[2], str(self.places.repository.stat().st_ino))
         with mock.patch("gate_host.spool.name_of_repository", wraps=name_of_repository) as named:
-            spool.leave(evil, {})
+            spool.leave_table(evil, {})
         self.assertIsInstance(named.call_args[0][1], int)
 
     def unpacked(self, *command: str) -> None:
@@ -630,108 +629,6 @@ class PartTests(SpoolCase):
         self.spool.remove(note.name)
         self.assertEqual(len(self.complaints), 1)
         self.assertEqual((self.taken(), len(self.complaints)), ([], 1))
-
-
-class IdentityTests(InFolder):
-    def test_a_repository_has_one_name(self) -> None:
-        places = self.make_repository("project.git")
-        name = name_of_repository(places)
-        make_identity(places)
-        self.assertEqual(name_of_repository(places), name)
-        self.assertRegex(name, f"^[0-9a-f]{{32}}-{places.repository.stat().st_ino}$")
-        self.assertEqual(places.identity.stat().st_mode & 0o7777, 0o644)
-        self.assertNotEqual(name_of_repository(self.make_repository("other.git")), name)
-        self.assertEqual({it.name for it in places.folder.iterdir()}, {"identity", "spool"})
-
-    def test_what_is_no_identifier_is_refused(self) -> None:
-        places = self.make_repository("project.git")
-        name_of_repository(places)
-        places.identity.chmod(0o664)
-        with self.assertRaisesRegex(Trouble, "nobody else may write"):
-            name_of_repository(places)
-        places.identity.chmod(0o644)
-        for text in ("", "7" * 31, "x" * 32, "7" * 32 + "\n7"):
-            places.identity.write_text(text, encoding="utf-8")
-            with self.assertRaisesRegex(Trouble, "32 hexadecimal digits"):
-                name_of_repository(places)
-        places.identity.unlink()
-        with self.assertRaisesRegex(Trouble, "gate-host init .* makes it"):
-            name_of_repository(places)
-
-
-class MarkTests(InFolder):
-    def mark(self, name: str, flags: int = os.O_RDONLY) -> str:
-        file = os.open(self.room / name, flags)
-        try:
-            return marks.mark_of(file)
-        finally:
-            os.close(file)
-
-    def test_a_file_has_one_mark(self) -> None:
-        for without in ((), ("handle_of",), ("handle_of", "birth_of")):
-            for name in without:
-                patched = mock.patch.object(marks, name, lambda file: None)
-                patched.start()
-                self.addCleanup(patched.stop)
-            path = self.room / "file"
-            path.touch()
-            before = self.mark("file", os.O_WRONLY)
-            path.write_text("text", encoding="utf-8")
-            path.chmod(0o1644)
-            path.rename(self.room / "other")
-            self.assertEqual(self.mark("other"), before)
-            path.touch()
-            self.assertNotEqual(self.mark("file"), before)
-
-    def test_a_number_that_comes_again_has_another_mark(self) -> None:
-        """On some file systems a new file gets the number of the last one that was removed."""
-        seen = set()
-        for _ in range(20):
-            (self.room / "file").touch()
-            seen.add(self.mark("file"))
-            (self.room / "file").unlink()
-        if marks.mark_is_strong(self.room):
-            self.assertEqual(len(seen), 20)
-
-    def test_how_strong_marks_are(self) -> None:
-        self.assertIsInstance(marks.mark_is_strong(self.room), bool)
-        self.assertEqual(list(self.room.iterdir()), [])
-
-        def handles(*rests: int) -> Callable[[int], Tuple[int, bytes]]:
-            """Handles of a file system that puts these numbers behind the number of the inode."""
-            left = list(rests)
-            return lambda file: (1, os.fstat(file).st_ino.to_bytes(8, sys.byteorder) + left.pop().to_bytes(4, sys.byteorder))
-
-        with mock.patch.object(marks, "handle_of", handles(5, 10 ** 6, 10 ** 8, 10 ** 9)):
-            self.assertTrue(marks.mark_is_strong(self.room))
-        for rests in ((7, 7, 7, 7), (1, 2, 3, 4), (9, 10 ** 6, 10 ** 8, 9)):
-            with mock.patch.object(marks, "handle_of", handles(*rests)):
-                self.assertFalse(marks.mark_is_strong(self.room))
-        with mock.patch.object(marks, "handle_of", lambda file: None):
-            self.assertFalse(marks.mark_is_strong(self.room))
-
-    def test_what_the_system_may_say(self) -> None:
-        (self.room / "file").touch()
-        file = os.open(self.room / "file", os.O_RDONLY)
-        self.addCleanup(os.close, file)
-
-        def system(error: int) -> SimpleNamespace:
-            def ask(*_) -> int:
-                marks.ctypes.set_errno(error)
-                return -1
-            return SimpleNamespace(name_to_handle_at=ask, statx=ask)
-
-        for error in marks.NO_HANDLES:
-            with mock.patch.object(marks, "LIBC", system(error)):
-                self.assertEqual(marks.mark_of(file), f"inode {os.fstat(file).st_ino}")
-            with mock.patch.object(marks, "LIBC", system(error)), mock.patch.object(marks, "birth_of", lambda file: "5.000000007"):
-                self.assertEqual(marks.mark_of(file), f"inode {os.fstat(file).st_ino} made at 5.000000007")
-        with mock.patch.object(marks, "handle_of", lambda file: (1, b"\x07\xff")):
-            self.assertEqual(marks.mark_of(file), "handle 1 07ff")
-        with mock.patch.object(marks, "LIBC", SimpleNamespace()):
-            self.assertEqual(marks.mark_of(file), f"inode {os.fstat(file).st_ino}")
-        with mock.patch.object(marks, "LIBC", system(errno.ENOMEM)), self.assertRaises(OSError):
-            marks.mark_of(file)
 
 
 if __name__ == "__main__":

@@ -27,7 +27,7 @@ TOP = TESTS.parent.parent
 sys.path[:0] = [str(TESTS.parent), str(TESTS)]
 
 from gate_host import ssh_command  # noqa: E402
-from gate_host.loop import MOST_IN_COMMENT  # noqa: E402
+from gate_host.core.notes import MOST_IN_COMMENT  # noqa: E402
 from gate_host.places import Places  # noqa: E402
 from gate_host.setting_up import make_folders  # noqa: E402
 from stories import ENVIRONMENT  # noqa: E402

@@ -1,0 +1,121 @@
+"""A host of a bare repository on this machine, put together of its ports."""
+import os
+import time
+from typing import Callable, List, Mapping, Tuple, TypeVar
+
+from .checks import Checks
+from .core.deliveries import touched
+from .core.known import Known, Test
+from .faults import Trouble
+from .guarded import BranchesAndNotes, Guarded
+from .inspection import findings, must_be_guarded
+from .journal import Journal
+from .kept_bot import KeptBot
+from .locks import take_lock, take_lock_of_git
+from .loop import Host
+from .places import Places, must_be_safe, name_of_user
+from .ports import Ports
+from .reports import Reports
+from .repository import Repository
+from .sandbox import sandbox_of
+from .settings import Settings, read_roles, read_settings
+from .spool import ROUNDS_FOR_ALL, Spool
+from .troubles import Troubles, complain
+
+Read = TypeVar("Read")
+
+
+class SystemClock:
+    """The clock of the system."""
+
+    def now(self) -> int:
+        return int(time.time())
+
+    def running(self) -> float:
+        return time.clock_gettime(time.CLOCK_BOOTTIME)
+
+
+class OwnerFiles:
+    """The settings and roles, as they were read last and were good. The owner is never asked of the folder again: who may write the
+    repository's folder could put another one in its place."""
+
+    def __init__(self, places: Places, owner: int):
+        self.places, self.owner = places, owner
+        self.settings: Settings = read_settings(places.settings, owner)
+        self.roles: Mapping[str, str] = read_roles(places.roles, owner)
+        self.main = self.settings.main
+
+    def read(self) -> List[Tuple[str, str]]:
+        must_be_safe(self.places)
+        return [("settings", fault_of(self.read_settings)), ("roles", fault_of(self.read_roles))]
+
+    def read_settings(self) -> None:
+        self.settings = read_settings(self.places.settings, self.owner)
+
+    def read_roles(self) -> None:
+        self.roles = read_roles(self.places.roles, self.owner)
+
+
+def fault_of(read: Callable[[], None]) -> str:
+    """Why something can't be read, or nothing."""
+    try:
+        read()
+    except Trouble as fault:
+        return str(fault)
+    return ""
+
+
+def run_host(places: Places, is_all_again: bool) -> None:
+    """Guards a repository until a signal ends it."""
+    owner = os.geteuid()
+    lock = take_lock(places)
+    is_alone = take_lock_of_git(places)
+    journal = Journal(places.records / "journal.db")
+    files = OwnerFiles(places, owner)
+    repository = Repository(places, files.settings.main, files.settings.staging, files.settings.trying)
+    if is_alone:
+        repository.remove_locks()
+    reports = Reports(places, journal, complain)
+    known = journal.known(lambda then, it: reports.note(it.delivery, touched(it.delivery, it.orders, then)))
+    reports.begin(known.changes)
+    troubles = Troubles()
+    bot = KeptBot(places, journal, lambda: files.settings.program, is_all_again, lambda: host.ending)
+    ports = ports_of(places, files, repository, journal, known, bot, reports)
+    host = Host(ports, known, name_of_user(owner), ROUNDS_FOR_ALL, troubles)
+    try:
+        begin(host, places, files.settings, bot)
+        host.run()
+    finally:
+        host.close()
+        (places.reports / "process").unlink(missing_ok=True)
+        os.close(lock)
+
+
+def ports_of(
+    places: Places, files: OwnerFiles, repository: Repository, journal: Journal, known: Known, bot: KeptBot, reports: Reports,
+) -> Ports:
+    guarded = Guarded(repository)
+
+    def bring(test: Test) -> None:
+        batch = known.batch_of(test.batch)
+        if batch:
+            guarded.bring(batch)
+
+    return Ports(
+        source=BranchesAndNotes(places, repository, Spool(places, files.owner, complain)), repository=guarded,
+        runner=Checks(places, repository, bring), bot=bot, journal=journal, clock=SystemClock(),
+        board=reports, owner=files,
+    )
+
+
+def begin(host: Host, places: Places, settings: Settings, bot: KeptBot) -> None:
+    """Looks at what stands in the repository besides branches, and says that the host runs. It doesn't if the main branch isn't guarded."""
+    host.begin()
+    found = findings(places, settings)
+    must_be_guarded(found)
+    for number, finding in enumerate(found):
+        host.troubles.say(f"finding {number}", finding.said)
+    bot.must_belong_to_journal()
+    host.clear()
+    (places.reports / "process").write_text(f"{os.getpid()}\n", encoding="utf-8")
+    complain(f"guards {settings.main} of {places.repository}; checks run {sandbox_of(settings).said}")

@@ -1,0 +1,67 @@
+"""What a journal of an earlier version knew, written down as one fact, with which the list of facts then begins."""
+import json
+from dataclasses import asdict
+from typing import TYPE_CHECKING, Dict, List, Union
+
+from .deliveries import Delivery, delivery_of
+from .facts import Upgraded
+from .orders import Json, Land, Order, Stage, order_in, table_in
+
+if TYPE_CHECKING:
+    from .known import Known
+
+
+def upgraded(known: "Known") -> Upgraded:
+    """The fact that has all that is known."""
+    table = {
+        "roles": known.roles, "base": known.base, "settings_of": known.settings_of, "refusal": known.refusal, "clock": known.clock,
+        "changes": [[number, it.phase, it.head] for number, it in known.changes.items()],
+        "pushers": [[change, head, person] for change, heads in known.pushers.items() for head, person in heads.items()],
+        "made": sorted(known.made),
+        "told_moves": [[*move, at] for move, at in known.told_moves.items()],
+        "moves": [[it.number, it.at, it.before, it.target, it.person] for it in known.moves.values()],
+        "batches": [[it.order, table_of(it.stage), it.now, it.commit] for it in known.batches.values()],
+        "orders": [[name, table_of(order)] for name, order in known.orders.items()],
+        "tests": [[it.branch, it.batch, it.commit] for it in known.tests.values()],
+        "results": known.results,
+        "waiting": [[it.line, table_of(it.order) if it.order else None, it.changes] for it in known.waiting],
+    }
+    return Upgraded(json.dumps(table, ensure_ascii=False))
+
+
+def table_of(order: Order) -> Dict[str, Json]:
+    """An order as it stands in an answer."""
+    return {"order": type(order).__name__.lower(), **asdict(order)}
+
+
+def restore(known: "Known", fact: Upgraded) -> None:
+    """Takes in all that was known."""
+    from .known import Batch, Change, Move, Test
+    table = json.loads(fact.known)
+    known.roles = dict(table["roles"])
+    known.base, known.settings_of, known.refusal = table["base"], table["settings_of"], table["refusal"]
+    known.clock = table["clock"]
+    known.changes = {number: Change(phase, head) for number, phase, head in table["changes"]}
+    for change, head, person in table["pushers"]:
+        known.take_claim(person, change, head)
+    known.made = set(table["made"])
+    known.told_moves = {(before, target, person): at for before, target, person, at in table["told_moves"]}
+    known.moves = {it[0]: Move(*it) for it in table["moves"]}
+    for name, stage, now, commit in table["batches"]:
+        order = order_in(stage)
+        if isinstance(order, Stage):
+            known.batches[order.branch] = Batch(name, order, now, commit)
+    known.orders = {name: order for name, it in table["orders"] for order in orders_to_do(it)}
+    known.tests = {it[0]: Test(*it) for it in table["tests"]}
+    known.results = {branch: dict(of) for branch, of in table["results"].items()}
+    known.waiting = [waiting_in(line, order, changes) for line, order, changes in table["waiting"]]
+
+
+def orders_to_do(found: Json) -> List[Union[Stage, Land]]:
+    order = order_in(found)
+    return [order] if isinstance(order, (Stage, Land)) else []
+
+
+def waiting_in(line: str, order: Json, changes: List[int]) -> Delivery:
+    body = table_in(json.loads(line))
+    return delivery_of(str(body["id"]), str(body["event"]), line, body, order_in(order) if order else None, changes)

@@ -1,0 +1,316 @@
+"""What the host knows, as a function of the facts that were written down and of the answers to what they told the bot.
+
+`learn` takes a fact in, and `hear` an answer. Each gives what people are told by it. Whoever reads the facts and answers from the
+beginning knows the same as a host that never ended.
+"""
+from dataclasses import dataclass, field, replace
+from typing import Dict, List, NamedTuple, Optional, Set, Tuple, Union
+
+from . import words
+from .deliveries import Delivery, delivered
+from .earlier import restore
+from .facts import (
+    Closed, Conflicted, Delayed, Ended, Fact, Faulted, MainSeen, Merged, Moved, MoverFound, NotMoved, Opened, Pushed, PushesForgotten,
+    PushTold, RoleGiven, Said, Staged, Ticked,
+)
+from .notes import objection_to
+from .orders import Answer, Land, Notice, Order, Stage, Unread, is_done, orders_of
+
+
+# So much of what one person tells of pushes is kept.
+MOST_CLAIMS = 10000
+MOST_TOLD_MOVES = 100
+# The notices by which a batch ends that no delivery ends.
+ENDS = ("TimedOut", "TryPassed", "TryFailed")
+
+
+class Told(NamedTuple):
+    """What the people of a change are told."""
+
+    change: int
+    text: str
+
+
+@dataclass(frozen=True)
+class Change:
+    """A change as it was told to the bot: `open`, `closed` or `landed`, and its head."""
+
+    phase: str
+    head: str
+
+
+@dataclass(frozen=True)
+class Batch:
+    """A batch that was ordered to be staged: by which order, at which reading of the clock, and its merge, if that is made."""
+
+    order: str
+    stage: Stage
+    now: int
+    commit: str = ""
+
+
+@dataclass(frozen=True)
+class Test:
+    """A staged commit that is to be tested for a batch."""
+
+    branch: str
+    batch: int
+    commit: str
+
+
+@dataclass(frozen=True)
+class Move:
+    """A move of the main branch that the host didn't make, by the number of the fact that told of it. The person is none before somebody
+    has looked into it, and empty if nobody made it who may."""
+
+    number: int
+    at: int
+    before: str
+    target: str
+    person: Optional[str] = None
+
+
+@dataclass
+class Known:
+    """What is known after some facts and answers."""
+
+    # The role of each person, by what was told last.
+    roles: Dict[str, str] = field(default_factory=dict)
+    # The commit of the main branch, the one whose settings were handed in last, and why settings aren't taken; each may be empty.
+    base: str = ""
+    settings_of: str = ""
+    refusal: str = ""
+    clock: int = 0
+    # The branch on which something landed last, by its name.
+    landed_on: str = ""
+    # How many batches have ended, each of which may let another one be staged.
+    ended: int = 0
+    changes: Dict[int, Change] = field(default_factory=dict)
+    # Who told first of a push of a head, of each change in the order in which that was told; and what each person has told so.
+    pushers: Dict[int, Dict[str, str]] = field(default_factory=dict)
+    claims: Dict[str, Dict[Tuple[int, str], None]] = field(default_factory=dict)
+    # Which commits the host has made.
+    made: Set[str] = field(default_factory=set)
+    # Who told of moves of the main branch from one commit to another, and when; and the moves that nobody has looked into or nobody made.
+    told_moves: Dict[Tuple[str, str, str], int] = field(default_factory=dict)
+    moves: Dict[int, Move] = field(default_factory=dict)
+    # The last batch of each branch, and the orders that are open, by their names, in the order in which they were given.
+    batches: Dict[str, Batch] = field(default_factory=dict)
+    orders: Dict[str, Union[Stage, Land]] = field(default_factory=dict)
+    # What is to be tested on each branch, and how the checks of it have ended.
+    tests: Dict[str, Test] = field(default_factory=dict)
+    results: Dict[str, Dict[str, str]] = field(default_factory=dict)
+    # Which faults of a check people were told of already.
+    faulted: Set[Tuple[int, str]] = field(default_factory=set)
+    # What was told the bot and has no answer yet.
+    waiting: List[Delivery] = field(default_factory=list)
+
+    # What is read of it
+
+    def phase(self, change: int) -> str:
+        """The phase of a change. One that was never there is as a closed one."""
+        found = self.changes.get(change)
+        return found.phase if found else "closed"
+
+    def open_changes(self) -> List[int]:
+        return sorted(change for change, it in self.changes.items() if it.phase == "open")
+
+    def pusher(self, change: int, head: str) -> Optional[str]:
+        """Who told first of a push of a head."""
+        return self.pushers.get(change, {}).get(head)
+
+    def unknown_moves(self) -> List[Move]:
+        """The moves that nobody has looked into."""
+        return [move for move in self.moves.values() if move.person is None]
+
+    def strays(self) -> List[Move]:
+        """The moves that nobody made who may."""
+        return [move for move in self.moves.values() if move.person == ""]
+
+    def batch_of(self, number: int) -> Optional[Batch]:
+        """A batch, if it is the last one of its branch."""
+        return next((batch for batch in self.batches.values() if batch.stage.batch == number), None)
+
+    # What changes it
+
+    def learn(self, number: int, at: int, fact: Fact) -> List[Told]:
+        """Takes in a fact, with its number and the time at which it was written down. What it tells the bot waits for its answer."""
+        self.waiting += delivered(number, fact, self)
+        if isinstance(fact, (Merged, Conflicted, Delayed, Staged, Moved, NotMoved)):
+            return self.take_outcome(fact)
+        if isinstance(fact, (PushTold, MoverFound, PushesForgotten)):
+            self.take_push(at, fact)
+        elif isinstance(fact, RoleGiven):
+            self.roles[fact.person] = fact.role
+        elif isinstance(fact, MainSeen):
+            self.take_main(number, at, fact)
+        elif isinstance(fact, Ticked):
+            self.clock = fact.now
+        elif isinstance(fact, (Opened, Pushed, Closed)):
+            return self.take_change(fact)
+        elif isinstance(fact, Said):
+            why = objection_to(self, fact)
+            objection = [Told(fact.change, f"Not taken: {why}")] if why else []
+            return [Told(fact.change, words.quoted(fact.person, fact.text)), *objection]
+        elif isinstance(fact, (Ended, Faulted)):
+            return self.take_check(fact)
+        else:
+            restore(self, fact)
+        return []
+
+    def take_main(self, number: int, at: int, fact: MainSeen) -> None:
+        if self.base and fact.commit != self.base:
+            self.moves[number] = Move(number, at, self.base, fact.commit)
+        self.base = self.settings_of = fact.commit
+        if fact.settings is None:
+            self.refusal = words.NO_SETTINGS
+
+    def take_change(self, fact: Union[Opened, Pushed, Closed]) -> List[Told]:
+        before = self.changes.get(fact.change)
+        if isinstance(fact, Closed):
+            self.changes[fact.change] = Change("closed", before.head if before else "")
+            return []
+        if before and before.phase == "landed":
+            self.changes[fact.change] = Change("landed", fact.head)
+            return [Told(fact.change, words.pushed_late(fact.change, fact.head))]
+        self.changes[fact.change] = Change("open", fact.head)
+        self.drop_pushers(fact.change, fact.head)
+        return []
+
+    def drop_pushers(self, change: int, head: str) -> None:
+        """Drops who told of pushes of a change up to a head."""
+        heads = list(self.pushers.get(change, {}))
+        for it in heads[:heads.index(head) + 1] if head in heads else []:
+            self.drop_claim(self.pushers[change][it], change, it)
+
+    def drop_claim(self, person: str, change: int, head: str) -> None:
+        del self.claims[person][(change, head)]
+        del self.pushers[change][head]
+        if not self.pushers[change]:
+            del self.pushers[change]
+        if not self.claims[person]:
+            del self.claims[person]
+
+    def take_claim(self, person: str, change: int, head: str) -> None:
+        """Keeps who told of a push. Of what one person has told so the oldest goes, if there is much: anybody may tell anything."""
+        if head in self.pushers.get(change, {}):
+            return
+        if len(self.claims.get(person, {})) >= MOST_CLAIMS:
+            self.drop_claim(person, *next(iter(self.claims[person])))
+        self.pushers.setdefault(change, {})[head] = person
+        self.claims.setdefault(person, {})[(change, head)] = None
+
+    def take_told_move(self, at: int, before: str, target: str, person: str) -> None:
+        """Keeps who told of a move of the main branch, in the same way."""
+        told = [move for move in self.told_moves if move[2] == person]
+        if len(told) >= MOST_TOLD_MOVES and (before, target, person) not in told:
+            del self.told_moves[told[0]]
+        self.told_moves[(before, target, person)] = at
+
+    def take_push(self, at: int, fact: Union[PushTold, MoverFound, PushesForgotten]) -> None:
+        if isinstance(fact, PushTold):
+            for change, head in fact.heads:
+                self.take_claim(fact.person, change, head)
+            for before, target in fact.moves[-MOST_TOLD_MOVES:]:
+                self.take_told_move(at, before, target, fact.person)
+        elif isinstance(fact, PushesForgotten):
+            self.told_moves = {move: when for move, when in self.told_moves.items() if when > fact.up_to}
+        else:
+            move = self.moves.pop(fact.move, None)
+            if move and not fact.person:
+                self.moves[move.number] = Move(move.number, move.at, move.before, move.target, "")
+            self.told_moves = {key: when for key, when in self.told_moves.items() if key[1] not in fact.used}
+
+    def take_outcome(self, fact: Union[Merged, Conflicted, Delayed, Staged, Moved, NotMoved]) -> List[Told]:
+        """Takes in what became of an order. One that isn't open, as it was replaced by a later one, has no outcome any more; a merge of it
+        is still one of the host's."""
+        order = self.orders.get(fact.order)
+        if isinstance(fact, Merged):
+            self.made.add(fact.commit)
+        if isinstance(order, Land) and isinstance(fact, (Moved, NotMoved)):
+            del self.orders[fact.order]
+            if isinstance(fact, Moved):
+                self.base, self.landed_on = order.commit, fact.branch
+        batch = self.batch_of(order.batch) if isinstance(order, Stage) else None
+        if batch is None:
+            return []
+        if isinstance(fact, Merged):
+            self.batches[batch.stage.branch] = replace(batch, commit=fact.commit)
+        elif isinstance(fact, Conflicted) or (isinstance(fact, Staged) and batch.commit):
+            del self.orders[fact.order]
+        if isinstance(fact, Conflicted):
+            return [Told(change, words.conflict(batch.stage, fact.change, fact.why)) for change in batch.stage.changes]
+        if isinstance(fact, Delayed):
+            return [Told(change, words.delayed(batch.stage, fact.why)) for change in batch.stage.changes]
+        return []
+
+    def take_check(self, fact: Union[Ended, Faulted]) -> List[Told]:
+        batch = self.batch_of(fact.batch)
+        if batch is None:
+            return []
+        stage = batch.stage
+        if isinstance(fact, Ended):
+            self.results.setdefault(stage.branch, {})[fact.name] = fact.state
+            text = f"{words.result(stage, fact.name, fact.state, fact.said)}\noutput: {fact.output}"
+            return [Told(change, text) for change in stage.changes]
+        if (fact.batch, fact.name) in self.faulted:
+            return []
+        self.faulted.add((fact.batch, fact.name))
+        return [Told(change, words.faulted(stage, fact.name, fact.said)) for change in stage.changes]
+
+    def hear(self, answer: Answer) -> List[Told]:
+        """Takes in the answer to the first delivery that has none."""
+        delivery = self.waiting.pop(0)
+        told: List[Told] = []
+        if delivery.event == "comment":
+            told += [Told(change, words.replies(answer)) for change in delivery.changes]
+        elif delivery.event == "settings":
+            self.refusal = "" if is_done(answer) else words.first_denial(answer)
+        elif delivery.event == "staged" and is_done(answer) and isinstance(delivery.order, Stage):
+            self.begin_test(delivery.order)
+        elif delivery.event == "base" and is_done(answer) and isinstance(delivery.order, Land):
+            told += self.note_landing(delivery.order)
+        for place, order in enumerate(orders_of(answer)):
+            told += self.take_order(f"{delivery.id}.{place}", delivery, order)
+        self.note_end(delivery, answer)
+        return told
+
+    def begin_test(self, stage: Stage) -> None:
+        batch = self.batch_of(stage.batch)
+        if batch and batch.commit:
+            self.tests[stage.branch] = Test(stage.branch, stage.batch, batch.commit)
+            self.results[stage.branch] = {}
+
+    def note_landing(self, land: Land) -> List[Told]:
+        """Notes which changes have landed."""
+        batch = self.batch_of(land.batch)
+        if batch is None:
+            return []
+        for change, head in batch.stage.heads:
+            self.changes[change] = Change("landed", head)
+        return [Told(change, words.landed(batch.stage, self.landed_on, land.commit)) for change in batch.stage.changes]
+
+    def take_order(self, name: str, delivery: Delivery, order: Order) -> List[Told]:
+        """Takes in an order. A batch on a branch replaces the one before it there, with its order and its test."""
+        if isinstance(order, Notice):
+            return [Told(order.change, words.notice(order))]
+        if isinstance(order, Land):
+            if self.batch_of(order.batch) is None:
+                raise Unread(f"an order to land batch {order.batch}, which isn't the last one that was to be staged")
+            self.orders[name] = order
+            return []
+        self.orders = {it: other for it, other in self.orders.items() if isinstance(other, Land) or other.branch != order.branch}
+        self.orders[name] = order
+        self.batches[order.branch] = Batch(name, order, delivery.now)
+        self.tests.pop(order.branch, None)
+        self.results.pop(order.branch, None)
+        self.faulted = {(batch, it) for batch, it in self.faulted if self.batch_of(batch)}
+        return []
+
+    def note_end(self, delivery: Delivery, answer: Answer) -> None:
+        """Notes whether a batch has ended by this, so that the next one needn't wait for its reading of the clock: it has landed, was
+        refused, can't be merged, has failed or took too long, or was a try that has passed."""
+        is_end = delivery.order is not None and delivery.event in ("base", "refused", "conflict")
+        has_failed = delivery.event == "status" and delivery.state in ("failure", "error")
+        is_told = any(isinstance(order, Notice) and order.why in ENDS for order in orders_of(answer))
+        self.ended += is_end or has_failed or is_told

@@ -1,0 +1,150 @@
+"""What notes say, and what is taken of them."""
+import re
+from dataclasses import asdict, dataclass
+from typing import TYPE_CHECKING, Dict, List, Mapping, Optional, Tuple, Union
+
+from .facts import PushTold, Said
+from .orders import Json
+
+if TYPE_CHECKING:
+    from .known import Known
+
+LAST_CHANGE = 4294967295
+# A character takes up to six bytes in a line that is handed in, and a line has at most 65,536.
+MOST_IN_COMMENT = 8000
+COMMIT = re.compile(r"[0-9a-f]{40}")
+COMMAND_LINE = re.compile(r"bors[ :]", re.IGNORECASE)
+
+
+@dataclass(frozen=True)
+class Comment:
+    """What a person said of a change, by a note. The head is the one that the writer has seen, empty if it isn't a commit, and none if the
+    note doesn't say so."""
+
+    note: str
+    person: str
+    change: int
+    text: str
+    seen: Optional[str]
+
+
+@dataclass(frozen=True)
+class Acceptance:
+    """A person takes the moves of the main branch to a commit for right after all."""
+
+    note: str
+    person: str
+    commit: str
+
+
+@dataclass(frozen=True)
+class Strange:
+    """A note that is none of these."""
+
+    note: str
+    person: str
+
+
+Note = Union[Comment, PushTold, Acceptance, Strange]
+
+
+@dataclass(frozen=True)
+class CommentLeft:
+    """A comment as it is left by its writer, with the head that was seen."""
+
+    person: Optional[str]
+    change: int
+    text: str
+    head: str
+
+
+@dataclass(frozen=True)
+class PushLeft:
+    """What a hook tells of a push."""
+
+    person: Optional[str]
+    heads: Tuple[Tuple[int, str], ...] = ()
+    moves: Tuple[Tuple[str, str], ...] = ()
+
+
+@dataclass(frozen=True)
+class AcceptanceLeft:
+    """That the owner takes the moves of the main branch to a commit for right after all."""
+
+    person: Optional[str]
+    commit: str
+
+
+Left = Union[CommentLeft, PushLeft, AcceptanceLeft]
+KINDS = {CommentLeft: "comment", PushLeft: "push", AcceptanceLeft: "accept"}
+
+
+def table_of(left: Left) -> Dict[str, Json]:
+    """What stands in a note that is left."""
+    return {"kind": KINDS[type(left)], **asdict(left)}
+
+
+def note_in(name: str, person: str, body: Mapping[str, Json]) -> Note:
+    """What a note says, by its name, who left it, and the table that it has."""
+    if body.get("kind") == "push":
+        return push_in(name, person, body)
+    if body.get("kind") == "accept":
+        return Acceptance(name, person, str(body.get("commit")))
+    return comment_in(name, person, body)
+
+
+def command_lines(text: str) -> List[str]:
+    """The lines of a comment that are commands. The bot needs no others."""
+    return [line for line in text.split("\n") if COMMAND_LINE.match(line)]
+
+
+def push_in(name: str, person: str, body: Mapping[str, Json]) -> Union[PushTold, Strange]:
+    """What a note tells of a push. What isn't as it should be among its heads and moves is left out."""
+    heads, moves = body.get("heads"), body.get("moves", [])
+    if not isinstance(heads, list) or not isinstance(moves, list):
+        return Strange(name, person)
+    return PushTold(name, person, tuple(it for it in map(head_in, heads) if it), tuple(it for it in map(move_in, moves) if it))
+
+
+def comment_in(name: str, person: str, body: Mapping[str, Json]) -> Union[Comment, Strange]:
+    change, text, head = body.get("change"), body.get("text"), body.get("head")
+    if not is_number(change) or not isinstance(change, int) or not isinstance(text, str) or len(text) > MOST_IN_COMMENT:
+        return Strange(name, person)
+    seen = None if head is None else head if isinstance(head, str) and is_commit(head) else ""
+    # Half of a surrogate pair is no character, and the bot takes none.
+    return Comment(name, person, change, text.encode("utf-8", "replace").decode("utf-8"), seen)
+
+
+def objection_to(known: "Known", said: Said) -> str:
+    """Why the commands of a comment aren't taken, or nothing. They are about what their writer has seen, if that can be read."""
+    found = known.changes.get(said.change)
+    if found is None or not command_lines(said.text):
+        return ""
+    if said.seen not in (None, found.head):
+        return f"it was about {said.seen or 'another commit'}, and the change is at {found.head} now. Look at that first."
+    if not said.is_readable:
+        return f"{found.head} can't be read whole in the repository. Push it again, or push another commit."
+    return ""
+
+
+def head_in(found: Json) -> Optional[Tuple[int, str]]:
+    """The number of a change and a head, if it is that."""
+    if isinstance(found, list) and len(found) == 2 and is_number(found[0]) and is_commit(found[1]):
+        return int(found[0]), str(found[1])
+    return None
+
+
+def move_in(found: Json) -> Optional[Tuple[str, str]]:
+    """Two commits, if it is that."""
+    if isinstance(found, list) and len(found) == 2 and is_commit(found[0]) and is_commit(found[1]):
+        return str(found[0]), str(found[1])
+    return None
+
+
+def is_number(found: Json) -> bool:
+    """Whether this is a number of a change. True is no number here, although it is an int."""
+    return isinstance(found, int) and not isinstance(found, bool) and 0 < found <= LAST_CHANGE
+
+
+def is_commit(found: Json) -> bool:
+    return isinstance(found, str) and COMMIT.fullmatch(found) is not None

@@ -1,0 +1,128 @@
+"""What is made of a look at the branches, and of who told of pushes. What was seen here and isn't written down is gone when the host ends,
+and is seen again by the next one."""
+from dataclasses import dataclass, field
+from itertools import count
+from typing import Collection, Container, Dict, List, Mapping, Optional, Set, Tuple
+
+from .facts import Closed, Fact, MoverFound, Pushed, PushesForgotten, RoleGiven
+from .known import Known, Move
+
+# So many changes are opened before there is other news, so that a push of many holds nobody up.
+MOST_CHANGES_AT_ONCE = 50
+
+
+@dataclass
+class Watch:
+    """What the looks have seen and isn't written down yet."""
+
+    # In so many rounds each note is taken that lay there before them.
+    rounds_for_all: int
+    # How many rounds there were.
+    rounds: int = 0
+    # Changes that were seen, and that later looks open.
+    later: List[int] = field(default_factory=list)
+    # In which round a head was first seen of which no note tells who pushed it, and a move of the main branch that nobody has looked into.
+    unclaimed: Dict[Tuple[int, str], int] = field(default_factory=dict)
+    moves: Dict[int, int] = field(default_factory=dict)
+
+    def pick(self, known: Known, heads: Mapping[int, str]) -> Dict[int, str]:
+        """The changes that this look is about. Of those that are new later looks take the rest. Those that have moved don't wait: that ends
+        their approval."""
+        new = {change for change in heads if known.phase(change) == "closed"}
+        waiting = [change for change in self.later if change in new]
+        self.later = [*waiting, *sorted(new - set(waiting))][MOST_CHANGES_AT_ONCE:]
+        self.unclaimed = {(change, head): since for (change, head), since in self.unclaimed.items() if heads.get(change) == head}
+        later = set(self.later)
+        return {change: head for change, head in sorted(heads.items()) if change not in later}
+
+    def author(self, known: Known, change: int, head: str, owner: str, has_more: bool) -> Optional[str]:
+        """Who is the author of a change that is new, or none if a note may still tell it. What no note has told of is the owner's."""
+        told = known.pusher(change, head)
+        if told is None and self.may_be_told_yet(self.unclaimed.setdefault((change, head), self.rounds), has_more):
+            return None
+        self.unclaimed.pop((change, head), None)
+        return told or owner
+
+    def may_be_told_yet(self, since: int, has_more: bool) -> bool:
+        """Whether a note may still come of what was seen first in that round. It was left before, but a round takes only some notes of
+        each user. Whoever goes on leaving notes can hold that up, but not for ever."""
+        return since == self.rounds or (has_more and self.rounds < since + self.rounds_for_all)
+
+    def is_awaited(self, change: int) -> bool:
+        """Whether a change was seen that isn't open yet. What is said of it waits."""
+        return change in self.later or any(change == unclaimed for unclaimed, _ in self.unclaimed)
+
+    def note_moves(self, known: Known) -> None:
+        """Notes in which round a move of the main branch was seen first."""
+        for move in known.unknown_moves():
+            self.moves.setdefault(move.number, self.rounds)
+
+    def next_mover(self, known: Known, may_push: Collection[str], has_more: bool) -> Optional[MoverFound]:
+        """Who made the first move of the main branch that nobody has looked into, unless a note may still tell it. What tells of one is
+        used up when that is written down, so they are looked into one by one."""
+        for move in known.unknown_moves():
+            if not self.may_be_told_yet(self.moves.setdefault(move.number, self.rounds), has_more):
+                return mover_of(known, move, may_push)
+        return None
+
+
+def news_of_roles(known: Known, roles: Mapping[str, str]) -> List[RoleGiven]:
+    """The roles that weren't told yet. Who isn't among them any more has none."""
+    given = [RoleGiven(name, role) for name, role in roles.items() if known.roles.get(name, "nobody") != role]
+    return given + [RoleGiven(name, "nobody") for name, role in known.roles.items() if role != "nobody" and name not in roles]
+
+
+def is_news_of_main(known: Known, commit: str) -> bool:
+    """Whether the base or its settings have to be told."""
+    return not commit == known.base == known.settings_of
+
+
+def is_new(known: Known, change: int) -> bool:
+    """Whether a change that is there has to be opened."""
+    return known.phase(change) == "closed"
+
+
+def news_of_head(known: Known, change: int, head: str) -> Optional[Fact]:
+    """Whether a change that was there before is at another head."""
+    found = known.changes.get(change)
+    return Pushed(change, head) if found and found.phase != "closed" and found.head != head else None
+
+
+def gone(known: Known, heads: Container[int]) -> List[Closed]:
+    """The open changes that aren't there any more."""
+    return [Closed(change) for change, it in known.changes.items() if it.phase == "open" and change not in heads]
+
+
+def mover_of(known: Known, move: Move, may_push: Collection[str]) -> MoverFound:
+    """Who may push there and told of having moved the branch, by one step or several; or nobody."""
+    told: Dict[str, List[Tuple[str, str]]] = {}
+    for before, target, person in sorted(known.told_moves):
+        if person in may_push:
+            told.setdefault(target, []).append((before, person))
+    seen: Set[str] = {move.target}
+    steps = [(move.target, "")]
+    while steps:
+        target, last = steps.pop()
+        for before, person in told.get(target, []):
+            if before == move.before:
+                return MoverFound(move.number, last or person, tuple(sorted(seen)))
+            if before not in seen:
+                seen.add(before)
+                steps.append((before, last or person))
+    return MoverFound(move.number, "")
+
+
+def accepted(known: Known, commit: str, person: str, owner: Optional[str]) -> List[MoverFound]:
+    """That the owner takes moves of the main branch to a commit for right after all. Nobody else can."""
+    return [MoverFound(move.number, person) for move in known.strays() if person == owner and move.target == commit]
+
+
+def old_pushes(known: Known, up_to: int) -> Optional[PushesForgotten]:
+    """What is forgotten of who told of pushes, unless somebody has still to look into a move."""
+    is_old = any(at <= up_to for at in known.told_moves.values())
+    return PushesForgotten(up_to) if is_old and not known.unknown_moves() else None
+
+
+def free_number(taken: Container[int]) -> int:
+    """The first number that no change has."""
+    return next(number for number in count(1) if number not in taken)

@@ -1,0 +1,73 @@
+"""The bot, kept running: it is started anew if it has ended, and gets what it lacks of the journal."""
+import os
+import time
+from typing import Callable, Optional
+
+from .bot_file import has_file, lacks_answers
+from .client import Bot, BotEnded
+from .faults import Trouble
+from .journal import Journal
+from .places import Places
+from .troubles import complain
+
+# How often the bot is started again before the host gives up. The pauses grow up to ten seconds.
+STARTS = 12
+
+
+class KeptBot:
+    """A bot that answers whenever it can be made to."""
+
+    def __init__(self, places: Places, journal: Journal, program: Callable[[], str], is_all_again: bool, is_ending: Callable[[], bool]):
+        self.places, self.journal = places, journal
+        # Which program it is, as the settings say now; and whether the host is to end.
+        self.program, self.is_ending = program, is_ending
+        self.is_all_again = is_all_again
+        self.bot: Optional[Bot] = None
+
+    def must_belong_to_journal(self) -> None:
+        """The journal and the file of the bot are of one history."""
+        if not os.access(self.program(), os.X_OK):
+            raise Trouble(f"there is no program {self.program()}; build it, or name another in {self.places.settings}")
+        if has_file(self.places) and self.journal.is_empty():
+            raise Trouble(f"the journal is new, and the bot has records; remove {self.places.bot} and {self.places.bot}-wal")
+
+    def hand_in(self, line: str) -> str:
+        """The answer of the bot, which is started anew if it has ended."""
+        for attempt in range(STARTS):
+            try:
+                if self.bot is None:
+                    self.bot = self.start()
+                answer = self.bot.hand_in(line)
+                if not answer.startswith("["):
+                    raise Trouble(f"the bot takes this for no delivery, and says {answer}: {line}")
+                return answer
+            except BotEnded as fault:
+                complain(f"{fault}; the bot is started again")
+                self.close()
+                if self.is_ending():
+                    break
+                time.sleep(min(10.0, 0.1 * 2 ** attempt))
+        raise Trouble("the bot gives no answer, however often it is started")
+
+    def start(self) -> Bot:
+        """Starts the bot. If its file lacks answers of the journal, it gets all deliveries again, and has to give the same answers."""
+        is_behind = lacks_answers(self.places, self.journal)
+        if is_behind and self.journal.count_answered():
+            complain(f"{self.places.bot} lacks answers that the journal has, so the bot gets all deliveries again")
+        bot = Bot(self.program(), self.places.bot)
+        if not is_behind and not self.is_all_again:
+            return bot
+        try:
+            for line, answer in self.journal.answered():
+                if bot.hand_in(line) != answer:
+                    raise Trouble(f"the bot answers another way than before to {line}")
+        except (BotEnded, Trouble):
+            bot.close()
+            raise
+        self.is_all_again = False
+        return bot
+
+    def close(self) -> None:
+        if self.bot:
+            self.bot.close()
+        self.bot = None

@@ -1,0 +1,185 @@
+"""The ports: what the host touches, one concern each. The bare repository is the first set of them; `bare` puts it together."""
+from dataclasses import dataclass
+from typing import Dict, Iterable, List, Mapping, Optional, Protocol, Sequence, Tuple, Union
+
+from .core.deliveries import Delivery
+from .core.facts import Conflicted, Fact, Merged
+from .core.known import Batch, Known, Test
+from .core.notes import Note
+from .core.orders import Land
+from .journal import Heard
+from .settings import Settings
+
+
+@dataclass(frozen=True)
+class Look:
+    """What a look has seen: the commit of the main branch, if it is there, the heads of the changes, and what is in the way."""
+
+    main: Optional[str]
+    heads: Dict[int, str]
+    in_way: Sequence[str] = ()
+
+
+@dataclass(frozen=True)
+class Result:
+    """How a check has ended: the state of its status, why, in words, and the name of the file with its output."""
+
+    test: Test
+    name: str
+    state: str
+    said: str
+    output: str
+
+
+@dataclass(frozen=True)
+class Fault:
+    """Why a check has come to no verdict. That is nobody's fault, and it is tried again."""
+
+    test: Test
+    name: str
+    said: str
+
+
+class Source(Protocol):
+    """Where changes and comments come from."""
+
+    @property
+    def has_more(self) -> bool:
+        """Whether some notes are left that the last look at them hasn't taken."""
+
+    def look(self) -> Look:
+        """Looks at everything, as it is now."""
+
+    def take(self) -> Sequence[Note]:
+        """Notes that lie there, in the order in which they were left. They stay until they are removed."""
+
+    def remove(self, name: str) -> None:
+        """Removes a note."""
+
+
+class Repository(Protocol):
+    """Where commits come from, are merged and moved. What can't be done at present raises `Unable`."""
+
+    def fetch(self, heads: Mapping[int, str]) -> Dict[int, str]:
+        """Has the heads of changes here. Gives why one can't come, by its change."""
+
+    def forget(self, changes: Iterable[int]) -> None:
+        """Keeps the heads of these changes no longer."""
+
+    def settings_at(self, commit: str, most: int) -> Optional[str]:
+        """The text of the bot's settings in a commit, unless there is none, or one with more bytes."""
+
+    def merge(self, order: str, batch: Batch) -> Union[Merged, Conflicted]:
+        """Makes one commit, whose parents are the base and the heads of a batch. Done again, it is the same commit."""
+
+    def point(self, batch: Batch, known: Known) -> None:
+        """Moves the branch on which a batch is tested to its merge."""
+
+    def land(self, land: Land, batch: Batch) -> bool:
+        """Moves the main branch from exactly the base to exactly the commit. Gives whether the commit is there. If it isn't, it never will
+        be by this order."""
+
+    def tidy(self, known: Known) -> None:
+        """Throws away what isn't needed any more."""
+
+
+class Runner(Protocol):
+    """What runs checks."""
+
+    def clear(self) -> None:
+        """Removes what an earlier host has left."""
+
+    def ended(self, wanted: Sequence[Test]) -> Sequence[Union[Result, Fault]]:
+        """What has ended since the last look. What isn't wanted any more is stopped."""
+
+    def lasting(self) -> Sequence[Fault]:
+        """The faults because of which checks are tried again. Each lasts until its check has a result."""
+
+    def begin(self, test: Test, settings: Settings, done: Mapping[str, str]) -> None:
+        """Starts what is left of the checks of a commit."""
+
+    def close(self) -> None:
+        """Stops all."""
+
+
+class Bot(Protocol):
+    """The bot, which answers each delivery."""
+
+    def hand_in(self, line: str) -> str:
+        """Hands a delivery in, and gives the answer."""
+
+    def close(self) -> None:
+        """Ends the bot."""
+
+
+class Journal(Protocol):
+    """Where facts and answers are written down, each with all that belongs to it, in one step."""
+
+    def record(self, known: Known, at: int, fact: Fact) -> None:
+        """Writes a fact down, and takes it in."""
+
+    def has_taken(self, note: str) -> bool:
+        """Whether a note was taken before."""
+
+    def keep_answer(self, known: Known, at: int, answer: str) -> Heard:
+        """Writes down the answer to the first delivery that has none, and takes it in."""
+
+    def close(self) -> None:
+        """Closes it."""
+
+
+class Clock(Protocol):
+    """The clock."""
+
+    def now(self) -> int:
+        """The time, in whole seconds."""
+
+    def running(self) -> float:
+        """For how many seconds the system has been running, also while it slept."""
+
+
+class Board(Protocol):
+    """Where people are told."""
+
+    @property
+    def is_waiting(self) -> bool:
+        """Whether something waits in the queue. If that isn't known, it may."""
+
+    @property
+    def is_behind(self) -> bool:
+        """Whether a refresh has something to do that was left by the last one."""
+
+    def note(self, delivery: Delivery, changes: Sequence[int]) -> None:
+        """Notes that a delivery has its answer, and of which changes something may be another way now."""
+
+    def refresh(self, program: str, remarks: Sequence[str]) -> None:
+        """Tells all that has changed."""
+
+    def close(self) -> None:
+        """Ends what was started for it."""
+
+
+class Owner(Protocol):
+    """What the owner has written for the host."""
+
+    settings: Settings
+    roles: Mapping[str, str]
+    # The branch that is guarded, since the host was started.
+    main: str
+
+    def read(self) -> List[Tuple[str, str]]:
+        """Reads again, and gives of each file its name and what is wrong with it, or nothing. What was read before stays then."""
+
+
+@dataclass(frozen=True)
+class Ports:
+    """All that a host touches."""
+
+    source: Source
+    repository: Repository
+    runner: Runner
+    bot: Bot
+    journal: Journal
+    clock: Clock
+    board: Board
+    owner: Owner

@@ -1,0 +1,65 @@
+"""Tests of how a host of a bare repository is put together, as far as no story shows it."""
+import os
+import shutil
+import subprocess
+import sys
+import tempfile
+import time
+import unittest
+from pathlib import Path
+from unittest import mock
+
+sys.path.insert(0, str(Path(__file__).resolve().parent.parent))
+
+from gate_host.bare import OwnerFiles, SystemClock  # noqa: E402
+from gate_host.faults import Trouble  # noqa: E402
+from gate_host.places import Places  # noqa: E402
+
+HOST = Path(__file__).resolve().parent.parent / "gate-host"
+
+
+class OwnerTests(unittest.TestCase):
+    def setUp(self):
+        room = tempfile.TemporaryDirectory()
+        self.addCleanup(room.cleanup)
+        path, program = Path(room.name) / "project.git", Path(room.name) / "gate"
+        shutil.copy("/bin/true", program)
+        subprocess.run(["git", "init", "--quiet", "--bare", "--initial-branch=main", str(path)], check=True, timeout=30)
+        words = ["init", str(path), "--program", str(program), "--check=build=true", "--reviewer=rosa"]
+        subprocess.run([sys.executable, HOST, *words], check=True, capture_output=True, timeout=60)
+        self.places = Places(path)
+
+    def test_what_was_good_before_stays(self):
+        files = OwnerFiles(self.places, os.geteuid())
+        self.assertEqual(files.read(), [("settings", ""), ("roles", "")])
+        self.assertEqual((files.settings.main, files.roles), ("main", {"rosa": "reviewer"}))
+        text = self.places.settings.read_text(encoding="utf-8")
+        self.places.settings.write_text("[host]\n", encoding="utf-8")
+        self.places.roles.write_text("rosa queen\n", encoding="utf-8")
+        self.assertEqual([(name, fault[:24]) for name, fault in files.read()], [
+            ("settings", "settings: main and progr"), ("roles", "roles: line 1 isn't a na"),
+        ])
+        self.assertEqual((files.settings.main, files.roles), ("main", {"rosa": "reviewer"}))
+        self.places.settings.write_text(text.replace("tick_seconds = 10", "tick_seconds = 3"), encoding="utf-8")
+        self.places.roles.write_text("otto member\n", encoding="utf-8")
+        self.assertEqual(files.read(), [("settings", ""), ("roles", "")])
+        self.assertEqual((files.settings.tick_seconds, files.roles), (3, {"otto": "member"}))
+
+    def test_a_folder_that_others_may_exchange_is_no_more_read(self):
+        files = OwnerFiles(self.places, os.geteuid())
+        self.places.repository.chmod(0o777)
+        with self.assertRaisesRegex(Trouble, "could exchange what is in it"):
+            files.read()
+
+
+class ClockTests(unittest.TestCase):
+    def test_it_is_the_clock_of_the_system(self):
+        with mock.patch("time.time", lambda: 1700000000.9):
+            self.assertEqual(SystemClock().now(), 1700000000)
+        before = SystemClock().running()
+        time.sleep(0.01)
+        self.assertGreater(SystemClock().running(), before)
+
+
+if __name__ == "__main__":
+    unittest.main()

@@ -1,0 +1,55 @@
+"""Tests of the bot as a child of the host."""
+import os
+import signal
+import sys
+import unittest
+from pathlib import Path
+from types import SimpleNamespace
+from unittest import mock
+
+sys.path.insert(0, str(Path(__file__).resolve().parent.parent))
+
+from folders import InFolder  # noqa: E402
+from gate_host.client import Bot, BotEnded  # noqa: E402
+
+
+class ClientTests(InFolder):
+    def program(self, text):
+        path = self.room / "program"
+        path.write_text(f"#!/bin/sh\n{text}\n", encoding="utf-8")
+        path.chmod(0o755)
+        return str(path)
+
+    def test_an_answer_may_come_in_pieces(self):
+        bot = Bot(self.program("read line; printf '[\"'; sleep 0.1; printf '%s\"]\\n' \"$line\"; cat"), self.room / "file")
+        self.assertEqual(bot.hand_in("one"), '["one"]')
+        self.assertEqual(bot.hand_in("two"), "two")
+        bot.close()
+
+    def test_a_line_is_handed_in_whole(self):
+        bot = Bot(self.program("exec cat"), self.room / "file")
+        bot.seconds = 5
+        self.addCleanup(bot.close)
+        with mock.patch.object(bot, "given", SimpleNamespace(write=lambda part: os.write(bot.process.stdin.fileno(), part[:3]))):
+            self.assertEqual(bot.hand_in("a longer line"), "a longer line")
+
+    def test_how_a_bot_ends_is_told(self):
+        for text, due in (("echo gate: Store >&2; exit 1", "gate: Store"), ("kill -9 $$", "status -9")):
+            bot = Bot(self.program(text), self.room / "file")
+            with self.assertRaisesRegex(BotEnded, due):
+                bot.hand_in("one")
+            bot.close()
+        with self.assertRaisesRegex(BotEnded, "can't be started"):
+            Bot(str(self.room / "none"), self.room / "file")
+
+    def test_a_silent_bot_is_ended(self):
+        bot = Bot(self.program("exec sleep 60"), self.room / "file")
+        bot.seconds = 0.1
+        with self.assertRaisesRegex(BotEnded, "no answer for"):
+            bot.hand_in("one")
+        bot.close()
+        self.assertEqual(bot.process.returncode, -signal.SIGKILL)
+
+
+if __name__ == "__main__":
+    unittest.main()

@@ -1,0 +1,39 @@
+"""All that is known can be written down as one fact, and read again."""
+import unittest
+from dataclasses import fields
+
+from playing import A, B, C, DONE, LANDING, ORDERED, Play, stage, with_orders
+from gate_host.core.earlier import restore, upgraded
+from gate_host.core.facts import MainSeen, Merged, PushTold, RoleGiven, Staged, Ticked, fact_in, kind_of, written
+from gate_host.core.known import Known
+
+# What may be forgotten: which batches have just ended, where something landed, and which faults people were told of.
+FORGOTTEN = {"landed_on", "ended", "faulted"}
+
+
+class EarlierTests(unittest.TestCase):
+    def test_what_is_known_comes_back(self):
+        push = PushTold("n9", "ines", ((9, A), (9, B)), ((A, B),))
+        seen = set()
+        for steps in (
+            [], LANDING, ORDERED, [*LANDING, (push,), (MainSeen(B, None), DONE)],
+            [*LANDING, (Ticked(60), with_orders(stage(2, "trying", heads=((8, C),)))), (Merged("tick-9.0", C),)],
+        ):
+            known = Play(*steps).known
+            # A delivery that has no answer yet, of each kind.
+            known.learn(98, 0, RoleGiven("otto", "member"))
+            for name in list(known.orders)[1:]:
+                known.learn(99, 0, Staged(name))
+            fact = upgraded(known)
+            found = Known()
+            restore(found, fact_in(kind_of(fact), written(fact)))
+            for field in fields(Known):
+                if field.name not in FORGOTTEN:
+                    self.assertEqual(getattr(found, field.name), getattr(known, field.name), field.name)
+                    seen |= {field.name} if getattr(known, field.name) else set()
+        # Each field was there at some time.
+        self.assertEqual({field.name for field in fields(Known)} - FORGOTTEN - seen, set())
+
+
+if __name__ == "__main__":
+    unittest.main()

@@ -1,0 +1,468 @@
+"""Tests of the loop over ports of values: a world without repositories, processes and time, in which the host dies at every place."""
+import json
+import re
+import sys
+import tempfile
+import unittest
+from pathlib import Path
+from types import SimpleNamespace
+from unittest import mock
+
+sys.path.insert(0, str(Path(__file__).resolve().parent.parent))
+
+from gate_host import loop, ports, troubles  # noqa: E402
+from gate_host.core.facts import Conflicted, Merged  # noqa: E402
+from gate_host.core.notes import note_in  # noqa: E402
+from gate_host.faults import Unable  # noqa: E402
+from gate_host.journal import Journal  # noqa: E402
+from gate_host.loop import Host  # noqa: E402
+from gate_host.troubles import Troubles  # noqa: E402
+
+A, C, D = (digit * 40 for digit in "acd")
+DONE = '[{"orders":[],"verdict":"done"}]'
+
+
+class Died(BaseException):
+    """The host is dead. Nothing in it can catch that."""
+
+
+def commit_of(changes, base=A):
+    """The name of the merge of some changes onto a base."""
+    return f"{base[0]}{''.join(map(str, changes))}".ljust(40, "0")
+
+
+def with_orders(*orders):
+    return json.dumps([{"orders": list(orders), "verdict": "done"}])
+
+
+class World:
+    """All that outlasts a host: what the ports touch. Each touch is a place at which the host may die, before and after."""
+
+    def __init__(self, room):
+        self.path = room / "journal.db"
+        self.main, self.branches, self.mirror = A, {}, set()
+        self.heads = {change: f"{change}" * 40 for change in (1, 2, 3, 4)}
+        texts = {1: "bors r+", 2: "bors r+", 3: "bors r+", 4: "bors try"}
+        self.notes = {f"n{it}": ("rosa", {"change": it, "text": text, "head": self.heads[it]}) for it, text in texts.items()}
+        # To which commit somebody else moves the main branch before the first landing, if anybody does.
+        self.moved_to = None
+        self.answers, self.said, self.moves, self.time = {}, [], [], 1000
+        # Which orders git can't do for now, and how often each was tried.
+        self.unable, self.tries = {}, []
+        self.touches, self.last = 0, None
+
+    def touch(self, name):
+        """A place at which the host may die."""
+        self.touches += 1
+        if self.touches == self.last:
+            raise Died(name)
+
+    def act(self, name, then=lambda: None):
+        self.touch(f"before {name}")
+        result = then()
+        self.touch(f"after {name}")
+        return result
+
+
+class Bot:
+    """A bot that stages change 3 alone, which conflicts, then changes 1 and 2, and lands these; and tries change 4. It answers what comes
+    again as before."""
+
+    def __init__(self, world):
+        self.world = world
+
+    def hand_in(self, line):
+        return self.world.act("hand in", lambda: self.answer(line))
+
+    def answer(self, line):
+        delivery = json.loads(line)
+        if delivery["id"] not in self.world.answers:
+            self.world.answers[delivery["id"]] = self.new_answer(delivery)
+            self.world.said.append(delivery)
+        return self.world.answers[delivery["id"]]
+
+    def new_answer(self, delivery):
+        event = delivery["event"]
+        if event == "tick":
+            return with_orders(*self.staged())
+        if event == "conflict":
+            return with_orders({"order": "notice", "change": 3, "why": "Conflict"})
+        if event == "status" and delivery["name"] == "lint" and delivery["commit"] == commit_of([4]):
+            return with_orders({"order": "notice", "change": 4, "why": "TryPassed"})
+        if event == "status" and delivery["name"] == "lint":
+            return with_orders({"order": "land", "batch": self.last_batch("staging"), "base": self.base(), "commit": delivery["commit"]})
+        return DONE
+
+    def orders(self):
+        return [order for answer in self.world.answers.values() for reply in json.loads(answer) for order in reply["orders"]]
+
+    def last_batch(self, branch):
+        return max([it["batch"] for it in self.orders() if it["order"] == "stage" and it["branch"] == branch], default=0)
+
+    def base(self):
+        return [it["commit"] for it in self.world.said if it["event"] == "base"][-1]
+
+    def staged(self):
+        """What is ordered to be staged now: each branch has one batch at a time."""
+        said, orders = self.world.said, self.orders()
+        ended = sum(it["event"] in ("conflict", "refused") or it["id"].endswith(".0") and it["event"] == "base" for it in said)
+        waiting = [[3], [1, 2], [1, 2]] if any(it["event"] == "refused" for it in said) else [[3], [1, 2]]
+        if sum(it["event"] == "comment" for it in said) < 4:
+            return []
+        found = []
+        if sum(it["order"] == "stage" and it["branch"] == "staging" for it in orders) == ended < len(waiting):
+            found.append(("staging", waiting[ended]))
+        if not self.last_batch("trying"):
+            found.append(("trying", [4]))
+        first = max(self.last_batch("staging"), self.last_batch("trying")) + 1
+        return [
+            {"order": "stage", "batch": number, "branch": branch, "base": self.base(), "heads": [[it, self.world.heads[it]] for it in of]}
+            for number, (branch, of) in enumerate(found, first)
+        ]
+
+    def close(self):
+        pass
+
+
+class Source:
+    def __init__(self, world):
+        self.world = world
+        self.has_more = False
+
+    def take(self):
+        return [note_in(name, *note) for name, note in sorted(self.world.notes.items())]
+
+    def remove(self, name):
+        self.world.act("remove", lambda: self.world.notes.pop(name))
+
+    def look(self):
+        return ports.Look(self.world.main, dict(self.world.heads))
+
+
+class Repository:
+    def __init__(self, world):
+        self.world = world
+
+    def must_be_able(self, what):
+        self.world.tries.append(what)
+        if self.world.unable.get(what, 0):
+            self.world.unable[what] -= 1
+            raise Unable("no room")
+
+    def fetch(self, heads):
+        return {}
+
+    def forget(self, changes):
+        list(changes)
+
+    def settings_at(self, commit, most):
+        return 'status = ["build", "lint"]'
+
+    def merge(self, order, batch):
+        self.must_be_able("merge")
+        if batch.stage.changes == [3]:
+            return self.world.act("merge", lambda: Conflicted(order, 3, "both change x"))
+        commit = commit_of(batch.stage.changes, batch.stage.base)
+        return self.world.act("merge", lambda: (self.world.mirror.add(commit), Merged(order, commit))[1])
+
+    def point(self, batch, known):
+        self.must_be_able("point")
+        assert batch.commit in self.world.mirror
+        self.world.act("point", lambda: self.world.branches.update({batch.stage.branch: batch.commit}))
+
+    def land(self, land, batch):
+        self.must_be_able("land")
+
+        def move():
+            self.world.main, self.world.moved_to = self.world.moved_to or self.world.main, None
+            if self.world.main == land.base:
+                self.world.moves.append((land.base, land.commit))
+                self.world.main = land.commit
+        self.world.act("land", move)
+        return self.world.main == land.commit
+
+    def tidy(self, known):
+        pass
+
+
+class Runner:
+    """Runs the checks of a commit, one in each round."""
+
+    def __init__(self, world):
+        self.world, self.running, self.faults = world, {}, []
+
+    def clear(self):
+        pass
+
+    def ended(self, wanted):
+        running, self.running = self.running, {}
+        for test, _ in running.values():
+            assert self.world.branches[test.branch] == test.commit
+        return [ports.Result(test, name, "success", "it ended", name) for test, name in running.values() if test in wanted]
+
+    def begin(self, test, settings, done):
+        left = [name for name in settings.checks if name not in done]
+        if left:
+            self.running[test.branch] = (test, left[0])
+
+    def lasting(self):
+        return self.faults
+
+    def close(self):
+        pass
+
+
+class Board:
+    def __init__(self, world):
+        self.is_waiting, self.is_behind = True, False
+        self.noted = []
+
+    def note(self, delivery, changes):
+        self.noted.append((delivery.id, list(changes)))
+
+    def refresh(self, program, remarks):
+        self.remarks = remarks
+
+    def close(self):
+        pass
+
+
+class DyingJournal(Journal):
+    """A journal whose host may die before a step is written, and after."""
+
+    def __init__(self, world):
+        super().__init__(world.path)
+        # These tests don't cut the power.
+        self.database.execute("PRAGMA synchronous = OFF")
+        self.world = world
+
+    def record(self, known, at, fact):
+        self.world.act(f"record {type(fact).__name__}", lambda: super(DyingJournal, self).record(known, at, fact))
+
+    def keep_answer(self, known, at, answer):
+        return self.world.act("keep answer", lambda: super(DyingJournal, self).keep_answer(known, at, answer))
+
+
+class Clock:
+    def __init__(self, world):
+        self.world = world
+
+    def now(self):
+        return self.world.time
+
+    def running(self):
+        return self.world.time
+
+
+class Owner:
+    def __init__(self):
+        self.settings = SimpleNamespace(
+            look_seconds=0.0, tick_seconds=0.0, may_push=frozenset(), checks={"build": "b", "lint": "l"}, program="gate",
+        )
+        self.roles, self.main = {"rosa": "reviewer"}, "main"
+
+    def read(self):
+        return [("settings", ""), ("roles", "")]
+
+
+def host_in(world):
+    journal = DyingJournal(world)
+    given = ports.Ports(
+        source=Source(world), repository=Repository(world), runner=Runner(world), bot=Bot(world), journal=journal, clock=Clock(world),
+        board=Board(world), owner=Owner(),
+    )
+    return Host(given, journal.known(), "owner", 3, Troubles())
+
+
+class InWorld(unittest.TestCase):
+    def setUp(self):
+        room = tempfile.TemporaryDirectory()
+        self.addCleanup(room.cleanup)
+        self.room = Path(room.name)
+        for module in (loop, troubles):
+            patched = mock.patch.object(module, "complain")
+            patched.start()
+            self.addCleanup(patched.stop)
+
+    def world(self, name):
+        (self.room / name).mkdir()
+        return World(self.room / name)
+
+    def play(self, world, most=60):
+        """Lets hosts work until changes 1 and 2 have landed and nothing is left, a new one whenever one has died. Gives the last one."""
+        host = host_in(world)
+        for _ in range(most):
+            world.time += 10
+            try:
+                host.round()
+            except Died:
+                host.ports.journal.close()
+                host = host_in(world)
+            except Unable:
+                pass
+            phases = {change: it.phase for change, it in host.known.changes.items()}
+            is_over = phases == {1: "landed", 2: "landed", 3: "open", 4: "open"} and host.known.settings_of == world.main
+            is_tried = sum(it["event"] == "status" for it in world.said) >= 4
+            if is_over and is_tried and not world.notes and not host.known.waiting:
+                return host
+        raise AssertionError(f"it doesn't come to its end: {phases}, {world.said}")
+
+
+class DeathTests(InWorld):
+    def told(self, host):
+        return {change: [text for _, text in host.ports.journal.told(change)] for change in (1, 2, 3, 4)}
+
+    def outcome(self, world, host):
+        # In which order changes are opened is left to who comes first.
+        events = sorted(it["event"] for it in world.said if it["event"] != "tick")
+        rest = [it for it in world.said if it["event"] in ("staged", "conflict", "refused") or re.search(r"\.[0-9]$", it["id"])]
+        return events, sorted(it["event"] for it in rest), world.main, world.branches, world.moves, self.told(host)
+
+    def dies_at_each_place(self, name, moved_to):
+        calm = self.world(name)
+        calm.moved_to = moved_to
+        host = self.play(calm)
+        due = self.outcome(calm, host)
+        host.ports.journal.close()
+        for place in range(1, calm.touches + 1):
+            world = self.world(f"{name}-dies-{place}")
+            world.last, world.moved_to = place, moved_to
+            host = self.play(world)
+            self.assertEqual(self.outcome(world, host), due, f"dies at {place}")
+            # What the last host knows is what a new one would.
+            self.assertEqual(host.ports.journal.known(), host.known, f"dies at {place}")
+            host.ports.journal.close()
+        return calm.touches, due
+
+    def test_a_host_that_dies_at_any_place_comes_to_the_same_end(self):
+        places, due = self.dies_at_each_place("calm", None)
+        landed = commit_of([1, 2])
+        self.assertEqual(due[1:3], (["base", "conflict", "staged", "staged"], landed))
+        self.assertEqual(due[3:5], ({"staging": landed, "trying": commit_of([4])}, [(A, landed)]))
+        self.assertEqual(due[5][1][-1], f"Landed on main as {landed}, with changes 1, 2.")
+        self.assertEqual(due[5][4][-1], "The try has passed: all required checks succeed (TryPassed).")
+        self.assertGreater(places, 80)
+
+    def test_so_it_is_if_somebody_else_moves_the_main_branch_before_the_landing(self):
+        _, due = self.dies_at_each_place("moved", D)
+        landed = commit_of([1, 2], D)
+        self.assertEqual(due[1], ["base", "conflict", "refused", "staged", "staged", "staged"])
+        self.assertEqual((due[2], due[4]), (landed, [(D, landed)]))
+
+
+class OrderTests(InWorld):
+    def test_git_that_can_not_merge_for_now_is_asked_again_and_people_are_told_once(self):
+        world = self.world("unable")
+        world.unable = {"merge": 1, "point": 3}
+        self.addCleanup(setattr, loop, "RETRY_SECONDS", loop.RETRY_SECONDS)
+        loop.RETRY_SECONDS = 0
+        host = self.play(world)
+        # Two batches on one branch and one on the other are merged, and two pointed to.
+        self.assertEqual((world.tries.count("merge"), world.tries.count("point")), (3 + 1, 2 + 3))
+        told = [text for change in (1, 3, 4) for _, text in host.ports.journal.told(change)]
+        for batch in ("1 (change 3)", "2 (change 4)", "3 (changes 1, 2)"):
+            found = told.count(f"Batch {batch} can't be staged yet, for a reason of the host: no room")
+            self.assertLessEqual(found, 1, batch)
+        self.assertIn("Batch 1 (change 3) can't be staged yet, for a reason of the host: no room", told)
+        self.assertEqual(host.troubles.said, {})
+        host.ports.journal.close()
+
+    def test_a_landing_that_can_not_be_done_for_now_holds_up_everything_else(self):
+        world = self.world("held")
+        world.unable = {"land": 2}
+        host = host_in(world)
+        with self.assertRaisesRegex(Unable, "batch 3 can't be landed yet: no room"):
+            for _ in range(60):
+                world.time += 10
+                host.round()
+        before = len(world.said)
+        world.notes["n9"] = ("rosa", {"change": 1, "text": "bors ping", "head": world.heads[1]})
+        with self.assertRaises(Unable):
+            host.round()
+        self.assertEqual((len(world.said), world.main), (before, A))
+        host.round()
+        self.assertEqual([it["event"] for it in world.said[before:before + 2]], ["base", "settings"])
+        host.ports.journal.close()
+
+    def test_a_main_branch_that_was_moved_is_refused(self):
+        world = self.world("moved")
+        host = host_in(world)
+        land = Repository.land
+        self.addCleanup(setattr, Repository, "land", land)
+
+        def moved_before(self, order, batch):
+            world.main = D
+            return land(self, order, batch)
+        Repository.land = moved_before
+        for _ in range(60):
+            world.time += 10
+            host.round()
+            if any(it["event"] == "refused" for it in world.said):
+                break
+        events = [(it["event"], it.get("commit")) for it in world.said if it["event"] in ("refused", "base")]
+        self.assertEqual(events, [("base", A), ("refused", None), ("base", D)])
+        self.assertEqual(world.moves, [])
+        host.ports.journal.close()
+
+
+class ClockTests(InWorld):
+    def ticks(self, world):
+        return [it["event"] for it in world.said].count("tick")
+
+    def test_the_next_batch_is_ordered_at_once(self):
+        """A clock reading is due only each hour. After a batch has ended the next one is told right away."""
+        world = self.world("hurry")
+        host = host_in(world)
+        while not any(it["event"] == "conflict" for it in world.said):
+            world.time += 10
+            host.round()
+        host.ports.owner.settings.tick_seconds, host.next_tick = 3600.0, float("inf")
+        before = self.ticks(world)
+        host.round()
+        self.assertEqual(self.ticks(world), before + 1)
+        self.assertIn("staged", [it["event"] for it in world.said])
+        host.round()
+        self.assertEqual(self.ticks(world), before + 1)
+        host.ports.journal.close()
+
+    def test_what_is_approved_after_a_quiet_time_waits_for_the_next_reading(self):
+        """Although a batch has ended since the last one: nothing waited by then."""
+        world = self.world("quiet")
+        host = self.play(world)
+        host.ports.owner.settings.tick_seconds, host.next_tick = 3600.0, float("inf")
+        for is_waiting in (False, True, True):
+            host.ports.board.is_waiting = is_waiting
+            before = self.ticks(world)
+            world.notes[f"late-{is_waiting}"] = ("rosa", {"change": 3, "text": "bors r+", "head": world.heads[3]})
+            host.round()
+            self.assertEqual(self.ticks(world), before)
+        host.ports.journal.close()
+
+    def test_no_time_is_told_while_nothing_waits(self):
+        world = self.world("idle")
+        world.notes.clear()
+        host = host_in(world)
+        host.ports.board.is_waiting = False
+        for _ in range(3):
+            world.time += 10
+            host.round()
+        self.assertNotIn("tick", [it["event"] for it in world.said])
+        host.ports.journal.close()
+
+
+class BoardTests(InWorld):
+    def test_what_the_reports_say_besides(self):
+        world = self.world("board")
+        host = self.play(world)
+        host.troubles.say("names", "x is in the way\x1b[2J")
+        host.known.refusal = "why"
+        self.assertEqual(host.remarks(), [
+            "open: changes 3, 4; the next free number is 5", "checks: build, lint", "the settings of main aren't taken: why",
+            "trouble: x is in the way?[2J",
+        ])
+        self.assertIn(("comment-8", [1]), host.ports.board.noted)
+        host.ports.journal.close()
+
+
+if __name__ == "__main__":
+    unittest.main()

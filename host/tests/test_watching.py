@@ -1,0 +1,117 @@
+"""Tests of what is made of a look at the branches, by tables of values."""
+import unittest
+
+from playing import A, B, C, D, DONE, Play, BEFORE, LANDED
+from gate_host.core import watching
+from gate_host.core.facts import Closed, MainSeen, MoverFound, Pushed, PushesForgotten, PushTold, RoleGiven
+from gate_host.core.known import Change
+from gate_host.core.watching import Watch
+
+
+class WatchTests(unittest.TestCase):
+    def test_roles(self):
+        known = Play(*BEFORE).known
+        for roles, due in (
+            ({"rosa": "reviewer"}, []), ({"rosa": "member"}, [RoleGiven("rosa", "member")]), ({}, [RoleGiven("rosa", "nobody")]),
+            ({"rosa": "reviewer", "otto": "member"}, [RoleGiven("otto", "member")]),
+        ):
+            self.assertEqual(watching.news_of_roles(known, roles), due)
+        known.roles["rosa"] = "nobody"
+        self.assertEqual(watching.news_of_roles(known, {}), [])
+
+    def test_the_main_branch(self):
+        for steps, commit, due in (([], A, True), (BEFORE, A, False), (BEFORE, B, True), (LANDED, C, True)):
+            self.assertEqual(watching.is_news_of_main(Play(*steps).known, commit), due)
+
+    def test_heads(self):
+        closed = [*BEFORE, (Closed(7), DONE)]
+        for steps, heads, due in (
+            (BEFORE, {7: B}, []), (BEFORE, {7: C}, [Pushed(7, C)]), (BEFORE, {}, [Closed(7)]),
+            (LANDED, {7: B}, []), (LANDED, {7: D}, [Pushed(7, D)]), (LANDED, {}, []), (closed, {}, []),
+            (closed, {7: C}, ["new"]), (BEFORE, {7: B, 9: C}, ["new"]),
+        ):
+            known = Play(*steps).known
+            found = [watching.news_of_head(known, *it) or ("new" if watching.is_new(known, it[0]) else None) for it in heads.items()]
+            self.assertEqual([it for it in found if it] + watching.gone(known, heads), due, heads)
+
+    def test_a_push_of_many_is_opened_by_and_by(self):
+        watch, known, heads = Watch(3), Play(*BEFORE).known, {7: C, **{number: A for number in range(100, 220)}}
+        self.assertEqual(sorted(watch.pick(known, heads)), [7, *range(100, 150)])
+        self.assertTrue(watch.is_awaited(150))
+        for number in range(100, 150):
+            known.changes[number] = Change("open", A)
+        # One that came later waits behind those that wait.
+        self.assertEqual(sorted(watch.pick(known, {**heads, 50: A}))[:1] + watch.later[-1:], [7, 50])
+        self.assertFalse(watch.is_awaited(150))
+
+    def test_the_author_is_who_told_or_in_the_end_the_owner(self):
+        known = Play(*BEFORE, (PushTold("n2", "otto", ((8, C),), ()),)).known
+        watch = Watch(3, rounds=5)
+        self.assertEqual(watch.author(known, 8, C, "owner", False), "otto")
+        self.assertIsNone(watch.author(known, 9, C, "owner", False))
+        self.assertTrue(watch.is_awaited(9))
+        watch.rounds = 6
+        self.assertIsNone(watch.author(known, 9, C, "owner", True))
+        self.assertEqual(watch.author(known, 9, C, "owner", False), "owner")
+        self.assertFalse(watch.is_awaited(9))
+        self.assertIsNone(watch.author(known, 9, D, "owner", True))
+        watch.rounds = 9
+        self.assertEqual(watch.author(known, 9, D, "owner", True), "owner")
+
+    def test_who_moved_the_main_branch(self):
+        told = ((A, B, "ines"), (B, C, "ines"), (A, D, "eve"), (D, B, "eve"), (C, C, "ines"))
+        pushes = PushTold("n", "ines", (), tuple(it[:2] for it in told if it[2] == "ines"))
+        others = PushTold("m", "eve", (), tuple(it[:2] for it in told if it[2] == "eve"))
+        for before, after, due in (
+            (A, B, ("ines", (B,))), (A, C, ("ines", (B, C))), (A, D, ("", ())), (D, B, ("", ())), (D, C, ("", ())), (B, A, ("", ())),
+        ):
+            play = Play((MainSeen(before, "x"), DONE, DONE), (MainSeen(after, "x"), DONE, DONE), (pushes,), (others,))
+            move, = play.known.unknown_moves()
+            found = watching.mover_of(play.known, move, {"ines"})
+            self.assertEqual((found.person, found.used), due)
+            play.add(found)
+            self.assertEqual([it.target for it in play.known.strays()], [] if due[0] else [after])
+            # What was told counts once.
+            self.assertFalse([target for _, target, _ in play.known.told_moves if target in found.used])
+
+    def test_a_move_is_looked_into_a_round_later(self):
+        known, watch = Play((MainSeen(A, "x"), DONE, DONE), (MainSeen(B, "x"), DONE, DONE)).known, Watch(3, rounds=5)
+        watch.note_moves(known)
+        self.assertIsNone(watch.next_mover(known, {"ines"}, False))
+        watch.rounds = 6
+        self.assertIsNone(watch.next_mover(known, {"ines"}, True))
+        self.assertEqual(watch.next_mover(known, {"ines"}, False), MoverFound(2, ""))
+
+    def test_what_is_told_of_a_push_excuses_one_move(self):
+        play = Play(*((MainSeen(it, "x"), DONE, DONE) for it in (A, B, A, B)), (PushTold("n", "ines", (), ((A, B),)),))
+        watch = Watch(3, rounds=5)
+        watch.note_moves(play.known)
+        watch.rounds, found = 7, []
+        while watch.next_mover(play.known, {"ines"}, False):
+            found.append(watch.next_mover(play.known, {"ines"}, False))
+            play.add(found[-1])
+        self.assertEqual([it.person for it in found], ["ines", "", ""])
+
+    def test_only_the_owner_accepts_a_move(self):
+        play = Play((MainSeen(A, "x"), DONE, DONE), (MainSeen(B, "x"), DONE, DONE), (MoverFound(2, ""),))
+        for commit, person, due in ((B, "owner", [MoverFound(2, "owner")]), (A, "owner", []), (B, "eve", [])):
+            self.assertEqual(watching.accepted(play.known, commit, person, "owner"), due)
+        play.add(MoverFound(2, "owner"))
+        self.assertEqual(play.known.moves, {})
+
+    def test_what_was_told_of_pushes_counts_not_for_long(self):
+        play = Play((PushTold("n", "ines", (), ((A, B),)),))
+        self.assertIsNone(watching.old_pushes(play.known, 100))
+        self.assertEqual(watching.old_pushes(play.known, 101), PushesForgotten(101))
+        play.add(PushesForgotten(100))
+        self.assertEqual(len(play.known.told_moves), 1)
+        play.add(PushesForgotten(101))
+        self.assertEqual(play.known.told_moves, {})
+
+    def test_free_numbers(self):
+        for taken, due in ((set(), 1), ({1, 2, 4}, 3), ({4294967295}, 1), ({2}, 1)):
+            self.assertEqual(watching.free_number(taken), due)
+
+
+if __name__ == "__main__":
+    unittest.main()
