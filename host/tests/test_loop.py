@@ -405,6 +405,33 @@ class OrderTests(InWorld):
         host.ports.journal.close()
 
 
+class CheckTests(InWorld):
+    def test_a_fault_is_told_once_and_shown_while_it_lasts(self):
+        """Of each check of a batch people are told once that it has come to no verdict, however often it is tried again."""
+        world = self.world("fault")
+        host = host_in(world)
+        runner = host.ports.runner
+        for _ in range(60):
+            world.time += 10
+            host.round()
+            if "trying" in host.known.tests:
+                break
+        test = host.known.tests["trying"]
+        fault = ports.Fault(test, "build", "it was killed")
+        runner.ended, runner.faults = (lambda wanted: [fault]), [fault]
+        said = "he check build of batch 2 (change 4) has come to no verdict, by a fault of the host, and is tried again: it was killed."
+        for _ in range(3):
+            host.round()
+            self.assertEqual(host.troubles.texts(), [f"t{said}"])
+        self.assertEqual([text for _, text in host.ports.journal.told(4)].count(f"T{said}"), 1)
+        self.assertNotIn("status", [it["event"] for it in world.said])
+        runner.ended, runner.faults = (lambda wanted: [ports.Result(test, "build", "error", "it was killed", "x")]), []
+        host.round()
+        states = [it["state"] for it in world.said if it["event"] == "status"]
+        self.assertEqual((host.troubles.texts(), states), ([], ["error"]))
+        host.ports.journal.close()
+
+
 class ClockTests(InWorld):
     def ticks(self, world):
         return [it["event"] for it in world.said].count("tick")
