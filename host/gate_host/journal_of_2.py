@@ -92,6 +92,8 @@ class Earlier:
             roles=dict(self.rows("SELECT name, role FROM people")),  # type: ignore[arg-type]
             base=self.fact("base"), settings_of=self.fact("settings of"), refusal=self.fact("settings refused"),
             clock=int(self.fact("clock") or 0), waiting=self.waiting(),
+            # It doesn't say which branch that is.
+            landed_on="the main branch",
         )
         for number, phase, head in self.rows("SELECT number, phase, head FROM changes"):
             known.changes[int(str(number))] = Change(str(phase), str(head))

@@ -2,13 +2,13 @@
 import unittest
 from dataclasses import fields
 
-from playing import A, B, C, DONE, LANDING, ORDERED, Play, stage, with_orders
+from playing import A, B, C, DONE, LANDED, LANDING, ORDERED, Play, stage, with_orders
 from gate_host.core.earlier import restore, upgraded
 from gate_host.core.facts import MainSeen, Merged, PushTold, RoleGiven, Staged, Ticked, fact_in, kind_of, written
 from gate_host.core.known import Known
 
-# What may be forgotten: which batches have just ended, where something landed, and which faults people were told of.
-FORGOTTEN = {"landed_on", "ended", "faulted"}
+# What may be forgotten: which batches have just ended, and which faults people were told of.
+FORGOTTEN = {"ended", "faulted"}
 
 
 class EarlierTests(unittest.TestCase):
@@ -16,7 +16,7 @@ class EarlierTests(unittest.TestCase):
         push = PushTold("n9", "ines", ((9, A), (9, B)), ((A, B),))
         seen = set()
         for steps in (
-            [], LANDING, ORDERED, [*LANDING, (push,), (MainSeen(B, None), DONE)],
+            [], LANDED, LANDING, ORDERED, [*LANDING, (push,), (MainSeen(B, None), DONE)],
             [*LANDING, (Ticked(60), with_orders(stage(2, "trying", heads=((8, C),)))), (Merged("tick-9.0", C),)],
         ):
             known = Play(*steps).known

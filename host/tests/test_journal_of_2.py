@@ -118,6 +118,7 @@ class EarlierTests(InRoom):
         self.assertEqual([(it.id, it.event, it.order) for it in known.waiting], [("status-4.0", "base", Land(1, A, C))])
         journal.keep_answer(known, 100, DONE)
         journal.record(known, 100, Ticked(60))
+        self.assertEqual(journal.told(7)[-1][1], f"Landed on main as {C}, with change 7.")
         # No identifier comes again.
         self.assertEqual(known.waiting[0].id, "tick-8")
         self.assertEqual(known.changes[7], Change("landed", B))
@@ -137,6 +138,19 @@ class EarlierTests(InRoom):
         self.assertEqual(known.tests, {"staging": Test("staging", 1, C)})
         journal.keep_answer(known, 100, answer(LAND))
         self.assertEqual(self.journal().known(), known)
+
+    def test_a_landing_whose_report_has_no_answer_yet(self):
+        self.make(is_second=True)
+        with closing(sqlite3.connect(self.path)) as journal:
+            journal.execute("UPDATE orders SET done = 1")
+            line = json.dumps({"id": "status-4.0", "event": "base", "commit": C})
+            journal.execute("UPDATE deliveries SET id = 'status-4.0', line = ? WHERE number = 5", (line,))
+            journal.commit()
+        journal = self.journal()
+        known = journal.known()
+        self.assertEqual([(it.id, it.order, it.changes) for it in known.waiting], [("status-4.0", Land(1, A, C), (7,))])
+        journal.keep_answer(known, 100, DONE)
+        self.assertEqual(journal.told(7)[-1][1], f"Landed on the main branch as {C}, with change 7.")
 
     def test_others_read_it_and_leave_it_as_it_is(self):
         self.make(is_second=True)

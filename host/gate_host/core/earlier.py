@@ -15,6 +15,7 @@ def upgraded(known: "Known") -> Upgraded:
     """The fact that has all that is known."""
     table = {
         "roles": known.roles, "base": known.base, "settings_of": known.settings_of, "refusal": known.refusal, "clock": known.clock,
+        "landed_on": known.landed_on,
         "changes": [[number, it.phase, it.head] for number, it in known.changes.items()],
         "pushers": [[change, head, person] for change, heads in known.pushers.items() for head, person in heads.items()],
         "made": sorted(known.made),
@@ -40,7 +41,7 @@ def restore(known: "Known", fact: Upgraded) -> None:
     table = json.loads(fact.known)
     known.roles = dict(table["roles"])
     known.base, known.settings_of, known.refusal = table["base"], table["settings_of"], table["refusal"]
-    known.clock = table["clock"]
+    known.clock, known.landed_on = table["clock"], table["landed_on"]
     known.changes = {number: Change(phase, head) for number, phase, head in table["changes"]}
     for change, head, person in table["pushers"]:
         known.take_claim(person, change, head)
