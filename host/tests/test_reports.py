@@ -1,13 +1,8 @@
-"""Tests of the reports and of the bot for them: with a program that stands in for `gate serve`, and with the built program, which is the
-one that GATE_PROGRAM names, or else the one in crates/gate_bot/out. Without that its tests are skipped, and say so."""
-import json
-import os
+"""Tests of the reports: with a program that stands in for `gate serve`, and with the built one."""
 import random
 import sqlite3
 import subprocess
 import sys
-import tempfile
-import textwrap
 import time
 import unittest
 from contextlib import closing
@@ -17,7 +12,6 @@ from unittest import mock
 HOST = Path(__file__).resolve().parent.parent
 sys.path.insert(0, str(HOST))
 
-from gate_host import report_bot  # noqa: E402
 from gate_host import reports  # noqa: E402
 from gate_host.client import Bot  # noqa: E402
 from gate_host.core.deliveries import touched  # noqa: E402
@@ -26,17 +20,10 @@ from gate_host.core.facts import (  # noqa: E402
     Closed, Conflicted, Ended, MainSeen, Merged, Moved, NotMoved, Opened, Pushed, RoleGiven, Said, Staged, Ticked,
 )
 from gate_host.journal import Journal  # noqa: E402
-from gate_host.places import Places  # noqa: E402
-from gate_host.report_bot import NoReport, ReportBot, end_with, free_port  # noqa: E402
+from gate_host.report_bot import NoReport  # noqa: E402
 from gate_host.reports import MARK, Reports, log_text  # noqa: E402
 
-PROGRAM = Path(os.environ.get("GATE_PROGRAM") or HOST.parent / "crates/gate_bot/out/gate_bot")
-is_built = unittest.skipUnless(os.access(PROGRAM, os.X_OK), f"there is no program {PROGRAM}")
-EMPTY = "base none\nclock 0\n           batch branch  state     prio changes\n"
-BATCH = "               1 staging ordered      0 7\n"
-SECONDS = 20
-# So many things happen by chance.
-WALK = 300
+from stand_in import BATCH, EMPTY, PROGRAM, SECONDS, WALK, WithStandIn, is_built, is_there  # noqa: E402
 
 
 def begun(places, journal, complain):
@@ -45,248 +32,6 @@ def begun(places, journal, complain):
     known = journal.known(heard=lambda then, it: reports.note(it.delivery, touched(it.delivery, it.orders, then)))
     reports.begin(known.changes)
     return reports
-
-
-# Stands in for `gate serve`. Each start writes its arguments and each request its line to a file beside it. How it behaves is read from
-# another one each time: `bind` ends the start, `ends` and `fails` a request. `gone` has another process serve after its own end.
-STAND_IN = """\
-#!{python}
-import json, os, sys, time
-from http.server import BaseHTTPRequestHandler, HTTPServer
-from pathlib import Path
-room = Path({room!r})
-given = dict(zip(sys.argv[2::2], sys.argv[3::2]))
-def mode():
-    return (room / "mode").read_text().split()
-def tell(what):
-    with open(room / "seen", "a") as seen:
-        seen.write(json.dumps(what) + "\\n")
-class Answers(BaseHTTPRequestHandler):
-    def do(self):
-        body = self.rfile.read(int(self.headers.get("Content-Length") or 0)).decode()
-        tell([self.command, self.path, body])
-        words = mode()
-        if "ends" in words:
-            os._exit(3)
-        if "silent" in words:
-            time.sleep(60)
-        text = (room / "texts" / self.path.strip("/").replace("/", "-"))
-        status = 401 if self.headers["Authorization"] != "Bearer " + Path(given["--token"]).read_text().strip() else 200
-        status = 503 if "fails" in words else status if self.command == "POST" or text.exists() else 404
-        content = text.read_bytes() if status == 200 and self.command == "GET" else b""
-        self.send_response(status)
-        self.send_header("Content-Length", str(len(content)))
-        self.end_headers()
-        self.wfile.write(content)
-    do_GET = do_POST = do
-    def log_message(self, *_):
-        pass
-tell(sys.argv[1:])
-if "bind" in mode():
-    left = int(mode()[1])
-    (room / "mode").write_text(f"bind {{left - 1}}" if left > 1 else "good")
-    sys.exit("gate: Bind")
-if "fault" in mode():
-    sys.exit("gate: File")
-if "slow" in mode():
-    while "slow" in mode():
-        time.sleep(0.01)
-server = HTTPServer(("127.0.0.1", int(given["--port"])), Answers)
-if "gone" in mode() and os.fork():
-    print(f"listening on 127.0.0.1:{{given['--port']}}", flush=True)
-    os._exit(0)
-if "gone" in mode():
-    (room / "impostor").write_text(str(os.getpid()))
-    server.handle_request()
-    os._exit(0)
-print("hello" if "other" in mode() else f"listening on 127.0.0.1:{{given['--port']}}", flush=True)
-server.serve_forever()
-"""
-
-
-class WithStandIn(unittest.TestCase):
-    """A repository with records, and a program that stands in for the bot."""
-
-    def setUp(self):
-        room = tempfile.TemporaryDirectory()
-        self.addCleanup(room.cleanup)
-        self.room = Path(room.name)
-        self.places = Places(self.room / "project.git")
-        self.places.reports.mkdir(parents=True)
-        self.places.records.mkdir()
-        (self.room / "texts").mkdir()
-        self.program = self.room / "program"
-        self.program.write_text(STAND_IN.format(python=sys.executable, room=str(self.room)), encoding="utf-8")
-        self.program.chmod(0o755)
-        self.behave("good")
-        self.put("queue", EMPTY)
-
-    def behave(self, mode):
-        part = self.room / "part"
-        part.write_text(mode, encoding="utf-8")
-        part.replace(self.room / "mode")
-
-    def put(self, name, text):
-        """What the program is to say of the queue or of a change."""
-        (self.room / "texts" / name).write_text(text, encoding="utf-8")
-
-    def seen(self):
-        """What the program was started with and asked for, one after the other."""
-        path = self.room / "seen"
-        return [json.loads(line) for line in path.read_text(encoding="utf-8").splitlines()] if path.exists() else []
-
-    def requests(self):
-        return [it for it in self.seen() if it[0] in ("GET", "POST")]
-
-    def starts(self):
-        return [it for it in self.seen() if it[0] == "serve"]
-
-    def until(self, what, is_so):
-        late = time.monotonic() + SECONDS
-        while not is_so():
-            self.assertLess(time.monotonic(), late, what)
-            time.sleep(0.02)
-
-
-def is_there(process):
-    """Whether a process is there, and more than a number."""
-    status = Path(f"/proc/{process}/stat")
-    try:
-        return ") Z " not in status.read_text(encoding="utf-8")
-    except FileNotFoundError:
-        return False
-
-
-class ReportBotTests(WithStandIn):
-    def start(self):
-        folder = Path(tempfile.mkdtemp(dir=self.room))
-        bot = ReportBot(str(self.program), folder)
-        self.addCleanup(bot.close)
-        return bot
-
-    def ready(self):
-        bot = self.start()
-        self.assertTrue(bot.is_ready(SECONDS))
-        return bot
-
-    def test_what_it_is_asked_and_answers(self):
-        self.put("changes-7", "change    7 \u00e9\r\n")
-        bot = self.ready()
-        bot.hand_in('{"id":"é"}')
-        self.assertEqual((bot.queue(), bot.change(7), bot.change(8)), (EMPTY, "change    7 \u00e9\r\n", None))
-        due = [["POST", "/deliveries", '{"id":"é"}'], *(["GET", it, ""] for it in ("/queue", "/changes/7", "/changes/8"))]
-        self.assertEqual(self.requests(), due)
-
-    def test_the_token_is_a_secret_of_each_start(self):
-        bots = [self.ready(), self.ready()]
-        self.assertNotEqual(bots[0].token, bots[1].token)
-        for bot in bots:
-            path = bot.folder / "token"
-            self.assertEqual(path.read_text(encoding="utf-8").strip(), bot.token)
-            self.assertEqual(path.stat().st_mode & 0o777, 0o600)
-            self.assertGreaterEqual(len(bot.token), 32)
-            self.assertNotIn(bot.token, json.dumps(self.starts()))
-
-    def test_no_setting_leads_a_request_elsewhere(self):
-        with mock.patch.dict(os.environ, http_proxy="http://127.0.0.1:9", HTTP_PROXY="http://127.0.0.1:9", ALL_PROXY="http://127.0.0.1:9"):
-            self.assertEqual(self.ready().queue(), EMPTY)
-
-    def test_a_port_that_is_taken_costs_another_start(self):
-        self.behave("bind 2")
-        bot = self.ready()
-        ports = [it[it.index("--port") + 1] for it in self.starts()]
-        self.assertEqual((len(ports), ports[-1]), (3, str(bot.port)))
-        self.assertEqual(bot.queue(), EMPTY)
-
-    def test_what_ends_a_start(self):
-        for mode, due, starts in (
-            ("fault", "has ended: gate: File", 1), (f"bind {report_bot.PORTS}", "has ended: gate: Bind", report_bot.PORTS),
-            ("other", "says hello", 1),
-        ):
-            (self.room / "seen").unlink(missing_ok=True)
-            self.behave(mode)
-            bot = self.start()
-            with self.assertRaisesRegex(NoReport, due):
-                bot.is_ready(SECONDS)
-            self.assertEqual(len(self.starts()), starts, mode)
-            bot.close()
-        self.program.unlink()
-        with self.assertRaisesRegex(NoReport, "can't be started"):
-            self.start()
-
-    def test_a_start_is_not_waited_for(self):
-        self.behave("slow")
-        bot = self.start()
-        for _ in range(2):
-            before = time.monotonic()
-            self.assertFalse(bot.is_ready(0.05))
-            self.assertLess(time.monotonic() - before, 1)
-        self.behave("good")
-        self.assertTrue(bot.is_ready(SECONDS))
-        self.behave("slow")
-        with mock.patch.object(report_bot, "SECONDS_TO_START", 0), self.assertRaisesRegex(NoReport, "hasn't come to listen"):
-            self.start().is_ready(0)
-
-    def test_what_ends_a_request(self):
-        for mode, due in (("ends", "has ended: status 3"), ("silent", "doesn't answer: timed out"), ("fails", "by 503")):
-            self.behave("good")
-            bot = self.ready()
-            self.behave(mode)
-            for ask in (bot.queue, lambda: bot.change(7), lambda: bot.hand_in("{}")):
-                with mock.patch.object(report_bot, "SECONDS", 0.3), self.assertRaisesRegex(NoReport, due):
-                    ask()
-            bot.close()
-
-    def test_another_token_is_refused(self):
-        bot = self.ready()
-        bot.token = "0" * 64
-        with self.assertRaisesRegex(NoReport, "by 401"):
-            bot.queue()
-
-    def test_what_another_process_answers_does_not_count(self):
-        """It has the port since the program has ended."""
-        self.behave("gone")
-        bot = self.ready()
-        self.until("the other one is there", (self.room / "impostor").exists)
-        with self.assertRaisesRegex(NoReport, "has ended"):
-            bot.queue()
-        self.assertEqual(self.requests(), [["GET", "/queue", ""]])
-
-    def test_it_has_no_file_of_the_host(self):
-        with open(self.room / "lock", "w", encoding="utf-8") as lock:
-            os.set_inheritable(lock.fileno(), True)
-            bot = self.ready()
-            files = {os.readlink(it) for it in Path(f"/proc/{bot.process.pid}/fd").iterdir()}
-        self.assertNotIn(str(self.room / "lock"), files)
-
-    def test_it_ends_with_the_host_however_that_ends(self):
-        folder = self.room / "folder"
-        folder.mkdir()
-        text = f"""\
-            import sys, time
-            sys.path.insert(0, {str(HOST)!r})
-            from pathlib import Path
-            from gate_host.report_bot import ReportBot
-            bot = ReportBot({str(self.program)!r}, Path({str(folder)!r}))
-            assert bot.is_ready({SECONDS})
-            print(bot.process.pid, flush=True)
-            time.sleep(600)
-        """
-        host = subprocess.Popen([sys.executable, "-c", textwrap.dedent(text)], stdout=subprocess.PIPE, encoding="utf-8")
-        child = host.stdout.readline().strip()
-        self.assertTrue(is_there(child))
-        host.kill()
-        host.wait()
-        host.stdout.close()
-        self.until("the bot for reports ends", lambda: not is_there(child))
-
-    def test_it_does_not_begin_without_a_host(self):
-        for host, due in ((os.getpid(), 7), (1, 1)):
-            ended = subprocess.run(["sh", "-c", "exit 7"], preexec_fn=lambda: end_with(host), check=False)
-            self.assertEqual(ended.returncode, due)
-
-    def test_a_port_is_another_each_time(self):
-        self.assertGreater(len({free_port() for _ in range(20)}), 1)
 
 
 class ReportsTests(WithStandIn):
