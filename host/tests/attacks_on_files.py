@@ -38,6 +38,8 @@ for name in sys.argv[2:]:
 
 def share(village: Village) -> None:
     """All may write the files of the repository, but for those of the host."""
+    # A host at work would end as soon as it sees the folder open.
+    village.stop()
     village.must_git(village.owner, village.repository, "config", "core.sharedRepository", "0666")
     for folder, folders, files in os.walk(village.repository):
         if Path(folder) == village.repository:
@@ -46,7 +48,6 @@ def share(village: Village) -> None:
             path = Path(folder, name)
             path.chmod(path.stat().st_mode | (0o077 if path.is_dir() else 0o066))
     # As the start and `init` ask for it.
-    village.stop()
     village.initialise_again()
     village.start()
 
