@@ -244,6 +244,7 @@ def attack_stream(village: Village) -> None:
         unpacking.stdin.write(b"\0" * 2 * RECORD)
         unpacking.stdin.close()
         want("how tar ends", unpacking.wait(60), 0)
+    (folder / "filler").unlink()
     for part, name in names.items():
         (folder / part).rename(folder / name)
     must_be_of_reviewer(village, folder)
@@ -270,7 +271,6 @@ def streamed_notes(village: Village, folder: Path, unpacking: subprocess.Popen) 
         unpacking.stdin.write(rest.ljust(RECORD, b"x"))
         unpacking.stdin.flush()
     village.until("tar has made the last folder", lambda: (folder / name).exists())
-    (folder / "filler").unlink()
     return names
 
 
