@@ -1,12 +1,15 @@
 """Tests of the bot for reports, with a program that stands in for it."""
 import json
 import os
+import socket
 import subprocess
 import sys
 import tempfile
 import textwrap
+import threading
 import time
 import unittest
+from contextlib import suppress
 from pathlib import Path
 from unittest import mock
 
@@ -149,6 +152,40 @@ class ReportBotTests(WithStandIn):
 
     def test_a_port_is_another_each_time(self):
         self.assertGreater(len({free_port() for _ in range(20)}), 1)
+
+
+class ResponseTests(unittest.TestCase):
+    """Whoever gives a response has a time and a bound for the whole of it: once the program has ended, another one may have its port."""
+
+    def serve(self, parts, pause):
+        listener = socket.create_server(("127.0.0.1", 0))
+        self.addCleanup(listener.close)
+
+        def give():
+            connection, _ = listener.accept()
+            with connection, suppress(OSError):
+                for part in parts:
+                    connection.sendall(part)
+                    time.sleep(pause)
+        threading.Thread(target=give, daemon=True).start()
+        return listener.getsockname()[1]
+
+    def test_one_that_drips_is_not_waited_for(self):
+        port, before = self.serve([b"x"] * 100, 0.1), time.monotonic()
+        with mock.patch.object(report_bot, "SECONDS", 0.5), self.assertRaises(OSError):
+            report_bot.exchanged(port, b"GET / HTTP/1.1")
+        self.assertLess(time.monotonic() - before, 5)
+
+    def test_one_that_never_ends_is_not_kept(self):
+        port = self.serve([b"x" * 1000] * 1000, 0)
+        with mock.patch.object(report_bot, "MOST_BYTES", 10000), self.assertRaisesRegex(OSError, "doesn't end"):
+            report_bot.exchanged(port, b"GET / HTTP/1.1")
+
+    def test_one_that_is_whole_is_given_at_once(self):
+        whole = b"HTTP/1.1 200 OK\r\nContent-Length: 3\r\n\r\nabc"
+        port, before = self.serve([whole[:10], whole[10:], b"more"], 0.2), time.monotonic()
+        self.assertEqual(report_bot.response_in(report_bot.exchanged(port, b"GET / HTTP/1.1")), (200, b"abc"))
+        self.assertLess(time.monotonic() - before, 2)
 
 
 if __name__ == "__main__":
