@@ -1,7 +1,7 @@
 """Brings a journal of version 1 or 2 over. What it knew stood in many tables; that becomes one fact, and its deliveries stay."""
 import json
 import time
-from typing import TYPE_CHECKING, Dict, List, Optional, Tuple
+from typing import TYPE_CHECKING, Any, Dict, List, Optional, Tuple
 
 from .core.deliveries import Delivery, delivery_of
 from .core.earlier import upgraded
@@ -15,7 +15,8 @@ if TYPE_CHECKING:
 
 # The tables of before. `facts` had other facts then.
 OLD = ("orders", "changes", "pushes", "people", "tests", "results", "facts", "made", "said_moves", "moves")
-Rows = List[Tuple[object, ...]]
+# Of each column the tables say of which kind it is.
+Rows = List[Tuple[Any, ...]]
 
 
 def bring_over(journal: "Journal") -> None:
@@ -69,8 +70,8 @@ class Earlier:
                    JOIN deliveries ON deliveries.number = orders.delivery ORDER BY orders.delivery, orders.place"""
         self.orders: List[Tuple[str, Order, bool, int]] = []
         for id, place, body, done, line in self.rows(query):
-            now = json.loads(str(line)).get("now", 0)
-            self.orders.append((f"{id}.{place}", order_in(json.loads(str(body))), bool(done), now))
+            now = json.loads(line).get("now", 0)
+            self.orders.append((f"{id}.{place}", order_in(json.loads(body)), bool(done), now))
 
     def rows(self, query: str) -> Rows:
         return self.journal.database.execute(query).fetchall()
@@ -89,19 +90,19 @@ class Earlier:
 
     def known(self) -> Known:
         known = Known(
-            roles=dict(self.rows("SELECT name, role FROM people")),  # type: ignore[arg-type]
+            roles={name: role for name, role in self.rows("SELECT name, role FROM people")},
             base=self.fact("base"), settings_of=self.fact("settings of"), refusal=self.fact("settings refused"),
             clock=int(self.fact("clock") or 0), waiting=self.waiting(),
             # It doesn't say which branch that is.
             landed_on="the main branch",
         )
         for number, phase, head in self.rows("SELECT number, phase, head FROM changes"):
-            known.changes[int(str(number))] = Change(str(phase), str(head))
+            known.changes[number] = Change(phase, head)
         for change, head, person in self.rows_of("pushes", "change, head, person", "number"):
-            known.take_claim(str(person), int(str(change)), str(head))
-        known.made = {str(target) for target, in self.rows_of("made", "target", "target")} | self.staged_commits()
+            known.take_claim(person, change, head)
+        known.made = {target for target, in self.rows_of("made", "target", "target")} | self.staged_commits()
         for before, target, person, at in self.rows_of("said_moves", "before, target, person, at", "at"):
-            known.told_moves[(str(before), str(target), str(person))] = int(str(at))
+            known.told_moves[(before, target, person)] = at
         self.take_moves(known)
         self.take_batches(known)
         return known
@@ -111,7 +112,7 @@ class Earlier:
         query = "number, at, before, target, person"
         for number, at, before, target, person in self.rows_of("moves", query, "number"):
             if not person:
-                move = Move(-int(str(number)), int(str(at)), str(before), str(target), None if person is None else "")
+                move = Move(-number, at, before, target, None if person is None else "")
                 known.moves[move.number] = move
 
     def take_batches(self, known: Known) -> None:
@@ -124,14 +125,14 @@ class Earlier:
         last = {batch.order for batch in known.batches.values()}
         known.orders = {name: order for name, order in known.orders.items() if isinstance(order, Land) or name in last}
         for branch, batch, target in self.rows("SELECT branch, batch, target FROM tests"):
-            known.tests[str(branch)] = Test(str(branch), int(str(batch)), str(target))
-            rows = self.rows(f"SELECT name, state FROM results WHERE batch = {int(str(batch))}")
-            known.results[str(branch)] = {str(name): str(state) for name, state in rows}
+            known.tests[branch] = Test(branch, batch, target)
+            rows = self.rows(f"SELECT name, state FROM results WHERE batch = {batch}")
+            known.results[branch] = {name: state for name, state in rows}
 
     def bodies(self, condition: str) -> Dict[str, Tuple[str, Dict[str, Json]]]:
         """The lines of some deliveries and what stands in them, by their identifiers."""
         rows = self.rows(f"SELECT id, line FROM deliveries WHERE {condition} ORDER BY number")
-        return {str(id): (str(line), table_in(json.loads(str(line)))) for id, line in rows}
+        return {id: (line, table_in(json.loads(line))) for id, line in rows}
 
     def commits(self) -> Dict[str, str]:
         """The commit that was reported for each order to stage."""

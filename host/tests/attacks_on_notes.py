@@ -36,7 +36,8 @@ FLOOD = """
 import os, sys
 os.fsync = id
 from pathlib import Path
-from gate_host.places import Places, Trouble
+from gate_host.faults import Trouble
+from gate_host.places import Places
 from gate_host.spool import leave_table
 places = Places(Path(sys.argv[1]))
 for number in range(int(sys.argv[2])):

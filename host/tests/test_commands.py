@@ -10,7 +10,8 @@ sys.path.insert(0, str(Path(__file__).resolve().parent.parent))
 
 from folders import InRepository  # noqa: E402
 from gate_host.commands import must_read_tables  # noqa: E402
-from gate_host.places import Trouble, name_of_user  # noqa: E402
+from gate_host.faults import Trouble  # noqa: E402
+from gate_host.places import name_of_user  # noqa: E402
 
 MYSELF = name_of_user(os.geteuid())
 

@@ -5,8 +5,8 @@ from playing import A, B, C, D, E, DONE, DENIED, with_orders, LAND, NOTICE, Play
 from gate_host.core import words
 from gate_host.core.duties import open_duties
 from gate_host.core.facts import (
-    Closed, Conflicted, Delayed, Ended, Faulted, MainSeen, Merged, Moved, NotMoved, Opened, Pushed, PushTold, RoleGiven, Said, Staged,
-    Ticked,
+    KINDS, Closed, Conflicted, Delayed, Ended, Faulted, MainSeen, Merged, Moved, MoverFound, NotMoved, Opened, Pushed, PushesForgotten,
+    PushTold, RoleGiven, Said, Staged, Ticked, kind_of,
 )
 from gate_host.core.known import MOST_CLAIMS, MOST_TOLD_MOVES, Change, Test
 from gate_host.core.orders import Unread, answer_in
@@ -91,7 +91,8 @@ class KnownTests(unittest.TestCase):
             play.known.hear(answer_in(with_orders({**LAND, "batch": 2})))
 
     def test_a_fact_whose_deliveries_have_no_answer_yet(self):
-        """The host may have died there. What it has to hand in first is a function of what was written down."""
+        """The host may have died there, behind any kind of fact. What it has to hand in first is a function of what was written down."""
+        kinds = {"Upgraded"}
         for steps, fact, due in (
             (BEFORE[:1], MainSeen(A, "x"), ["base-2", "settings-2"]), (BEFORE[:2], Opened(7, "ines", B), ["opened-3"]),
             (BEFORE[:3], Said("n1", 7, "rosa", "bors r+"), ["comment-4"]), (BEFORE, Ticked(50), ["tick-5"]),
@@ -101,12 +102,16 @@ class KnownTests(unittest.TestCase):
             (LANDING, Moved("status-8.0", "main"), ["status-8.0"]), (BEFORE, Pushed(7, C), ["pushed-5"]),
             (BEFORE, Closed(7), ["closed-5"]), (BEFORE, RoleGiven("otto", "member"), ["role-5"]),
             (STAGED, Faulted(1, "build", "why"), []), (ORDERED, Delayed("tick-5.0", "why"), []),
+            (BEFORE, PushTold("n2", "ines", ((7, C),), ((A, B),)), []), (BEFORE, MoverFound(9, "ines"), []),
+            (BEFORE, PushesForgotten(5), []),
         ):
+            kinds.add(kind_of(fact))
             play = Play(*steps)
             play.known.learn(play.number + 1, 0, fact)
             self.assertEqual([it.id for it in play.known.waiting], due)
             # An order that this settles isn't open while its report has no answer.
             self.assertNotIn(getattr(fact, "order", "") if due else "", [duty.order for duty in open_duties(play.known)])
+        self.assertEqual(kinds, set(KINDS))
 
 
 if __name__ == "__main__":

@@ -10,11 +10,12 @@ from gate_host.core.notes import (
 
 
 class NoteTests(unittest.TestCase):
-    def test_pushes(self):
+    def test_pushes_and_acceptances(self):
         for body, due in (
             ({"kind": "push"}, Strange("n", "eve")), ({"kind": "push", "heads": 7}, Strange("n", "eve")),
             ({"kind": "push", "heads": [], "moves": 7}, Strange("n", "eve")), ({"kind": "push", "heads": []}, PushTold("n", "eve", (), ())),
-            ({"kind": "accept", "commit": A}, Acceptance("n", "eve", A)), ({"kind": "accept"}, Acceptance("n", "eve", "None")),
+            ({"kind": "accept", "commit": A}, Acceptance("n", "eve", A)), ({"kind": "accept"}, Strange("n", "eve")),
+            ({"kind": "accept", "commit": "x"}, Strange("n", "eve")),
             ({"kind": "push", "heads": [[7, A], [True, A], [0, A], [4294967296, A], ["7", A], [7, "x"], [7], 7, [4294967295, B]],
               "moves": [[A, B], [A], [A, 7], "x"]}, PushTold("n", "eve", ((7, A), (4294967295, B)), ((A, B),))),
         ):

@@ -11,7 +11,7 @@ from unittest import mock
 sys.path.insert(0, str(Path(__file__).resolve().parent.parent))
 
 from folders import InRepository  # noqa: E402
-from gate_host.places import Trouble  # noqa: E402
+from gate_host.faults import Trouble  # noqa: E402
 from gate_host.sandbox import environment_within, hidden_files, look_again, sandbox_of, unreadable_in, words_before  # noqa: E402
 from gate_host.settings import FIRST_SETTINGS, settings_in  # noqa: E402
 

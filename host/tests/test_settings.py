@@ -6,7 +6,7 @@ from pathlib import Path
 
 sys.path.insert(0, str(Path(__file__).resolve().parent.parent))
 
-from gate_host.places import Trouble  # noqa: E402
+from gate_host.faults import Trouble  # noqa: E402
 from gate_host.settings import FIRST_SETTINGS, roles_in, settings_in  # noqa: E402
 
 TEXT = FIRST_SETTINGS.format(main="main", staging="staging", trying="trying", program="/gate", may_push="ines", checks="build = true\n")

@@ -17,7 +17,8 @@ sys.path.insert(0, str(Path(__file__).resolve().parent.parent))
 
 from gate_host import marks  # noqa: E402
 from gate_host import spool  # noqa: E402
-from gate_host.places import Places, Trouble, make_identity, name_of_repository, name_of_user, person  # noqa: E402
+from gate_host.faults import Trouble  # noqa: E402
+from gate_host.places import Places, make_identity, name_of_repository, name_of_user, person  # noqa: E402
 from users import make_folder, may_be_others, others, run_as  # noqa: E402
 
 MYSELF = name_of_user(os.geteuid())

@@ -4,7 +4,7 @@ An order is named by the identifier that its report has: that of the delivery th
 """
 import json
 from dataclasses import asdict, dataclass, fields
-from typing import Dict, Mapping, Optional, Tuple, Type, Union
+from typing import Dict, Mapping, Optional, Tuple, Type, Union, get_args
 
 from .orders import Json, Unread, table_in
 
@@ -174,10 +174,7 @@ Fact = Union[
     RoleGiven, MainSeen, Opened, Pushed, Closed, Said, PushTold, MoverFound, PushesForgotten, Merged, Conflicted, Delayed, Staged, Ended,
     Faulted, Moved, NotMoved, Ticked, Upgraded,
 ]
-KINDS: Dict[str, Type[Fact]] = {kind.__name__: kind for kind in (
-    RoleGiven, MainSeen, Opened, Pushed, Closed, Said, PushTold, MoverFound, PushesForgotten, Merged, Conflicted, Delayed, Staged, Ended,
-    Faulted, Moved, NotMoved, Ticked, Upgraded,
-)}
+KINDS: Dict[str, Type[Fact]] = {kind.__name__: kind for kind in get_args(Fact)}
 
 
 def kind_of(fact: Fact) -> str:

@@ -88,9 +88,10 @@ def note_in(name: str, person: str, body: Mapping[str, Json]) -> Note:
     """What a note says, by its name, who left it, and the table that it has."""
     if body.get("kind") == "push":
         return push_in(name, person, body)
-    if body.get("kind") == "accept":
-        return Acceptance(name, person, str(body.get("commit")))
-    return comment_in(name, person, body)
+    if body.get("kind") != "accept":
+        return comment_in(name, person, body)
+    commit = body.get("commit")
+    return Acceptance(name, person, commit) if isinstance(commit, str) and is_commit(commit) else Strange(name, person)
 
 
 def command_lines(text: str) -> List[str]:

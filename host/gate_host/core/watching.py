@@ -54,14 +54,14 @@ class Watch:
 
     def note_moves(self, known: Known) -> None:
         """Notes in which round a move of the main branch was seen first."""
-        for move in known.unknown_moves():
-            self.moves.setdefault(move.number, self.rounds)
+        self.moves = {move.number: self.moves.get(move.number, self.rounds) for move in known.unknown_moves()}
 
     def next_mover(self, known: Known, may_push: Collection[str], has_more: bool) -> Optional[MoverFound]:
         """Who made the first move of the main branch that nobody has looked into, unless a note may still tell it. What tells of one is
         used up when that is written down, so they are looked into one by one."""
+        self.note_moves(known)
         for move in known.unknown_moves():
-            if not self.may_be_told_yet(self.moves.setdefault(move.number, self.rounds), has_more):
+            if not self.may_be_told_yet(self.moves[move.number], has_more):
                 return mover_of(known, move, may_push)
         return None
 
