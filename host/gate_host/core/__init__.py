@@ -1,7 +1,7 @@
 """The core of the host: what it decides, apart from what it touches.
 
 Everything that the host learns is a *fact*. The facts are one list, in the order in which they were written down, and what the host knows
-is a function of that list alone:
+is a function of that list and of the bot's answers alone:
 
 - `facts` has each kind of fact, `orders` what the bot answers, `deliveries` what a fact tells the bot.
 - `known` has what is known after a list of facts and answers: what is tested, and what people are told. `duties` has what is open then:
