@@ -2,6 +2,8 @@
 import sys
 from pathlib import Path
 
+if sys.version_info < (3, 9):
+    sys.exit("gate-host: Python 3.9 or later is needed")
 sys.dont_write_bytecode = True
 if not __package__:
     # It was named by its path.

@@ -1,11 +1,13 @@
 """A host of a bare repository on this machine, put together of its ports."""
 import os
 import time
-from typing import Callable, List, Mapping, Tuple, TypeVar
+from typing import Callable, FrozenSet, List, Mapping, Tuple, TypeVar
 
+from .after_landing import AfterLandings
 from .checks import Checks
 from .core.deliveries import touched
 from .core.known import Known, Test
+from .core.words import landing_of
 from .faults import Trouble
 from .guarded import BranchesAndNotes, Guarded
 from .inspection import findings, must_be_guarded
@@ -18,7 +20,8 @@ from .ports import Ports
 from .reports import Reports
 from .repository import Repository
 from .sandbox import sandbox_of
-from .settings import Settings, read_roles, read_settings
+from .setting_up import mend_hook
+from .settings import Settings, read_reporters, read_roles, read_settings
 from .spool import ROUNDS_FOR_ALL, Spool
 from .troubles import Troubles, complain
 
@@ -43,17 +46,23 @@ class OwnerFiles:
         self.places, self.owner = places, owner
         self.settings: Settings = read_settings(places.settings, owner)
         self.roles: Mapping[str, str] = read_roles(places.roles, owner)
+        self.reporters: Mapping[str, FrozenSet[str]] = read_reporters(places.reporters, owner)
         self.main = self.settings.main
+        self.first = places.first_commit()
 
     def read(self) -> List[Tuple[str, str]]:
         must_be_safe(self.places)
-        return [("settings", fault_of(self.read_settings)), ("roles", fault_of(self.read_roles))]
+        reads = {"settings": self.read_settings, "roles": self.read_roles, "reporters": self.read_reporters}
+        return [(name, fault_of(read)) for name, read in reads.items()]
 
     def read_settings(self) -> None:
         self.settings = read_settings(self.places.settings, self.owner)
 
     def read_roles(self) -> None:
         self.roles = read_roles(self.places.roles, self.owner)
+
+    def read_reporters(self) -> None:
+        self.reporters = read_reporters(self.places.reporters, self.owner)
 
 
 def fault_of(read: Callable[[], None]) -> str:
@@ -77,6 +86,7 @@ def run_host(places: Places, is_all_again: bool) -> None:
         repository.remove_locks()
     reports = Reports(places, journal, complain)
     known = journal.known(lambda then, it: reports.note(it.delivery, touched(it.delivery, it.orders, then)))
+    reports.more_of = lambda change: landing_of(known.landing_of(change), change)
     reports.begin(known.changes)
     troubles = Troubles()
     bot = KeptBot(places, journal, lambda: files.settings.program, is_all_again, lambda: host.ending)
@@ -104,13 +114,14 @@ def ports_of(
     return Ports(
         source=BranchesAndNotes(places, repository, Spool(places, files.owner, complain)), repository=guarded,
         runner=Checks(places, repository, bring), bot=bot, journal=journal, clock=SystemClock(),
-        board=reports, owner=files,
+        board=reports, owner=files, after=AfterLandings(places, journal, files.main),
     )
 
 
 def begin(host: Host, places: Places, settings: Settings, bot: KeptBot) -> None:
     """Looks at what stands in the repository besides branches, and says that the host runs. It doesn't if the main branch isn't guarded."""
     host.begin()
+    mend_hook(places.repository)
     found = findings(places, settings)
     must_be_guarded(found)
     for number, finding in enumerate(found):

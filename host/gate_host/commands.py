@@ -7,18 +7,21 @@ import sys
 from pathlib import Path
 from typing import List, NoReturn, Optional
 
-from . import ssh_command
+from . import VERSION, ssh_command
 from .bare import run_host
 from .doctor import checks_of, stray_named
 from .git import GitFailed
 from .hook import before_push
-from .core.notes import MOST_IN_COMMENT, AcceptanceLeft, CommentLeft, command_lines
+from .core.commands import command_lines
+from .core.notes import (
+    MOST_IN_COMMENT, MOST_IN_DESCRIPTION, STATES, AcceptanceLeft, CommentLeft, ReportLeft, is_commit, is_name_of_status,
+)
 from .core.words import plain
 from .locks import is_locked
 from .troubles import complain
 from .faults import Trouble
 from .places import Places, asked_of_git, find_places, must_be_safe, name_of_user, person_here, pointed_to
-from .settings import read_settings
+from .settings import read_reporters, read_settings
 from .setting_up import PROGRAM, must_be_own, set_up
 from .spool import leave
 
@@ -43,6 +46,7 @@ def arguments_of(words: List[str]) -> argparse.Namespace:
     """Reads the arguments. argparse ends with status 2 if they are wrong."""
     shape = argparse.RawDescriptionHelpFormatter
     parser = argparse.ArgumentParser(prog="gate-host", description=EXPLAINED, formatter_class=shape)
+    parser.add_argument("--version", action="version", version=f"gate-host {VERSION}")
     jobs = parser.add_subparsers(dest="job", required=True, metavar="COMMAND")
     add_jobs_of_owner(jobs)
     add_jobs_of_people(jobs)
@@ -58,6 +62,7 @@ def add_jobs_of_owner(jobs: "argparse._SubParsersAction[argparse.ArgumentParser]
     job.add_argument("--check", action="append", default=[], metavar="NAME=COMMAND", help="a check; may be given several times")
     job.add_argument("--reviewer", action="append", default=[], metavar="NAME", help="a reviewer; without any, you are the one")
     job.add_argument("--member", action="append", default=[], metavar="NAME", help="who may have changes tried")
+    job.add_argument("--reporter", action="append", default=[], metavar="NAME=STATUS", help="who reports a status that isn't tested here")
     job.add_argument("--may-push", action="append", default=[], metavar="NAME", help="who may push to the main branch past the queue")
     job.add_argument("--main", metavar="BRANCH", help="the branch to guard (usually that of HEAD)")
     job.add_argument("--staging", metavar="BRANCH", help="where the host puts what is tested for landings (usually staging)")
@@ -93,6 +98,13 @@ def add_jobs_of_people(jobs: "argparse._SubParsersAction[argparse.ArgumentParser
     job.add_argument("change", type=int, metavar="CHANGE")
     job.add_argument("text", metavar="TEXT", help="the comment, as in 'bors r+'; - reads it from standard input")
     job.add_argument("--head", metavar="COMMIT", help="the commit that you have looked at, or the beginning of its name")
+    job = add("status", "report how a check of a commit stands", (
+        "Reports a status of a commit, as a build engine does that tests what is staged. The file gate/reporters of the repository says "
+        "who may report which one."))
+    job.add_argument("commit", metavar="COMMIT", help="the commit, with its 40 digits")
+    job.add_argument("name", metavar="NAME", help="the name of the status, as bors.toml has it")
+    job.add_argument("state", choices=STATES, help="how it stands")
+    job.add_argument("--description", default="", metavar="TEXT", help="more about it, as the address of the build")
     add("queue", "show the queue", "Shows the main branch, the batches that wait or run, and the open changes.")
     job = add("change", "show a change", "Shows a change as the bot has it.")
     job.add_argument("change", type=int, metavar="CHANGE")
@@ -192,16 +204,39 @@ def say(arguments: argparse.Namespace) -> int:
     head, _ = pointed_to(places.repository, f"refs/heads/change/{arguments.change}")
     if head is None:
         raise Trouble(f"there is no branch change/{arguments.change}")
-    seen = arguments.head or head_in_clone(arguments) or head
+    fetched = head_in_clone(arguments, places)
+    seen = arguments.head or fetched or head
     if not is_beginning(seen.lower(), head):
         raise Trouble(f"change/{arguments.change} is at {head} now, and you have looked at {seen}; fetch it, and look again")
     leave(places, CommentLeft(who, arguments.change, text, head))
     print(f"said by {who} of change {arguments.change} of {places.repository} at {head}; gate-host log {arguments.change} shows the answer")
+    if not arguments.head and not fetched:
+        complain("you stand in no clone that has fetched this change, so it counts as if you had looked at this head; --head names another")
     if not command_lines(text):
         complain("this has no command; a line that begins with bors is one, as in 'bors r+'")
     if not is_running(places):
         complain(f"no host runs at present, so this waits; the owner starts it by gate-host run {places.repository}")
         tell_if_not_built(places)
+    return 0
+
+
+def report_status(arguments: argparse.Namespace) -> int:
+    """Leaves a report for the host. What can be told at once that doesn't count is refused."""
+    places = find_places(arguments.repository)
+    who = person_here(places.owner)
+    commit, name, more = arguments.commit.lower(), arguments.name, arguments.description
+    if not is_commit(commit):
+        raise Trouble("a commit has 40 digits here")
+    if not is_name_of_status(name) or len(more) > MOST_IN_DESCRIPTION:
+        raise Trouble(f"the bot takes no such name of a status, or the description has more than {MOST_IN_DESCRIPTION} characters")
+    if who is None or who not in read_reporters(places.reporters, places.owner).get(name, ()):
+        raise Trouble(f"{who or 'your user'} isn't named as a reporter of {name}; the owner adds a line to {places.reporters}")
+    if name in read_settings(places.settings, places.owner).checks:
+        complain(f"the host has a command for {name}, so of what it stages this doesn't count")
+    leave(places, ReportLeft(who, commit, name, arguments.state, more))
+    print(f"{who} reports {name} of {commit}: {arguments.state}")
+    if not is_running(places):
+        complain("no host runs at present, so this waits")
     return 0
 
 
@@ -216,11 +251,23 @@ def tell_if_not_built(places: Places) -> None:
         complain(f"nor can the host start: there is no program of the bot at {program}")
 
 
-def head_in_clone(arguments: argparse.Namespace) -> Optional[str]:
-    """The head of the change as it was fetched last, if the user stands in a clone and named no repository."""
-    if arguments.repository is not None:
-        return None
-    return asked_of_git(Path.cwd(), "rev-parse", "--verify", "--quiet", f"refs/remotes/origin/change/{arguments.change}")
+def head_in_clone(arguments: argparse.Namespace, places: Places) -> Optional[str]:
+    """The head of the change as it was fetched last, if the user stands in a clone of the repository."""
+    name = f"change/{arguments.change}"
+    remotes = remotes_of(Path.cwd(), places)
+    seen = (asked_of_git(Path.cwd(), "rev-parse", "--verify", "--quiet", f"refs/remotes/{remote}/{name}") for remote in remotes)
+    return next(filter(None, seen), None)
+
+
+def remotes_of(folder: Path, places: Places) -> List[str]:
+    """The remotes of a clone that lead to a repository on this machine."""
+    found = []
+    for line in (asked_of_git(folder, "config", "--get-regexp", r"^remote\..*\.url$") or "").split("\n"):
+        key, _, url = line.partition(" ")
+        path = Path(url[len("file://"):] if url.startswith("file://") else url)
+        if path.is_absolute() and path.resolve() == places.repository:
+            found.append(key[len("remote."):-len(".url")])
+    return found
 
 
 def show(places: Places, name: str, missing: str) -> str:
@@ -279,5 +326,5 @@ def plain_lines(text: str) -> str:
 
 JOBS = {
     "init": init, "run": run, "doctor": look_after, "say": say, "queue": show_queue, "change": show_change, "log": show_log,
-    "hook": look_at_push, "ssh": serve_by_ssh,
+    "hook": look_at_push, "ssh": serve_by_ssh, "status": report_status,
 }

@@ -9,7 +9,7 @@ from pathlib import Path
 from typing import Iterator, List
 
 from .bot_file import lacks_answers
-from .hook import SCRIPT
+from .hook_file import SCRIPT, is_for_all, python_for_all
 from .inspection import findings
 from .journal import Journal
 from .loop import time_of_day
@@ -19,8 +19,7 @@ from .faults import Trouble
 from .places import Places, name_of_repository
 from .repository import BRANCHES
 from .sandbox import sandbox_of
-from .setting_up import is_for_all, python_for_all
-from .settings import Settings, read_roles, read_settings
+from .settings import Settings, read_reporters, read_roles, read_settings
 
 # A lock of git's that is older was left by a git that has died.
 SECONDS_OF_LOCK = 60
@@ -41,11 +40,12 @@ def checks_of(places: Places, is_running: bool) -> List[Checked]:
     try:
         settings = read_settings(places.settings, os.geteuid())
         read_roles(places.roles, os.geteuid())
+        read_reporters(places.reporters, os.geteuid())
         name_of_repository(places)
     except Trouble as fault:
         return [Checked(False, str(fault))]
     return [
-        Checked(True, "settings, roles and folders are the owner's alone"),
+        Checked(True, "settings, roles, reporters and folders are the owner's alone"),
         *in_repository(places, settings), *locks_of(places, settings), *in_system(places, settings), *in_records(places, is_running),
         *(told_by_host(places) if is_running else [Checked(False, f"no host runs; gate-host run {places.repository} starts one")]),
     ]

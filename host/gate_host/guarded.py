@@ -1,17 +1,20 @@
 """The bare repository as the host works on it: what the ports of changes and of the repository are here."""
 import os
-from typing import Dict, Iterable, List, Mapping, Optional, Sequence, Union
+from functools import partial
+from typing import Dict, Iterable, List, Mapping, Optional, Sequence, Tuple, Union
 
 from .core.facts import Conflicted, Merged
 from .core.known import Batch, Known
 from .core.notes import Note
 from .core.orders import Land
+from .core.words import MOST_IN_SETTINGS, merge_message
 from .git import GitFailed
 from .hook import change_in
 from .inspection import blocking
 from .places import Places
 from .ports import Look
-from .repository import Branch, Repository
+from .repository import BRANCHES, Branch, Repository
+from .repository import Merged as MergeMade
 from .spool import Spool
 from .troubles import complain
 
@@ -66,11 +69,22 @@ class Guarded:
         return self.repository.text_at(commit, "bors.toml", most)
 
     def merge(self, order: str, batch: Batch) -> Union[Merged, Conflicted]:
-        merged = self.repository.merge_batch(batch.stage, batch.now)
+        merged = self.merged(batch)
         if merged.commit is None:
             return Conflicted(order, merged.conflicting, merged.why)
         self.repository.keep(f"staged/{batch.stage.branch}", merged.commit)
         return Merged(order, merged.commit)
+
+    def merged(self, batch: Batch) -> MergeMade:
+        return self.repository.merge_batch(batch.stage, batch.now, partial(merge_message, batch))
+
+    def settings_of(self, batch: Batch) -> Tuple[Optional[str], Optional[str]]:
+        self.bring(batch)
+        base, merge = (self.repository.text_at(it, "bors.toml", MOST_IN_SETTINGS) for it in (batch.stage.base, batch.commit))
+        return base, merge
+
+    def drop(self, change: int, head: str) -> None:
+        self.repository.drop_branch(f"{BRANCHES}change/{change}", head)
 
     def bring(self, batch: Batch) -> None:
         """Has the merge of a batch in the mirror. It may not be there any more, if the records were put back or are of an older host. The
@@ -79,7 +93,7 @@ class Guarded:
         try:
             self.repository.must_have(name, batch.commit)
         except GitFailed:
-            if self.repository.merge_batch(batch.stage, batch.now).commit != batch.commit:
+            if self.merged(batch).commit != batch.commit:
                 raise
             self.repository.keep(name, batch.commit)
 

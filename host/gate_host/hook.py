@@ -4,53 +4,20 @@ It runs as whoever pushes. The host believes a note only for who left it, and lo
 claims at most to have pushed what somebody else pushed.
 """
 import re
-import shlex
 import sys
-from pathlib import Path
 from typing import Iterator, List, Tuple
 
 from .core.notes import LAST_CHANGE, PushLeft
 from .faults import Trouble
 from .places import Places, person_here, pointed_to
-from .settings import Settings, read_settings
+from .settings import Settings, read_roles, read_settings
 from .spool import leave
 
-MARK = "# Made by gate-host init."
-HERE = Path(__file__).resolve().parent
-# What the hook runs: the file beside this package, or the package if it was installed without it.
-SCRIPT = HERE.with_name("gate-host") if HERE.with_name("gate-host").exists() else HERE / "__main__.py"
 CHANGE = re.compile(r"refs/heads/change/([1-9][0-9]{0,9})")
 # A note may not be too long.
 MOST_IN_NOTE = 300
 BRANCHES = "refs/heads/"
 Update = Tuple[str, str, str]
-
-
-def hook_command() -> str:
-    """By what a hook is known to run this."""
-    return f"{shlex.quote(str(SCRIPT))} hook"
-
-
-def hook_text(python: str) -> str:
-    """The hook that `init` writes."""
-    return f"#!/bin/sh\n{MARK}\nexec {shlex.quote(python)} {hook_command()} --repository .\n"
-
-
-def is_hook(text: str) -> bool:
-    """Whether a hook runs this: it is that of `init`, with any Python, or it has the command on a line that is no comment."""
-    lines = text.split("\n")
-    if MARK in lines:
-        words = shlex_words(lines[2][len("exec "):-len(f" {hook_command()} --repository .")]) if len(lines) == 4 else []
-        return len(words) == 1 and text == hook_text(words[0])
-    return any(hook_command() in line and not line.lstrip().startswith("#") for line in lines)
-
-
-def shlex_words(text: str) -> List[str]:
-    """The words of a text as the shell reads them, or none if it has an open quotation."""
-    try:
-        return shlex.split(text)
-    except ValueError:
-        return []
 
 
 def change_in(branch: str) -> int:
@@ -79,8 +46,7 @@ def complaints_of(update: Update, pusher: str, places: Places, settings: Setting
     _, target = pointed_to(places.repository, branch)
     if target != branch:
         yield f"{branch} is another name of {target}, and a push to it would move that"
-    # The first push of a main branch makes it, and there is no queue yet.
-    if branch == f"{BRANCHES}{settings.main}" and not is_nothing(before) and pusher not in settings.may_push:
+    if branch == f"{BRANCHES}{settings.main}" and not may_move_main(before, pusher, places, settings):
         yield f"{settings.main} moves by the queue alone. Push to a branch change/NUMBER, and have that approved"
     for name in (settings.staging, settings.trying):
         if branch == BRANCHES + name:
@@ -90,6 +56,14 @@ def complaints_of(update: Update, pusher: str, places: Places, settings: Setting
     # What else shouldn't be there may be taken away.
     if not is_nothing(after):
         yield from complaints_of_name(branch, settings)
+
+
+def may_move_main(before: str, pusher: str, places: Places, settings: Settings) -> bool:
+    """Whether somebody may move the main branch from a commit. The first push makes the branch, and there is no queue yet. In the place of
+    the commit with which `init` has made it a reviewer may push another history."""
+    if is_nothing(before) or pusher in settings.may_push:
+        return True
+    return before == places.first_commit() and read_roles(places.roles, places.owner).get(pusher) == "reviewer"
 
 
 def complaints_of_name(branch: str, settings: Settings) -> Iterator[str]:
@@ -133,6 +107,8 @@ def before_push(places: Places) -> int:
             tell_of(updates, places)
     except (Trouble, OSError) as fault:
         refusals = [str(fault)]
+    except Exception as fault:  # Whoever pushes sees a line of what went wrong here, and no traceback.
+        refusals = [f"this push can't be looked at, by a fault of the host; tell its owner: {type(fault).__name__}: {fault}"]
     for refusal in refusals:
         print(f"gate: {refusal}", file=sys.stderr)
     return 1 if refusals else 0

@@ -6,7 +6,7 @@ from pathlib import Path
 from typing import Dict, Iterator, List, Mapping
 
 from .git import settings_in_file
-from .hook import is_hook
+from .hook_file import is_hook
 from .faults import Trouble
 from .places import Places, pointed_to
 from .repository import BRANCHES, Branch

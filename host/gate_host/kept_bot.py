@@ -1,17 +1,20 @@
 """The bot, kept running: it is started anew if it has ended, and gets what it lacks of the journal."""
 import os
 import time
-from typing import Callable, Optional
+from typing import Callable, Dict, Optional, Tuple
 
 from .bot_file import has_file, lacks_answers
+from .bot_settings import read_settings
 from .client import Bot, BotEnded
 from .faults import Trouble
 from .journal import Journal
 from .places import Places
+from .ports import Reading
 from .troubles import complain
 
 # How often the bot is started again before the host gives up. The pauses grow up to ten seconds.
 STARTS = 12
+MOST_READINGS = 20
 
 
 class KeptBot:
@@ -23,6 +26,8 @@ class KeptBot:
         self.program, self.is_ending = program, is_ending
         self.is_all_again = is_all_again
         self.bot: Optional[Bot] = None
+        # What it reads in texts of settings, by the program and the text.
+        self.readings: Dict[Tuple[str, str], Reading] = {}
 
     def must_belong_to_journal(self) -> None:
         """The journal and the file of the bot are of one history."""
@@ -48,6 +53,15 @@ class KeptBot:
                     break
                 time.sleep(min(10.0, 0.1 * 2 ** attempt))
         raise Trouble("the bot gives no answer, however often it is started")
+
+    def read(self, settings: str) -> Reading:
+        """What the bot reads in a text of settings, by a run of its program for that alone."""
+        program = self.program()
+        if (program, settings) not in self.readings:
+            # Few texts count at one time: that of the main branch, the one before it, and those of batches that alter it.
+            self.readings = dict(list(self.readings.items())[-MOST_READINGS:])
+            self.readings[(program, settings)] = read_settings(program, settings)
+        return self.readings[(program, settings)]
 
     def start(self) -> Bot:
         """Starts the bot. If its file lacks answers of the journal, it gets all deliveries again, and has to give the same answers."""

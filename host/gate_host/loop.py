@@ -9,8 +9,9 @@ from .core.clock import ClockWatch
 from .core.deliveries import touched
 from .core.duties import Duty, Merge, Move, Point, open_duties
 from .core.facts import Delayed, Ended, Fact, Faulted, MainSeen, Merged, Moved, NotMoved, Opened, PushTold, Said, Staged, Ticked
-from .core.known import Batch, Known
-from .core.notes import Acceptance, Comment, Note, Strange, command_lines, objection_to
+from .core.known import Batch, Known, Test
+from .core.commands import command_lines
+from .core.notes import Acceptance, Comment, Note, Report, Strange, objection_to
 from .core.orders import Land, is_done
 from .core.watching import Watch
 from .core.words import MOST_IN_SETTINGS, listed
@@ -48,6 +49,9 @@ class Host:
         self.looking_until = 0.0
         # The heads of changes at the last look.
         self.heads: Dict[int, str] = {}
+        # Of what is tested, by its batch, why it fails before it is tested, or nothing; and what is to be said of the bot's settings.
+        self.objections: Dict[int, str] = {}
+        self.said_of_settings: List[str] = []
 
     # The loop
 
@@ -81,6 +85,7 @@ class Host:
     def close(self) -> None:
         """Leaves all in order. What isn't done is done at the next start."""
         self.ports.runner.close()
+        self.ports.after.close()
         self.ports.board.close()
         self.ports.bot.close()
         self.ports.journal.close()
@@ -202,8 +207,43 @@ class Host:
         if seen.main and watching.is_news_of_main(self.known, seen.main):
             self.record(MainSeen(seen.main, self.ports.repository.settings_at(seen.main, MOST_IN_SETTINGS)))
             self.watch.note_moves(self.known)
+        self.look_at_settings()
         self.heads = seen.heads
         self.look_at_changes(self.watch.pick(self.known, seen.heads))
+        self.drop_branches()
+
+    def look_at_settings(self) -> None:
+        """Says why the bot refuses its settings, which keys of them mean nothing to it, and which required statuses nobody ever reports."""
+        known, owner = self.known, self.ports.owner
+        said, missing = [], ""
+        try:
+            last = self.ports.bot.read(known.settings) if known.settings is not None else None
+            required = self.ports.bot.read(known.taken).required if known.taken else ()
+        except Unable as fault:
+            self.troubles.put("required", f"what bors.toml requires can't be told: {fault}")
+            return
+        if known.refusal:
+            said.append(f"the settings of {owner.main} aren't taken: {last.refusal if last and last.refusal else known.refusal}")
+        said += [f"bors.toml: {it}" for it in last.remarks] if last else []
+        never = watching.never_reported(required, owner.settings.checks, owner.reporters)
+        if never:
+            missing = f"bors.toml requires {words.without_reporter(never)}, so nothing can land or pass a try"
+        self.troubles.put("required", missing)
+        for text in (it for it in said if it not in self.said_of_settings):
+            complain(text)
+        self.is_report_due = self.is_report_due or said != self.said_of_settings
+        self.said_of_settings = said
+
+    def drop_branches(self) -> None:
+        """Deletes the branches of what has landed, if the owner wants that."""
+        if self.ports.owner.settings.delete_branches:
+            for change, head in watching.left_by_landings(self.known, self.heads).items():
+                try:
+                    self.ports.repository.drop(change, head)
+                except Unable as fault:
+                    self.troubles.say(f"branch of change {change}", str(fault))
+                else:
+                    self.troubles.end(f"branch of change {change}")
 
     def look_at_changes(self, heads: Dict[int, str]) -> None:
         """Writes down which changes are new, have moved, or are gone."""
@@ -240,10 +280,10 @@ class Host:
         """Finds out who moved the main branch beside the host. A hook tells of that before the branch moves, so its note is there in the
         round after the move was seen."""
         may_push = {*self.ports.owner.settings.may_push, *([self.owner] if self.owner else [])}
-        found = self.watch.next_mover(self.known, may_push, self.ports.source.has_more)
+        found = self.watch.next_mover(self.known, may_push, self.ports.source.has_more, self.ports.owner.first)
         while found:
             self.record(found)
-            found = self.watch.next_mover(self.known, may_push, self.ports.source.has_more)
+            found = self.watch.next_mover(self.known, may_push, self.ports.source.has_more, self.ports.owner.first)
         if time.monotonic() >= self.next_forgetting and not self.known.unknown_moves():
             self.next_forgetting = time.monotonic() + SECONDS_OF_PUSH
             forgotten = watching.old_pushes(self.known, self.ports.clock.now() - SECONDS_OF_PUSH)
@@ -269,6 +309,8 @@ class Host:
                 self.record(found)
         elif isinstance(note, Comment):
             return self.take_comment(note)
+        elif isinstance(note, Report):
+            return self.take_report(note)
         elif isinstance(note, Strange):
             complain(f"a note of {note.person} is no comment on a change")
         return True
@@ -281,6 +323,18 @@ class Host:
         elif not self.ports.journal.has_taken(comment.note):
             said = Said(comment.note, comment.change, comment.person, comment.text, comment.seen)
             self.record(said if self.is_readable(said) else replace(said, is_readable=False))
+        return True
+
+    def take_report(self, report: Report) -> bool:
+        """Takes what somebody reports of a commit. It waits for a change that is about to be opened at that."""
+        if any(head == report.commit and self.watch.is_awaited(change) for change, head in self.heads.items()):
+            return False
+        if not self.ports.journal.has_taken(report.note):
+            found = watching.report_of(self.known, report, self.ports.owner.settings.checks, self.ports.owner.reporters)
+            if isinstance(found, str):
+                complain(found)
+            else:
+                self.record(found)
         return True
 
     def is_readable(self, said: Said) -> bool:
@@ -299,8 +353,42 @@ class Host:
         for ended in self.ports.runner.ended(list(self.known.tests.values())):
             self.take_end(ended)
         for test in list(self.known.tests.values()):
-            self.ports.runner.begin(test, self.ports.owner.settings, self.known.results.get(test.branch, {}))
+            if not self.fails_at_once(test):
+                self.ports.runner.begin(test, self.ports.owner.settings, self.known.results.get(test.branch, {}))
         self.show_faults()
+        self.troubles.put("after landing", self.ports.after.go_on(self.ports.owner.settings, self.known.landings))
+
+    def fails_at_once(self, test: Test) -> bool:
+        """Whether a batch fails before it is tested, since with its settings nothing could land after it. People are told why by a check
+        that is required now."""
+        if test.batch not in self.objections:
+            batches = [it.batch for it in self.known.tests.values()]
+            self.objections = {batch: why for batch, why in self.objections.items() if batch in batches}
+            try:
+                self.objections[test.batch] = self.objection_to(test)
+            except Unable as fault:
+                # Whether it is tested doesn't rest on this.
+                self.objections[test.batch] = ""
+                complain(f"the settings of batch {test.batch} can't be looked at: {fault}")
+        why = self.objections[test.batch]
+        if why and not self.known.results.get(test.branch):
+            required = self.ports.bot.read(self.known.taken).required
+            self.record(Ended(test.batch, required[0], "failure", why, ""))
+        return bool(why)
+
+    def objection_to(self, test: Test) -> str:
+        """Why the settings in the merge of a batch would keep others from landing, or nothing."""
+        batch = self.known.batch_of(test.batch)
+        before, after = self.ports.repository.settings_of(batch) if batch else (None, None)
+        if after == before or not self.known.taken:
+            return ""
+        if after is None:
+            return words.NO_SETTINGS_LEFT
+        read, owner = self.ports.bot.read(after), self.ports.owner
+        never = watching.never_reported(read.required, owner.settings.checks, owner.reporters)
+        if read.refusal:
+            return f"its bors.toml would be refused: {read.refusal}"
+        return f"its bors.toml requires {words.without_reporter(never)}" if never else ""
 
     def take_end(self, ended: Union[Result, Fault]) -> None:
         """Writes down how a check has ended. People are told once of each that it has to be tried again."""
@@ -350,19 +438,23 @@ class Host:
         self.is_report_due = self.troubles.is_news = False
         self.next_report = time.monotonic() + REPORT_SECONDS
         self.ports.board.refresh(self.ports.owner.settings.program, self.remarks())
+        # What git can't do for now may hold up what was told the bot.
+        for queued in [] if self.known.waiting else watching.news_of_queue(self.known, self.ports.board.waiting()):
+            self.ports.journal.record(self.known, self.ports.clock.now(), queued)
+            self.is_report_due = True
 
     def remarks(self) -> List[str]:
         """What the report of the queue says besides."""
         opened = self.known.open_changes()
-        free = watching.free_number({*self.known.changes, *self.heads})
-        refused = self.known.refusal
+        free, reporters = watching.free_number({*self.known.changes, *self.heads}), self.ports.owner.reporters
         return [
             f"open: {listed(opened) if opened else 'no change'}; the next free number is {free}",
             f"checks: {', '.join(self.ports.owner.settings.checks) or 'none'}",
-            *([f"the settings of {self.ports.owner.main} aren't taken: {refused}"] if refused else []),
+            *([f"reported: {', '.join(map(words.plain, reporters))}"] if reporters else []),
+            *(words.plain(text) for text in self.said_of_settings),
             *(f"trouble: {words.plain(text)}" for text in self.troubles.texts()),
         ]
 
 
 def time_of_day(at: int) -> str:
-    return time.strftime("%Y-%m-%d %H:%M:%S", time.localtime(at))
+    return time.strftime("%Y-%m-%d %H:%M:%S %z", time.localtime(at))

@@ -39,6 +39,19 @@ class Places:
         return self.folder / "roles"
 
     @property
+    def first(self) -> Path:
+        """The commit with which `init` has made the main branch, if it has. Everybody may read it."""
+        return self.folder / "first"
+
+    def first_commit(self) -> str:
+        """That commit, or nothing."""
+        return trusted_text(self.first, self.owner).strip() if os.path.lexists(self.first) else ""
+
+    @property
+    def reporters(self) -> Path:
+        return self.folder / "reporters"
+
+    @property
     def identity(self) -> Path:
         """The identifier of the repository, which everybody may read."""
         return self.folder / "identity"

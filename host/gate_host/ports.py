@@ -1,10 +1,10 @@
 """The ports: what the host touches, one concern each. The bare repository is the first set of them; `bare` puts it together."""
 from dataclasses import dataclass
-from typing import Dict, Iterable, List, Mapping, Optional, Protocol, Sequence, Tuple, Union
+from typing import Dict, FrozenSet, Iterable, List, Mapping, Optional, Protocol, Sequence, Tuple, Union
 
 from .core.deliveries import Delivery
 from .core.facts import Conflicted, Fact, Merged
-from .core.known import Batch, Known, Test
+from .core.known import Batch, Known, Landing, Test
 from .core.notes import Note
 from .core.orders import Land
 from .journal import Heard
@@ -69,6 +69,12 @@ class Repository(Protocol):
     def settings_at(self, commit: str, most: int) -> Optional[str]:
         """The text of the bot's settings in a commit, unless there is none, or one with more bytes."""
 
+    def settings_of(self, batch: Batch) -> Tuple[Optional[str], Optional[str]]:
+        """The texts of the bot's settings in the base of a batch and in its merge, each as `settings_at` gives it."""
+
+    def drop(self, change: int, head: str) -> None:
+        """Deletes the branch of a change that has landed, if it is at exactly this head."""
+
     def merge(self, order: str, batch: Batch) -> Union[Merged, Conflicted]:
         """Makes one commit, whose parents are the base and the heads of a batch. Done again, it is the same commit."""
 
@@ -102,8 +108,21 @@ class Runner(Protocol):
         """Stops all."""
 
 
+@dataclass(frozen=True)
+class Reading:
+    """What the bot reads in a text of settings: the statuses that it requires, unless it refuses the text. And what its writer should know:
+    why it is refused, and which keys mean nothing to the bot."""
+
+    required: Tuple[str, ...]
+    refusal: str = ""
+    remarks: Tuple[str, ...] = ()
+
+
 class Bot(Protocol):
     """The bot, which answers each delivery."""
+
+    def read(self, settings: str) -> Reading:
+        """What the bot reads in a text of settings. It isn't handed in by that."""
 
     def hand_in(self, line: str) -> str:
         """Hands a delivery in, and gives the answer."""
@@ -149,6 +168,9 @@ class Board(Protocol):
     def is_behind(self) -> bool:
         """Whether a refresh has something to do that was left by the last one."""
 
+    def waiting(self) -> Mapping[int, int]:
+        """In which batch each approved change waits, as the report of the queue had it last."""
+
     def note(self, delivery: Delivery, changes: Sequence[int]) -> None:
         """Notes that a delivery has its answer, and of which changes something may be another way now."""
 
@@ -159,13 +181,26 @@ class Board(Protocol):
         """Ends what was started for it."""
 
 
+class AfterLanding(Protocol):
+    """What runs after a landing, if the settings name it."""
+
+    def go_on(self, settings: Settings, landings: Dict[str, Landing]) -> str:
+        """Has it run for what has landed since the last time. Gives why the last time failed, or nothing."""
+
+    def close(self) -> None:
+        """Stops it. What it was about is due again."""
+
+
 class Owner(Protocol):
     """What the owner has written for the host."""
 
     settings: Settings
     roles: Mapping[str, str]
-    # The branch that is guarded, since the host was started.
+    # Who reports each status that no command of the host's does, by its name.
+    reporters: Mapping[str, FrozenSet[str]]
+    # The branch that is guarded, and the commit with which it was made for the owner, if it was; since the host was started.
     main: str
+    first: str
 
     def read(self) -> List[Tuple[str, str]]:
         """Reads again, and gives of each file its name and what is wrong with it, or nothing. What was read before stays then."""
@@ -183,3 +218,4 @@ class Ports:
     clock: Clock
     board: Board
     owner: Owner
+    after: AfterLanding

@@ -4,6 +4,7 @@ The queue and the changes are texts of the bot, byte for byte. Since the bot tha
 beside it for that, over a copy of its file. It is handed in what was answered when a report is due. If it is lost, it is made again.
 """
 import os
+import re
 import shutil
 import sqlite3
 import tempfile
@@ -34,6 +35,8 @@ SECONDS_OF_HANDING_IN = 1.0
 SECONDS_OF_ASKING = 0.05
 # The base, the clock and the heading. Below them is a line for each batch.
 LINES_WITHOUT_BATCH = 3
+# A line of a batch: its number, its branch, its state, its priority and its changes.
+BATCH = re.compile(r" *([0-9]+) ([a-z]+) +([a-z]+) +(-?[0-9]+) ([0-9,]+)")
 # The file that has the identifier of the delivery up to which all is written, and what names the start of the system by then.
 MARK = ".written-up-to"
 BOOT = Path("/proc/sys/kernel/random/boot_id")
@@ -44,7 +47,7 @@ def log_text(told: Sequence[Tuple[int, str]]) -> str:
     lines = []
     for at, text in told:
         first, *more = text.split("\n")
-        lines.append(f"{time.strftime('%Y-%m-%d %H:%M:%S', time.localtime(at))}  {first}")
+        lines.append(f"{time.strftime('%Y-%m-%d %H:%M:%S %z', time.localtime(at))}  {first}")
         lines += [f"    {line}" for line in more]
     return "".join(f"{line}\n" for line in lines)
 
@@ -85,6 +88,9 @@ class Reports:
         self.written = self.written_up_to()
         self.is_behind_mark = self.has_begun = False
 
+        # What more is to be said of a change than the bot says.
+        self.more_of: Callable[[int], str] = lambda change: ""
+
     # What the loop asks and tells
 
     def begin(self, changes: Collection[int]) -> None:
@@ -116,6 +122,11 @@ class Reports:
     def is_waiting(self) -> bool:
         """Whether something waits in the queue. If that isn't known, it may."""
         return not self.is_known or bool(self.lines) or self.queue is None or self.queue.count("\n") > LINES_WITHOUT_BATCH
+
+    def waiting(self) -> Dict[int, int]:
+        """In which batch each approved change waits, as the report of the queue had it last."""
+        found = filter(None, map(BATCH.fullmatch, (self.queue or "").split("\n")))
+        return {int(change): int(it[1]) for it in found if (it[2], it[3]) == ("staging", "waiting") for change in it[5].split(",")}
 
     @property
     def is_behind(self) -> bool:
@@ -217,7 +228,7 @@ class Reports:
             self.put("queue", self.queue + "".join(f"\n{remark}" for remark in below) + "\n" * bool(below))
         for change, text in texts.items():
             if text:
-                self.put(f"change-{change}", text)
+                self.put(f"change-{change}", text + self.more_of(change))
             self.due.pop(change, None)
         mark = f"{self.last} {self.boot}\n"
         if self.is_known and not self.due and mark != self.marked:

@@ -139,10 +139,10 @@ class Repository:
 
     # Merges
 
-    def merge_batch(self, stage: Stage, now: int) -> Merged:
-        """Makes one commit, whose parents are the base and the heads. If it is done again, it is the same commit."""
-        base, commit, parents = stage.base, stage.base, ["-p", stage.base]
-        message = f"Batch {stage.batch}: " + ", ".join(f"change {change}" for change in stage.changes)
+    def merge_batch(self, stage: Stage, now: int, message: Callable[[Mapping[int, str]], str]) -> Merged:
+        """Makes one commit, whose parents are the base and the heads, with a message that may have the titles of the changes. If it is done
+        again, it is the same commit."""
+        base, commit, parents, titles = stage.base, stage.base, ["-p", stage.base], {}
         dates = {"GIT_AUTHOR_DATE": f"@{now} +0000", "GIT_COMMITTER_DATE": f"@{now} +0000"}
         self.must_have("main", base)
         for change, head in stage.heads:
@@ -151,10 +151,17 @@ class Repository:
             if found.commit is None:
                 return Merged(conflicting=change, why=found.why)
             parents += ["-p", head]
-            commit = self.ask("commit-tree", found.commit, *parents, "-m", message, more=dates).strip()
+            titles[change] = self.title_of(base, head)
+            # With the last head it is the commit of the batch. Those before are for the next merge alone.
+            commit = self.ask("commit-tree", found.commit, *parents, "-F", "-", more=dates, given=message(titles).encode()).strip()
         if commit == base:
             raise ValueError("a batch has a change")
         return Merged(commit=commit)
+
+    def title_of(self, base: str, head: str) -> str:
+        """What a change is about: the first line of its first commit, or of its head if the base has all of it."""
+        first = self.ask("rev-list", "--reverse", "--topo-order", head, f"^{base}").split()[:1]
+        return self.ask("log", "-1", "--no-show-signature", "--format=%s", first[0] if first else head).rstrip("\n")
 
     def merge(self, commit: str, head: str) -> Merged:
         """The tree of a merge, without a checkout, or why there is none."""
@@ -195,6 +202,12 @@ class Repository:
             if ran.status != 0:
                 raise GitFailed(f"{branch} can't be moved: {reason_in(ran)}")
         return kept
+
+    def drop_branch(self, branch: str, at: str) -> None:
+        """Takes a branch of the guarded repository away, if it is at exactly this commit."""
+        ran = run_git(self.mirror, "push", "--quiet", "--porcelain", f"--force-with-lease={branch}:{at}", str(self.window), f":{branch}")
+        if ran.status != 0:
+            raise GitFailed(f"{branch} can't be deleted: {reason_in(ran)}")
 
     def must_be_one(self, branch: str) -> None:
         """A branch that is another name of one isn't moved: that would move the other one."""

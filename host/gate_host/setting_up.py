@@ -3,14 +3,12 @@ import argparse
 import os
 import shlex
 import stat
-import subprocess
-import sys
 from contextlib import closing
 from pathlib import Path
 from typing import List, Optional, Set
 
 from .git import ask_git
-from .hook import MARK, SCRIPT, hook_command, hook_text
+from .hook_file import MARK, SCRIPT, hook_command, hook_text, is_for_all, is_present, python_for_all, words_of_init
 from .inspection import findings, kind_of_repository, must_be_guarded, names_of_branches, settings_of_git
 from .journal import Journal
 from .core.notes import PushLeft
@@ -19,7 +17,9 @@ from .faults import Trouble
 from .troubles import complain
 from .places import Places, is_open_to_others, make_identity, must_be_safe, name_of_user, person, pointed_to
 from .repository import BRANCHES, Repository
-from .settings import FIRST_ROLES, FIRST_SETTINGS, Settings, read_roles, read_settings, roles_in, settings_in
+from .settings import (
+    FIRST_REPORTERS, FIRST_ROLES, FIRST_SETTINGS, Settings, read_reporters, read_roles, read_settings, reporters_in, roles_in, settings_in,
+)
 from .spool import leave
 
 PROGRAM = SCRIPT.parent.parent / "crates/gate_bot/out/gate_bot"
@@ -38,7 +38,7 @@ def set_up(repository: Path, arguments: argparse.Namespace) -> None:
     close_to_others(repository)
     make_folders(places)
     make_identity(places)
-    for path, text in ((places.settings, settings), (places.roles, roles)):
+    for path, text in ((places.settings, settings), (places.roles, roles), (places.reporters, reporters_of(places, arguments))):
         replace(path, text, 0o644)
     must_be_safe(places)
     write_hook(repository)
@@ -142,6 +142,20 @@ def with_people(places: Places, arguments: argparse.Namespace) -> str:
     return with_lines(places.roles.read_text(encoding="utf-8"), reviewers, members)
 
 
+def reporters_of(places: Places, arguments: argparse.Namespace) -> str:
+    """The reporters that are there, with those who are named."""
+    kept = read_reporters(places.reporters, os.geteuid())
+    text = places.reporters.read_text(encoding="utf-8") if places.reporters.exists() else FIRST_REPORTERS.format(lines="")
+    for named in arguments.reporter:
+        name, equals, status = named.partition("=")
+        if not name.strip() or not equals or not status.strip() or "\n" in named:
+            raise Trouble(f"--reporter takes NAME=STATUS, and not {named}")
+        if (person(name.strip().lstrip("@")) or name) not in kept.get(status.strip(), ()):
+            text = f"{text}{'' if text.endswith(chr(10)) else chr(10)}{name.strip()} {status.strip()}\n"
+    reporters_in(text)
+    return text
+
+
 def with_lines(text: str, reviewers: List[str], members: List[str]) -> str:
     lines = [f"{name} reviewer\n" for name in reviewers] + [f"{name} member\n" for name in members]
     text = f"{text}{'' if text.endswith(chr(10)) else chr(10)}{''.join(lines)}"
@@ -183,36 +197,30 @@ def make_folders(places: Places) -> None:
     places.clones.mkdir(exist_ok=True)
 
 
-def is_for_all(path: Path) -> bool:
-    """Whether everybody can read and run a file."""
-    found = path.resolve()
-    return found.stat().st_mode & 0o005 == 0o005 and all(folder.stat().st_mode & 0o001 for folder in found.parents)
-
-
-def python_for_all() -> str:
-    """A Python that whoever pushes can run, if there is one; else the one that runs this."""
-    for name in (sys.executable, "/usr/bin/python3", "/usr/local/bin/python3"):
-        if os.access(name, os.X_OK) and is_for_all(Path(name)):
-            ran = subprocess.run([name, "-c", "import sys; sys.exit(sys.version_info < (3, 9))"], check=False, timeout=60)
-            if ran.returncode == 0:
-                return name
-    return sys.executable
-
-
 def write_hook(repository: Path) -> None:
     """Writes the hook, which git runs in the repository. Another one that is there isn't replaced."""
     path = repository / "hooks/pre-receive"
     command = f"{shlex.quote(python_for_all())} {hook_command()} --repository ."
-    found = path.read_text(encoding="utf-8", errors="replace") if path.exists() else MARK
-    if MARK not in found and hook_command() not in found:
+    found = path.read_text(encoding="utf-8", errors="replace") if path.exists() else None
+    if found and MARK not in found and hook_command() not in found:
         raise Trouble(f"{path} is there already; have it run this, with its input and its status, and init again: {command}")
-    if MARK in found and found.count("\n") != 3 and found != MARK:
+    if found and MARK in found and words_of_init(found) is None:
         raise Trouble(f"{path} has more than what init wrote; to keep it as a hook of your own, take out the line {MARK!r}")
-    if MARK in found:
+    if found is None or MARK in found:
         path.parent.mkdir(exist_ok=True)
         replace(path, hook_text(python_for_all()), 0o755)
         if stat.S_IMODE(path.stat().st_mode) != 0o755:
             change_mode(path, 0o755)
+
+
+def mend_hook(repository: Path) -> None:
+    """Writes the hook anew if it is that of `init` and runs a host or a Python that isn't this one any more."""
+    path = repository / "hooks/pre-receive"
+    found = path.read_text(encoding="utf-8", errors="replace") if path.exists() else ""
+    words = words_of_init(found)
+    if words and (words[1] != str(SCRIPT) or not os.access(words[0], os.X_OK) or not is_present(found)):
+        write_hook(repository)
+        complain(f"the hook runs {SCRIPT} from now on; before it ran {words[1]} by {words[0]}")
 
 
 def others_branches(places: Places, settings: Settings) -> List[str]:
@@ -271,8 +279,16 @@ def add_settings_of_bot(guarded: Repository, places: Places, settings: Settings)
         text = f"# Each of these has to succeed before something lands.\nstatus = [{', '.join(quoted(name) for name in settings.checks)}]\n"
         made = guarded.commit_with("bors.toml", text, commit)
         leave(places, PushLeft(name_of_user(os.geteuid()), moves=((commit, made),) if commit else ()))
+        if commit is None:
+            # Before the branch is there: nobody may push in its place if this can't be told.
+            replace(places.first, f"{made}\n", 0o644)
         guarded.move_main(made, commit)
         print(f"A commit adds bors.toml, which names them, to the branch {settings.main}.")
+        if commit is None:
+            print(
+                f"It is the only one there. If you have a history already, a reviewer may push it in the place of that, before anything "
+                f"lands, and best with a bors.toml: git push --force {shlex.quote(str(places.repository))} {settings.main}"
+            )
 
 
 def quoted(name: str) -> str:

@@ -1,17 +1,19 @@
 """The settings of the host and the roles of people: two files that only the owner of the repository may write."""
 import configparser
+import os
 import re
 from dataclasses import dataclass
 from pathlib import Path
-from typing import Dict, FrozenSet, Mapping, Tuple
+from typing import Dict, FrozenSet, List, Mapping, Tuple
 
+from .core.notes import is_name_of_status
 from .faults import Trouble
 from .places import person, trusted_text
 
 ROLES = ("member", "reviewer")
 KEYS = {
     "main", "program", "tick_seconds", "look_seconds", "check_seconds", "retry_seconds", "parallel", "may_push", "staging", "trying",
-    "sandbox", "sandbox_network", "sandbox_reads", "sandbox_writes",
+    "sandbox", "sandbox_network", "sandbox_reads", "sandbox_writes", "after_landing", "delete_branches",
 }
 
 # Names that git takes for branches, without those that its commands read in another way.
@@ -63,10 +65,22 @@ sandbox_network = no
 sandbox_reads =
 sandbox_writes =
 
+# A command that runs in the repository after each landing, as git runs the hook post-receive: on its standard input stand the commit of
+# before, the one of now, and the name of the branch. It runs as the owner, outside of the sandbox. It may be the hook itself.
+#after_landing = hooks/post-receive
+
+# Whether the branch of a change is deleted when it has landed: yes or no.
+delete_branches = no
+
 # Each check is a command, by the name that bors.toml has under `status`. The shell runs it in a clone of the commit that is tested.
 # They run as the owner of the repository, and one after the other in the same clone, unless `parallel` is yes.
 [checks]
 {checks}"""
+
+FIRST_REPORTERS = """\
+# Who reports which status, for those that no command of the settings tests. Nobody but the owner of the repository may write this file. On
+# each line stand the name of a person and the name of a status, as bors.toml has it under `status`. Several may report the same one.
+{lines}"""
 
 FIRST_ROLES = """\
 # Who may do what. Nobody but the owner of the repository may write this file. On each line stand a name and `reviewer` or `member`:
@@ -94,6 +108,9 @@ class Settings:
     sandbox_network: bool
     sandbox_reads: Tuple[str, ...]
     sandbox_writes: Tuple[str, ...]
+    # What runs after a landing, if anything does; and whether the branches of what has landed are deleted.
+    after_landing: str
+    delete_branches: bool
     # The command of each check, by its name, in the order of the file.
     checks: Dict[str, str]
 
@@ -169,7 +186,8 @@ def settings_in(text: str) -> Settings:
         may_push=frozenset(name.lower() for name in host.get("may_push", "").split()), staging=staging,
         trying=trying, sandbox=word_in(host, "sandbox", ("auto", "required", "off")),
         sandbox_network=word_in(host, "sandbox_network", ("no", "yes")) == "yes", sandbox_reads=paths_in(host, "sandbox_reads"),
-        sandbox_writes=paths_in(host, "sandbox_writes"), checks=checks,
+        sandbox_writes=paths_in(host, "sandbox_writes"), after_landing=host.get("after_landing", "").strip(),
+        delete_branches=word_in(host, "delete_branches", ("no", "yes")) == "yes", checks=checks,
     )
 
 
@@ -193,3 +211,22 @@ def roles_in(text: str) -> Dict[str, str]:
 
 def read_roles(path: Path, owner: int) -> Dict[str, str]:
     return roles_in(trusted_text(path, owner))
+
+
+def reporters_in(text: str) -> Dict[str, FrozenSet[str]]:
+    """Who reports each status, by the text of a file of reporters."""
+    found: Dict[str, List[str]] = {}
+    for number, line in enumerate(text.splitlines(), 1):
+        name, _, status = line.strip().partition(" ")
+        if not name or name.startswith("#"):
+            continue
+        who = person(name.lstrip("@"))
+        if who is None or not is_name_of_status(status.strip()):
+            raise Trouble(f"reporters: line {number} isn't the name of a person and that of a status")
+        found.setdefault(status.strip(), []).append(who)
+    return {status: frozenset(people) for status, people in found.items()}
+
+
+def read_reporters(path: Path, owner: int) -> Dict[str, FrozenSet[str]]:
+    """Who reports each status. Without the file nobody does."""
+    return reporters_in(trusted_text(path, owner)) if os.path.lexists(path) else {}

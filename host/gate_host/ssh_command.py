@@ -19,15 +19,21 @@ from pathlib import Path
 from typing import Dict, FrozenSet, List, NoReturn, Optional, Sequence, Tuple, Union
 
 from . import places
-from .core.notes import MOST_IN_COMMENT
+from .core.notes import MOST_IN_COMMENT, STATES
 from .faults import Trouble
 from .troubles import complain
 
 MOST_ASKED = 16384
 SERVICES = ("receive-pack", "upload-pack", "upload-archive")
 # How each job of gate-host is asked for, and with which options.
-USES = {"say": "say CHANGE [TEXT] [--head COMMIT]", "queue": "queue", "change": "change NUMBER", "log": "log NUMBER [--all]"}
-OPTIONS = {"say": ("--repository", "--head"), "queue": ("--repository",), "change": ("--repository",), "log": ("--repository", "--all")}
+USES = {
+    "say": "say CHANGE [TEXT] [--head COMMIT]", "queue": "queue", "change": "change NUMBER", "log": "log NUMBER [--all]",
+    "status": "status COMMIT NAME STATE [--description TEXT]",
+}
+OPTIONS = {
+    "say": ("--repository", "--head"), "queue": ("--repository",), "change": ("--repository",), "log": ("--repository", "--all"),
+    "status": ("--repository", "--description"),
+}
 NUMBER = re.compile(r"[1-9][0-9]{0,9}")
 COMMIT = re.compile(r"[0-9a-f]{40}")
 PROTOCOL = re.compile(r"version=[012]")
@@ -73,7 +79,7 @@ def serve(person: str, repositories: List[Path], asked: str) -> int:
 def greet(who: str, repositories: Sequence[Path]) -> int:
     """Answers a client that asks for nothing. It wants a shell and gets none, so it is told by the status that nothing was done: a script
     that writes commands to that shell must not take them for done."""
-    complain(f"you are {who} here. Clone, fetch and push {listed(repositories)}, or ask for gate-host say, queue, change or log.")
+    complain(f"you are {who} here. Clone, fetch and push {listed(repositories)}, or ask for gate-host say, queue, change, log or status.")
     return 1
 
 
@@ -94,7 +100,7 @@ def request_in(asked: str, repositories: Sequence[Path]) -> Union[Service, Job]:
     if words[:1] == ["gate-host"]:
         del words[0]
     if not words or words[0] not in USES:
-        raise Trouble("this account runs git and gate-host say, queue, change and log, and no other command")
+        raise Trouble("this account runs git and gate-host say, queue, change, log and status, and no other command")
     return job_in(words[0], words[1:], repositories)
 
 
@@ -119,6 +125,8 @@ def service_in(service: str, words: Sequence[str], repositories: Sequence[Path])
 def job_in(job: str, words: Sequence[str], repositories: Sequence[Path]) -> Job:
     """A job of gate-host, with the repository that is meant. All words behind the number of `say` are its text."""
     options, others = options_in(job, words)
+    if job == "status":
+        return report_in(options, others, repositories)
     texts = others[1:] if job == "say" else []
     numbers = others[:len(others) - len(texts)]
     if len(numbers) != (0 if job == "queue" else 1) or not all(NUMBER.fullmatch(it) for it in numbers):
@@ -131,6 +139,14 @@ def job_in(job: str, words: Sequence[str], repositories: Sequence[Path]) -> Job:
     more += [*numbers, "-"] if job == "say" else numbers
     text = " ".join(texts) if texts and texts != ["-"] else None
     return Job([job, "--repository", str(repository_in(options, repositories)), *more], text)
+
+
+def report_in(options: Dict[str, str], words: Sequence[str], repositories: Sequence[Path]) -> Job:
+    """A report of a status. None of its words can be taken for an option."""
+    if len(words) != 3 or not COMMIT.fullmatch(words[0]) or words[1].startswith("-") or words[2] not in STATES:
+        raise misuse("status")
+    more = [f"--description={options['--description']}"] if "--description" in options else []
+    return Job(["status", "--repository", str(repository_in(options, repositories)), *more, *words])
 
 
 def misuse(job: str) -> Trouble:
@@ -228,8 +244,9 @@ def run_job(wanted: Job, environment: Dict[str, str]) -> int:
         if isinstance(stream, io.TextIOWrapper):
             # A client may have sent the name of a language in which some text can't be written.
             stream.reconfigure(encoding="utf-8", errors="backslashreplace")
-    if wanted.words[0] == "say":
+    if wanted.words[0] in ("say", "status"):
         places.must_be_safe(places.find_places(wanted.words[2]))
+    if wanted.words[0] == "say":
         sys.stdin = io.StringIO(text_of(wanted))
     return main(wanted.words)
 

@@ -95,4 +95,9 @@ class InHistory(InFolder):
         return Stage(3, "staging", self.base, tuple(numbered))
 
     def made(self, *heads):
-        return self.repository.merge_batch(self.order(*heads), 5).commit
+        return self.repository.merge_batch(self.order(*heads), 5, titled).commit
+
+
+def titled(titles):
+    """The message of a merge, by the titles of its changes."""
+    return "".join(f"{change} {title}\n" for change, title in titles.items())

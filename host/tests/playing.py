@@ -43,6 +43,11 @@ class Play:
             self.told += self.known.hear(answer_in(answer))
 
 
+def said_by(number, person, text, *replies):
+    """A comment on change 7, with the answer of these replies."""
+    return Said(f"n{number}", 7, person, text), f"[{','.join(it[1:-1] for it in replies)}]"
+
+
 # A change that lands: the host has a base, a change, its approval, and an order to stage.
 BEFORE = [
     (RoleGiven("rosa", "reviewer"), DONE), (MainSeen(A, 'status = ["build"]\n'), DONE, DONE), (Opened(7, "ines", B), DONE),

@@ -31,19 +31,29 @@ class OwnerTests(unittest.TestCase):
 
     def test_what_was_good_before_stays(self):
         files = OwnerFiles(self.places, os.geteuid())
-        self.assertEqual(files.read(), [("settings", ""), ("roles", "")])
+        self.assertEqual(files.read(), [("settings", ""), ("roles", ""), ("reporters", "")])
         self.assertEqual((files.settings.main, files.roles), ("main", {"rosa": "reviewer"}))
         text = self.places.settings.read_text(encoding="utf-8")
         self.places.settings.write_text("[host]\n", encoding="utf-8")
         self.places.roles.write_text("rosa queen\n", encoding="utf-8")
         self.assertEqual([(name, fault[:24]) for name, fault in files.read()], [
-            ("settings", "settings: main and progr"), ("roles", "roles: line 1 isn't a na"),
+            ("settings", "settings: main and progr"), ("roles", "roles: line 1 isn't a na"), ("reporters", ""),
         ])
         self.assertEqual((files.settings.main, files.roles), ("main", {"rosa": "reviewer"}))
         self.places.settings.write_text(text.replace("tick_seconds = 10", "tick_seconds = 3"), encoding="utf-8")
         self.places.roles.write_text("otto member\n", encoding="utf-8")
-        self.assertEqual(files.read(), [("settings", ""), ("roles", "")])
+        self.assertEqual(files.read(), [("settings", ""), ("roles", ""), ("reporters", "")])
         self.assertEqual((files.settings.tick_seconds, files.roles), (3, {"otto": "member"}))
+
+    def test_reporters_are_read_again(self):
+        """Those of before stay if the file is refused, and without the file there are none."""
+        files = OwnerFiles(self.places, os.geteuid())
+        for text, due in (("ci tests\n", {"tests": {"ci"}}), ("ci\n", {"tests": {"ci"}}), (None, {})):
+            self.places.reporters.unlink()
+            if text:
+                self.places.reporters.write_text(text, encoding="utf-8")
+            said = dict(files.read())["reporters"]
+            self.assertEqual((files.reporters, bool(said)), (due, text == "ci\n"))
 
     def test_a_folder_that_others_may_exchange_is_no_more_read(self):
         files = OwnerFiles(self.places, os.geteuid())

@@ -58,8 +58,10 @@ class ToldTests(unittest.TestCase):
         play = Play(*LANDED)
         self.assertEqual([it.change for it in play.told], [7] * len(play.told))
         self.assertEqual([it.text for it in play.told], [
-            "rosa wrote:\n> bors r+", "gate: done", "The check build of batch 1 (change 7) succeeded: it ended.\noutput: 1-0-build",
-            f"Landed on main as {C}, with change 7.",
+            "rosa wrote:\n> bors r+", "gate: approved at bbbbbbb",
+            "Batch 1 (change 7) is merged onto aaaaaaa as ccccccc, which is tested now.",
+            "The check build of batch 1 (change 7) succeeded: it ended.\noutput: 1-0-build",
+            f"Landed on main as {C}, with change 7. Approved by rosa.",
         ])
         for steps, due in (
             ([*BEFORE, (Said("n2", 7, "eve", "bors r+"), DENIED)],

@@ -1,6 +1,10 @@
 """Tests of what a push is refused for, and of what git tells of it."""
+import io
+import os
+import subprocess
 import sys
 import unittest
+from contextlib import redirect_stderr
 from pathlib import Path
 from unittest import mock
 
@@ -8,6 +12,8 @@ sys.path.insert(0, str(Path(__file__).resolve().parent.parent))
 
 from folders import InRepository  # noqa: E402
 from gate_host import hook  # noqa: E402
+from gate_host.hook_file import MARK, SCRIPT, python_for_all  # noqa: E402
+from gate_host.setting_up import mend_hook  # noqa: E402
 
 NOTHING, COMMIT = "0" * 40, "a" * 40
 
@@ -49,6 +55,58 @@ class HookTests(InRepository):
         self.assertEqual(self.refused(NOTHING, COMMIT, "refs/heads/main", "otto"), [])
         with mock.patch("gate_host.hook.person_here", lambda owner: None):
             self.assertEqual(len(hook.complaints([], self.places)), 1)
+
+    def test_who_may_put_a_history_in_the_place_of_the_first_commit(self):
+        self.set_up()
+        first = self.git("rev-parse", "main")
+        self.assertEqual(self.places.first_commit(), first)
+        for person, before, due in (("rosa", first, 0), ("otto", first, 1), ("rosa", COMMIT, 1)):
+            self.assertEqual(len(self.refused(before, COMMIT, "refs/heads/main", person)), due, (person, before))
+
+    def test_a_push_never_ends_in_a_traceback(self):
+        """Whatever of the host or its Python has moved."""
+        self.set_up()
+        path = self.path / "hooks/pre-receive"
+        text = path.read_text(encoding="utf-8")
+        update = f"{NOTHING} {COMMIT} refs/heads/staging\n"
+        for before, after, due in (
+            (None, None, "is moved by the host alone"),
+            (f"python={python_for_all()}", "python=/none/python3", "is moved by the host alone"),
+            (f"host={SCRIPT}", "host=/none/gate-host", "The owner runs gate-host init here again"),
+            ("hook --repository", "hook --repository /none --repository", "is moved by the host alone"),
+        ):
+            path.write_text(text.replace(before, after) if before else text, encoding="utf-8")
+            ran = subprocess.run([path], cwd=self.path, input=update, capture_output=True, encoding="utf-8", timeout=60)
+            self.assertEqual((ran.returncode, ran.stderr.count("\n"), due in ran.stderr), (1, 1, True), ran.stderr)
+        given, faulty = io.TextIOWrapper(io.BytesIO(b"")), mock.patch.object(hook, "complaints", side_effect=ValueError("x"))
+        with faulty, mock.patch("sys.stdin", given), redirect_stderr(io.StringIO()) as said:
+            self.assertEqual(hook.before_push(self.places), 1)
+        self.assertIn("by a fault of the host; tell its owner: ValueError: x", said.getvalue())
+
+    def test_a_host_that_has_moved_is_found_by_its_name(self):
+        self.set_up()
+        path = self.path / "hooks/pre-receive"
+        path.write_text(path.read_text(encoding="utf-8").replace(f"host={SCRIPT}", "host=/none/gate-host"), encoding="utf-8")
+        (self.room / "bin").mkdir()
+        (self.room / "bin/gate-host").symlink_to(SCRIPT)
+        environment = {**os.environ, "PATH": f"{self.room}/bin:{os.environ['PATH']}"}
+        update = f"{NOTHING} {COMMIT} refs/heads/staging\n"
+        ran = subprocess.run([path], cwd=self.path, input=update, env=environment, capture_output=True, encoding="utf-8", timeout=60)
+        self.assertIn("is moved by the host alone", ran.stderr)
+
+    def test_a_start_mends_the_hook_that_init_wrote(self):
+        self.set_up()
+        path = self.path / "hooks/pre-receive"
+        due = path.read_text(encoding="utf-8")
+        earlier = f"#!/bin/sh\n{MARK}\nexec {python_for_all()} {SCRIPT} hook --repository .\n"
+        for text, is_mended in (
+            (due.replace(f"host={SCRIPT}", "host=/none/gate-host"), True), (due.replace(python_for_all(), "/none/python3"), True),
+            (earlier, True), (earlier.replace(str(SCRIPT), "/none/gate-host"), True), (due + "echo more\n", False), ("#!/bin/sh\n", False),
+        ):
+            path.write_text(text, encoding="utf-8")
+            with redirect_stderr(io.StringIO()):
+                mend_hook(self.path)
+            self.assertEqual(path.read_text(encoding="utf-8") == due, is_mended, text)
 
 
 class UpdateTests(unittest.TestCase):

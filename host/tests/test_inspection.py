@@ -7,7 +7,7 @@ sys.path.insert(0, str(Path(__file__).resolve().parent.parent))
 
 from folders import InHistory  # noqa: E402
 from gate_host.git import ask_git  # noqa: E402
-from gate_host.hook import hook_command, hook_text  # noqa: E402
+from gate_host.hook_file import hook_command, hook_text  # noqa: E402
 from gate_host.inspection import findings  # noqa: E402
 from gate_host.settings import FIRST_SETTINGS, settings_in  # noqa: E402
 

@@ -57,7 +57,7 @@ class StepTests(InRoom):
         ])
         self.assertEqual(journal.count_answered(), 9)
         self.assertEqual(journal.last_answered(1), {"status-8.0": DONE})
-        self.assertEqual(journal.told(7)[-1], (100, f"Landed on main as {C}, with change 7."))
+        self.assertEqual(journal.told(7)[-1], (100, f"Landed on main as {C}, with change 7. Approved by rosa."))
         self.assertEqual(journal.told_since(journal.count_told() - 1), [7])
 
     def test_a_step_that_fails_leaves_nothing(self):

@@ -1,14 +1,17 @@
 """Tests of what is known and open after some facts and answers, by tables of values."""
 import unittest
 
-from playing import A, B, C, D, E, DONE, DENIED, with_orders, LAND, NOTICE, Play, BEFORE, ORDERED, MADE, STAGED, LANDING, LANDED
+from playing import (
+    A, B, C, D, E, DONE, DENIED, with_orders, said_by, stage, LAND, NOTICE, Play, BEFORE, ORDERED, MADE, STAGED, LANDING, LANDED,
+)
 from gate_host.core import words
+from gate_host.core.commands import Command, Kind
 from gate_host.core.duties import open_duties
 from gate_host.core.facts import (
     KINDS, Closed, Conflicted, Delayed, Ended, Faulted, MainSeen, Merged, Moved, MoverFound, NotMoved, Opened, Pushed, PushesForgotten,
-    PushTold, RoleGiven, Said, Staged, Ticked, kind_of,
+    PushTold, Queued, Reported, RoleGiven, Said, Staged, Ticked, kind_of,
 )
-from gate_host.core.known import MOST_CLAIMS, MOST_TOLD_MOVES, Change, Test
+from gate_host.core.known import MOST_CLAIMS, MOST_TOLD_MOVES, Change, Landing, Member, People, Test
 from gate_host.core.orders import Unread, answer_in
 
 
@@ -38,6 +41,55 @@ class KnownTests(unittest.TestCase):
         ):
             known = Play(*steps).known
             self.assertEqual((known.base, known.settings_of, known.refusal), due)
+
+    def test_which_settings_were_told_and_which_taken(self):
+        text = 'status = ["build"]\n'
+        for steps, due in (
+            ([], (None, "")), (BEFORE, (text, text)), ([*BEFORE, (MainSeen(A, "x"), DENIED)], ("x", text)),
+            ([*BEFORE, (MainSeen(D, None), DONE)], (None, text)), ([*BEFORE, (MainSeen(D, "x"), DONE, DONE)], ("x", "x")),
+        ):
+            known = Play(*steps).known
+            self.assertEqual((known.settings, known.taken), due)
+
+    def test_who_has_approved(self):
+        opened, said = BEFORE[:3], said_by
+        approve, for_two = Command(Kind.APPROVE), Command(Kind.APPROVE_FOR, ("vera", "milo"))
+        approved = [*opened, said(1, "rosa", "bors r+ p=2", DONE, DONE)]
+        for steps, due in (
+            (opened, People("ines")), (approved, People("ines", ("rosa",), approve)),
+            ([*opened, said(1, "rosa", "bors r=vera,@Milo", DONE)], People("ines", ("vera", "milo"), for_two)),
+            ([*approved, said(2, "otto", "bors r-", DONE)], People("ines", (), approve)),
+            ([*approved, said(2, "otto", "bors r-", DENIED)], People("ines", ("rosa",), approve)),
+            ([*opened, said(1, "rosa", "bors r+", DENIED)], People("ines")),
+            ([*approved, (Pushed(7, C), DONE)], People("ines", (), approve)),
+            # Who says retry approves, but for the people who were named then.
+            ([*approved, (Pushed(7, C), DONE), said(2, "otto", "bors retry", DONE)], People("ines", ("otto",), approve)),
+            ([*opened, said(1, "rosa", "bors r=vera,milo", DONE), said(2, "otto", "bors r-\nbors retry", DONE, DONE)],
+             People("ines", ("vera", "milo"), for_two)),
+            ([*opened, said(1, "rosa", "bors ping\nbors r+", DONE, DENIED)], People("ines")),
+            ([*opened, said(1, "milo", "bors try", DONE)], People("ines", (), Command(Kind.TRY))),
+            ([*approved, (Closed(7), DONE), (Opened(7, "vera", C), DONE)], People("vera", (), approve)),
+        ):
+            self.assertEqual(Play(*steps).known.people[7], due)
+
+    def test_what_has_landed(self):
+        known = Play(*LANDED).known
+        landing = Landing(1, A, C, (Member(7, B, "ines", ("rosa",)),))
+        self.assertEqual((known.landings, known.landing_of(7), known.landing_of(8)), ({C: landing}, landing, None))
+        self.assertEqual(Play(*LANDING).known.landings, {})
+
+    def test_the_members_of_a_try_need_no_approval(self):
+        known = Play(*BEFORE, (Ticked(50), with_orders(stage(branch="trying")))).known
+        self.assertEqual(known.batches["trying"].members, (Member(7, B, "ines"),))
+
+    def test_a_report_counts_for_what_is_tested(self):
+        began, failed = (Reported(f"n{it}", "ci", C, "lint", state, "see 7\x1b") for it, state in ((3, "pending"), (4, "error")))
+        play = Play(*STAGED, (began, DONE), (failed, DONE))
+        self.assertEqual(play.known.results, {"staging": {"lint": "error"}})
+        self.assertEqual([it.text for it in play.told][-1], "The check lint of batch 1 (change 7) failed: as ci reports: see 7?.")
+        self.assertEqual(len(play.told), len(Play(*STAGED).told) + 1)
+        play = Play(*BEFORE, (Reported("n3", "ci", B, "format", "success", ""), DONE))
+        self.assertEqual((play.known.results, len(play.told)), ({}, len(Play(*BEFORE).told)))
 
     def test_how_many_batches_have_ended(self):
         for steps, due in (
@@ -103,7 +155,9 @@ class KnownTests(unittest.TestCase):
             (BEFORE, Closed(7), ["closed-5"]), (BEFORE, RoleGiven("otto", "member"), ["role-5"]),
             (STAGED, Faulted(1, "build", "why"), []), (ORDERED, Delayed("tick-5.0", "why"), []),
             (BEFORE, PushTold("n2", "ines", ((7, C),), ((A, B),)), []), (BEFORE, MoverFound(9, "ines"), []),
-            (BEFORE, PushesForgotten(5), []),
+            (BEFORE, PushesForgotten(5), []), (BEFORE, Queued(7, 1), []), (STAGED, Reported("n3", "ci", C, "lint", "success", ""), ["status-8"]),
+            (STAGED, Reported("n3", "ci", D, "lint", "success", ""), []),
+            (BEFORE, Reported("n3", "ci", B, "lint", "pending", ""), ["status-5"]),
         ):
             kinds.add(kind_of(fact))
             play = Play(*steps)

@@ -20,6 +20,7 @@ from gate_host.troubles import Troubles  # noqa: E402
 
 A, C, D = (digit * 40 for digit in "acd")
 DONE = '[{"orders":[],"verdict":"done"}]'
+SETTINGS, REFUSED = 'status = ["build", "lint"]', "max_batch_size = 0"
 
 
 class Died(BaseException):
@@ -44,6 +45,8 @@ class World:
         self.heads = {change: f"{change}" * 40 for change in (1, 2, 3, 4)}
         texts = {1: "bors r+", 2: "bors r+", 3: "bors r+", 4: "bors try"}
         self.notes = {f"n{it}": ("rosa", {"change": it, "text": text, "head": self.heads[it]}) for it, text in texts.items()}
+        # The settings in the merges of a branch, if they are others.
+        self.settings_of_batches = {}
         # To which commit somebody else moves the main branch before the first landing, if anybody does.
         self.moved_to = None
         self.answers, self.said, self.moves, self.time = {}, [], [], 1000
@@ -73,6 +76,11 @@ class Bot:
 
     def hand_in(self, line):
         return self.world.act("hand in", lambda: self.answer(line))
+
+    def read(self, settings):
+        if settings == REFUSED:
+            return ports.Reading((), "max_batch_size = 0 isn't taken")
+        return ports.Reading(tuple(re.findall(r'"([a-z]+)"', settings)), remarks=("team is no key",) if "team" in settings else ())
 
     def answer(self, line):
         delivery = json.loads(line)
@@ -156,7 +164,14 @@ class Repository:
         list(changes)
 
     def settings_at(self, commit, most):
-        return 'status = ["build", "lint"]'
+        return SETTINGS
+
+    def settings_of(self, batch):
+        return SETTINGS, self.world.settings_of_batches.get(batch.stage.branch, SETTINGS)
+
+    def drop(self, change, head):
+        assert self.world.heads[change] == head
+        self.world.act("drop", lambda: self.world.heads.pop(change))
 
     def merge(self, order, batch):
         self.must_be_able("merge")
@@ -217,6 +232,9 @@ class Board:
         self.is_waiting, self.is_behind = True, False
         self.noted = []
 
+    def waiting(self):
+        return {}
+
     def note(self, delivery, changes):
         self.noted.append((delivery.id, list(changes)))
 
@@ -258,18 +276,33 @@ class Owner:
     def __init__(self):
         self.settings = SimpleNamespace(
             look_seconds=0.0, tick_seconds=0.0, may_push=frozenset(), checks={"build": "b", "lint": "l"}, program="gate",
+            delete_branches=False,
         )
-        self.roles, self.main = {"rosa": "reviewer"}, "main"
+        self.roles, self.main, self.first, self.reporters = {"rosa": "reviewer"}, "main", "", {}
 
     def read(self):
-        return [("settings", ""), ("roles", "")]
+        return [("settings", ""), ("roles", ""), ("reporters", "")]
+
+
+class AfterLanding:
+    """Notes for which landings it was to run."""
+
+    def __init__(self):
+        self.commits = []
+
+    def go_on(self, settings, landings):
+        self.commits = list(landings)
+        return ""
+
+    def close(self):
+        pass
 
 
 def host_in(world):
     journal = DyingJournal(world)
     given = ports.Ports(
         source=Source(world), repository=Repository(world), runner=Runner(world), bot=Bot(world), journal=journal, clock=Clock(world),
-        board=Board(world), owner=Owner(),
+        board=Board(world), owner=Owner(), after=AfterLanding(),
     )
     return Host(given, journal.known(), "owner", 3, Troubles())
 
@@ -339,7 +372,7 @@ class DeathTests(InWorld):
         landed = commit_of([1, 2])
         self.assertEqual(due[1:3], (["base", "conflict", "staged", "staged"], landed))
         self.assertEqual(due[3:5], ({"staging": landed, "trying": commit_of([4])}, [(A, landed)]))
-        self.assertEqual(due[5][1][-1], f"Landed on main as {landed}, with changes 1, 2.")
+        self.assertEqual(due[5][1][-1], f"Landed on main as {landed}, with changes 1, 2. Approved by rosa.")
         self.assertEqual(due[5][4][-1], "The try has passed: all required checks succeed (TryPassed).")
         self.assertGreater(places, 80)
 
@@ -431,6 +464,113 @@ class CheckTests(InWorld):
         self.assertEqual((host.troubles.texts(), states), ([], ["error"]))
         host.ports.journal.close()
 
+    def until_tested(self, world, host, branch):
+        for _ in range(60):
+            world.time += 10
+            host.round()
+            if branch in host.known.tests:
+                return host.known.tests[branch]
+        raise AssertionError(f"nothing is tested on {branch}")
+
+    def test_a_batch_with_settings_by_which_nothing_could_land_fails_at_once(self):
+        """It isn't tested, and fails once, also if the host dies after."""
+        for name, settings, why in (
+            ("missing", 'status = ["build", "tests"]', "its bors.toml requires the status tests, for which there is neither a command"),
+            ("refused", REFUSED, "its bors.toml would be refused: max_batch_size = 0 isn't taken"),
+            ("gone", None, "with this there would be no bors.toml"),
+        ):
+            world = self.world(name)
+            world.settings_of_batches = {"trying": settings}
+            host = host_in(world)
+            host.ports.runner.begin = lambda *given: None
+            test = self.until_tested(world, host, "trying")
+            host.round()
+            host.ports.journal.close()
+            host = host_in(world)
+            began = []
+            host.ports.runner.begin = lambda test, settings, done: began.append(test.branch)
+            host.round()
+            states = [(it["name"], it["state"]) for it in world.said if it["event"] == "status" and it["commit"] == test.commit]
+            self.assertEqual((states, "trying" in began), ([("build", "failure")], False), name)
+            told = [text for _, text in host.ports.journal.told(4) if why in text]
+            self.assertEqual((len(told), "output" in told[0]), (1, False), name)
+            host.ports.journal.close()
+
+    def test_a_batch_whose_settings_somebody_reports_is_tested(self):
+        world = self.world("reported")
+        world.settings_of_batches = {"trying": 'status = ["build", "tests"]'}
+        host = host_in(world)
+        host.ports.owner.reporters = {"tests": frozenset({"ci"})}
+        began = []
+        host.ports.runner.begin = lambda test, settings, done: began.append(test.branch)
+        self.until_tested(world, host, "trying")
+        host.round()
+        self.assertIn("trying", began)
+        host.ports.journal.close()
+
+    def test_settings_that_nothing_can_land_by_are_told(self):
+        world = self.world("locked")
+        host = host_in(world)
+        host.ports.owner.settings.checks = {"build": "b"}
+        host.round()
+        said = ("bors.toml requires the status lint, for which there is neither a command in the settings of the host nor a reporter, so "
+                "nothing can land or pass a try")
+        self.assertEqual(host.troubles.texts(), [said])
+        host.ports.owner.reporters = {"lint": frozenset({"ci"})}
+        host.round()
+        self.assertEqual(host.troubles.texts(), [])
+        host.ports.journal.close()
+
+    def test_settings_that_are_refused_are_told_with_what_is_wrong(self):
+        world = self.world("settings")
+        host = host_in(world)
+        for settings, due in ((REFUSED, ["the settings of main aren't taken: max_batch_size = 0 isn't taken"]),
+                              ("team = 1", ["bors.toml: team is no key"]), ("", [])):
+            host.known.settings, host.known.refusal = settings, "why" if settings == REFUSED else ""
+            host.look_at_settings()
+            self.assertEqual(host.said_of_settings, due)
+        host.known.settings, host.known.refusal = None, "why"
+        host.look_at_settings()
+        self.assertEqual(host.remarks()[2:3], ["the settings of main aren't taken: why"])
+        host.ports.journal.close()
+
+    def test_a_reporter_reports_what_no_command_tests(self):
+        world = self.world("reports")
+        host = host_in(world)
+        host.ports.owner.settings.checks = {"build": "b"}
+        host.ports.owner.reporters = {"lint": frozenset({"ci"}), "build": frozenset({"ci"})}
+        host.ports.runner.begin = lambda *given: None
+        test = self.until_tested(world, host, "trying")
+        report = {"kind": "status", "commit": test.commit, "name": "lint", "state": "success", "description": "at 7"}
+        world.notes = {
+            "r1": ("eve", report), "r2": ("ci", {**report, "name": "build"}), "r3": ("ci", {**report, "commit": "9" * 40}),
+            "r4": ("ci", {**report, "state": "fine"}), "r5": ("ci", report),
+        }
+        host.round()
+        self.assertEqual(world.notes, {})
+        # A note that is put back counts once.
+        world.notes["r5"] = ("ci", report)
+        host.round()
+        states = [(it["commit"], it["name"], it["state"]) for it in world.said if it["event"] == "status"]
+        self.assertEqual(states, [(test.commit, "lint", "success")])
+        told = [text for _, text in host.ports.journal.told(4)]
+        self.assertIn("The check lint of batch 2 (change 4) succeeded: as ci reports: at 7.", told)
+        host.ports.journal.close()
+
+
+class LandingTests(InWorld):
+    def test_branches_of_what_has_landed_go_if_the_owner_wants_that(self):
+        world = self.world("branches")
+        host = self.play(world)
+        self.assertEqual(set(world.heads), {1, 2, 3, 4})
+        self.assertEqual(host.ports.after.commits, [world.main])
+        world.heads[2] = "2" * 39 + "f"
+        host.ports.owner.settings.delete_branches = True
+        for _ in range(2):
+            host.round()
+        self.assertEqual(set(world.heads), {2, 3, 4})
+        host.ports.journal.close()
+
 
 class ClockTests(InWorld):
     def ticks(self, world):
@@ -482,10 +622,8 @@ class BoardTests(InWorld):
         world = self.world("board")
         host = self.play(world)
         host.troubles.say("names", "x is in the way\x1b[2J")
-        host.known.refusal = "why"
         self.assertEqual(host.remarks(), [
-            "open: changes 3, 4; the next free number is 5", "checks: build, lint", "the settings of main aren't taken: why",
-            "trouble: x is in the way?[2J",
+            "open: changes 3, 4; the next free number is 5", "checks: build, lint", "trouble: x is in the way?[2J",
         ])
         self.assertIn(("comment-8", [1]), host.ports.board.noted)
         host.ports.journal.close()

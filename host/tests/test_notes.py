@@ -5,7 +5,7 @@ import unittest
 from playing import A, B, Play, BEFORE
 from gate_host.core.facts import PushTold, Said
 from gate_host.core.notes import (
-    Acceptance, AcceptanceLeft, Comment, CommentLeft, PushLeft, Strange, note_in, objection_to, table_of,
+    Acceptance, AcceptanceLeft, Comment, CommentLeft, PushLeft, Report, ReportLeft, Strange, note_in, objection_to, table_of,
 )
 
 
@@ -20,6 +20,16 @@ class NoteTests(unittest.TestCase):
               "moves": [[A, B], [A], [A, 7], "x"]}, PushTold("n", "eve", ((7, A), (4294967295, B)), ((A, B),))),
         ):
             self.assertEqual(note_in("n", "eve", body), due, body)
+
+    def test_reports(self):
+        good = {"kind": "status", "commit": A, "name": "build", "state": "pending", "description": ""}
+        self.assertEqual(note_in("n", "eve", good), Report("n", "eve", A, "build", "pending", ""))
+        for name, value in (
+            ("commit", A[1:]), ("commit", 7), ("name", ""), ("name", "a\nb"), ("name", "x" * 256), ("name", 7), ("name", "\ud800"),
+            ("state", "fine"), ("state", []), ("description", None), ("description", "x" * 301),
+        ):
+            self.assertEqual(note_in("n", "eve", {**good, name: value}), Strange("n", "eve"), (name, value))
+        self.assertEqual(note_in("n", "eve", {**good, "description": "\ud800"}).description, "?")
 
     def test_comments(self):
         for body in ({}, {"change": 7}, {"change": 7, "text": 7}, {"change": True, "text": "x"}, {"change": 7.0, "text": "x"},
@@ -45,6 +55,7 @@ class NoteTests(unittest.TestCase):
             (CommentLeft("rosa", 7, "bors r+", A), Comment("n", "eve", 7, "bors r+", A)),
             (PushLeft(None, ((7, A),), ((A, B),)), PushTold("n", "eve", ((7, A),), ((A, B),))),
             (PushLeft("rosa"), PushTold("n", "eve", (), ())), (AcceptanceLeft("rosa", A), Acceptance("n", "eve", A)),
+            (ReportLeft("ci", A, "on arm", "error", "at 7"), Report("n", "eve", A, "on arm", "error", "at 7")),
         ):
             table = json.loads(json.dumps(table_of(left)))
             self.assertEqual((note_in("n", "eve", table), table["person"]), (due, left.person))

@@ -33,7 +33,7 @@ class PackageTests(unittest.TestCase):
             ran = subprocess.run([sys.executable, *words], cwd=room, capture_output=True, encoding="utf-8", timeout=60)
             self.assertEqual(ran.returncode, 0, ran.stderr)
             hook = repository / "hooks/pre-receive"
-            self.assertIn(f"{room}/gate_host/__main__.py hook", hook.read_text(encoding="utf-8"))
+            self.assertIn(f"host={room}/gate_host/__main__.py\n", hook.read_text(encoding="utf-8"))
             update = f"{'0' * 40} {'a' * 40} refs/heads/staging\n"
             ran = subprocess.run([hook], cwd=repository, input=update, capture_output=True, encoding="utf-8", timeout=60)
             self.assertEqual(ran.returncode, 1)

@@ -10,7 +10,7 @@ from unittest import mock
 
 sys.path.insert(0, str(Path(__file__).resolve().parent.parent))
 
-from folders import InHistory  # noqa: E402
+from folders import InHistory, titled  # noqa: E402
 from gate_host.core.orders import Land  # noqa: E402
 from gate_host.git import GitFailed  # noqa: E402
 from gate_host.places import Places  # noqa: E402
@@ -33,9 +33,9 @@ class MergeTests(InHistory):
         self.assertNotIn(self.made(self.base), (None, self.base))
 
     def test_conflicts(self):
-        found = self.repository.merge_batch(self.order(self.one, self.clash), 5)
+        found = self.repository.merge_batch(self.order(self.one, self.clash), 5, titled)
         self.assertEqual((found.commit, found.conflicting, found.why), (None, 2, "both change b"))
-        found = self.repository.merge_batch(self.order(self.alone), 5)
+        found = self.repository.merge_batch(self.order(self.alone), 5, titled)
         self.assertEqual((found.commit, found.conflicting, found.why), (None, 1, "it has no commit in common with the main branch"))
 
     def test_a_missing_head_is_no_conflict(self):
@@ -53,7 +53,7 @@ class MergeTests(InHistory):
                 self.assertEqual(self.made(self.one), due, name)
         fresh = Places(self.path)
         fresh.mirror.rename(self.room / "mirror")
-        self.assertEqual(Repository(fresh, "main").merge_batch(self.order(self.one), 5).commit, due)
+        self.assertEqual(Repository(fresh, "main").merge_batch(self.order(self.one), 5, titled).commit, due)
 
     def test_a_file_that_was_altered_is_not_fetched(self):
         blob = self.git("rev-parse", f"{self.one}:b")

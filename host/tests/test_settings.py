@@ -7,7 +7,7 @@ from pathlib import Path
 sys.path.insert(0, str(Path(__file__).resolve().parent.parent))
 
 from gate_host.faults import Trouble  # noqa: E402
-from gate_host.settings import FIRST_SETTINGS, roles_in, settings_in  # noqa: E402
+from gate_host.settings import FIRST_REPORTERS, FIRST_SETTINGS, reporters_in, roles_in, settings_in  # noqa: E402
 
 TEXT = FIRST_SETTINGS.format(main="main", staging="staging", trying="trying", program="/gate", may_push="ines", checks="build = true\n")
 
@@ -47,6 +47,18 @@ class SettingsTests(unittest.TestCase):
             with self.assertRaises(Trouble, msg=text):
                 roles_in(text)
 
+    def test_reporters(self):
+        text = FIRST_REPORTERS.format(lines="@Ci tests on arm\n\n  bot  build\nci build\nci #1\n")
+        self.assertEqual(reporters_in(text), {"tests on arm": {"ci"}, "build": {"bot", "ci"}, "#1": {"ci"}})
+        for text in ("ci", "c/i build", "ci a\tb", f"ci {'x' * 256}"):
+            with self.assertRaisesRegex(Trouble, "line 1", msg=text):
+                reporters_in(text)
+
+    def test_after_a_landing(self):
+        self.assertEqual((settings_in(TEXT).after_landing, settings_in(TEXT).delete_branches), ("", False))
+        self.assertEqual(settings_in(TEXT.replace("#after_landing", "after_landing")).after_landing, "hooks/post-receive")
+        self.assertTrue(changed(delete_branches="yes").delete_branches)
+
     def test_what_init_writes_is_what_counts_without_a_line(self):
         written = settings_in(TEXT)
         self.assertEqual(written, settings_in(self.START + "may_push = ines\n[checks]\nbuild = true\n"))
@@ -61,7 +73,7 @@ class SettingsTests(unittest.TestCase):
             {"parallel": "2"}, {"parallel": ""}, {"retry_seconds": "0"}, {"retry_seconds": "soon"}, {"retry_seconds": ""},
             {"sandbox": "maybe"}, {"sandbox_network": "1"}, {"sandbox_reads": "x"}, {"staging": "main"}, {"staging": "trying"},
             {"staging": "main/x"}, {"main": "staging/x"}, {"trying": "change"}, {"trying": "change/1"}, {"staging": "a..b"},
-            {"trying": "-x"},
+            {"trying": "-x"}, {"delete_branches": "1"},
         ):
             with self.assertRaises(Trouble, msg=values):
                 changed(**values)

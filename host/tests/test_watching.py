@@ -1,10 +1,12 @@
 """Tests of what is made of a look at the branches, by tables of values."""
 import unittest
+from dataclasses import astuple, replace
 
-from playing import A, B, C, D, DONE, Play, BEFORE, LANDED
+from playing import A, B, C, D, E, DONE, Play, BEFORE, STAGED, LANDED
 from gate_host.core import watching
-from gate_host.core.facts import Closed, MainSeen, MoverFound, Pushed, PushesForgotten, PushTold, RoleGiven
+from gate_host.core.facts import Closed, MainSeen, MoverFound, Pushed, PushesForgotten, PushTold, Queued, Reported, RoleGiven
 from gate_host.core.known import Change
+from gate_host.core.notes import Report
 from gate_host.core.watching import Watch
 
 
@@ -91,6 +93,44 @@ class WatchTests(unittest.TestCase):
             found.append(watch.next_mover(play.known, {"ines"}, False))
             play.add(found[-1])
         self.assertEqual([it.person for it in found], ["ines", "", ""])
+
+    def test_a_reviewer_may_put_a_history_in_the_place_of_the_first_commit(self):
+        told = PushTold("n", "rosa", (), ((A, B),)), PushTold("m", "eve", (), ((A, C),))
+        for first, role, target, due in ((A, "reviewer", B, "rosa"), ("", "reviewer", B, ""), (D, "reviewer", B, ""), (A, "member", B, ""),
+                                         (A, "reviewer", C, "")):
+            play = Play((RoleGiven("rosa", role), DONE), *((MainSeen(it, "x"), DONE, DONE) for it in (A, target)), *((it,) for it in told))
+            move, = play.known.unknown_moves()
+            self.assertEqual(watching.mover_of(play.known, move, {"ines"}, first).person, due)
+
+    def test_which_reports_count(self):
+        known = Play(*STAGED).known
+        report = Report("n", "ci", C, "tests", "success", "")
+        reporters = {"tests": {"ci"}, "build": {"ci"}}
+        for given, due in (
+            (report, ""), (replace(report, person="eve"), "isn't named as a reporter"), (replace(report, name="lint"), "isn't named"),
+            (replace(report, name="build"), "has a command of its own"), (replace(report, commit=E), "neither tested now nor the head"),
+            # Of the head of a change the host tests nothing.
+            (replace(report, name="build", commit=B), ""),
+        ):
+            found = watching.report_of(known, given, {"build"}, reporters)
+            self.assertEqual(found if not due else due in found, Reported(*astuple(given)) if not due else True, given)
+
+    def test_in_which_batch_a_change_waits_is_told_once(self):
+        play = Play(*BEFORE)
+        for waiting, due in (({7: 3}, [Queued(7, 3)]), ({7: 3}, []), ({}, []), ({7: 4, 8: 4}, [Queued(7, 4), Queued(8, 4)])):
+            found = watching.news_of_queue(play.known, waiting)
+            self.assertEqual(found, due)
+            for it in found:
+                play.add(it)
+        self.assertEqual([it for it in play.told if it.change == 7][-2:], [(7, "It waits in batch 3."), (7, "It waits in batch 4.")])
+
+    def test_what_is_never_reported(self):
+        self.assertEqual(watching.never_reported(["a", "b", "c"], {"a": "make"}, {"c": {"ci"}}), ["b"])
+
+    def test_branches_that_landings_have_left(self):
+        known = Play(*LANDED).known
+        for heads, due in (({7: B, 8: B}, {7: B}), ({7: C}, {}), ({}, {}), ({8: B}, {})):
+            self.assertEqual(watching.left_by_landings(known, heads), due)
 
     def test_only_the_owner_accepts_a_move(self):
         play = Play((MainSeen(A, "x"), DONE, DONE), (MainSeen(B, "x"), DONE, DONE), (MoverFound(2, ""),))

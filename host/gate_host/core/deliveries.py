@@ -1,12 +1,13 @@
 """What a fact tells the bot: no delivery, one, or several. Their identifiers have the number of the fact, which never comes again."""
 import json
-from dataclasses import dataclass
-from typing import TYPE_CHECKING, Dict, List, Optional, Sequence, Tuple, Union
+from dataclasses import dataclass, replace
+from typing import TYPE_CHECKING, Dict, List, Mapping, Optional, Sequence, Tuple, Union
 
+from .commands import command_lines
 from .facts import (
-    Closed, Conflicted, Ended, Fact, MainSeen, Moved, NotMoved, Opened, Pushed, RoleGiven, Said, Staged, Ticked,
+    Closed, Conflicted, Ended, Fact, MainSeen, Moved, NotMoved, Opened, Pushed, Reported, RoleGiven, Said, Staged, Ticked,
 )
-from .notes import command_lines, objection_to
+from .notes import objection_to
 from .orders import Json, Land, Order, Stage
 
 if TYPE_CHECKING:
@@ -19,7 +20,7 @@ MOST_IN_LINE = 65536
 @dataclass(frozen=True)
 class Delivery:
     """A delivery to the bot: its identifier, its event and its line; of which changes it speaks, and which order it reports, if it does.
-    A reading of the clock says when it is, and a status its state."""
+    A reading of the clock says when it is, and a status its state. A comment has its writer, and it and settings have a text."""
 
     id: str
     event: str
@@ -28,6 +29,8 @@ class Delivery:
     order: Optional[Order] = None
     now: int = 0
     state: str = ""
+    person: str = ""
+    text: str = ""
 
 
 def delivered(number: int, fact: Fact, known: "Known") -> List[Delivery]:
@@ -40,6 +43,8 @@ def delivered(number: int, fact: Fact, known: "Known") -> List[Delivery]:
         return delivered_of_outcome(fact, known)
     if isinstance(fact, Ended):
         return delivered_of_check(number, fact, known)
+    if isinstance(fact, Reported):
+        return delivered_of_report(number, fact, known)
     if isinstance(fact, RoleGiven):
         return [made("role", number, person=fact.person, role=fact.role)]
     if isinstance(fact, Ticked):
@@ -87,8 +92,18 @@ def delivered_of_check(number: int, fact: Ended, known: "Known") -> List[Deliver
     test = known.tests.get(batch.stage.branch) if batch else None
     if batch is None or test is None or test.batch != fact.batch:
         return []
-    status = made("status", number, commit=test.commit, name=fact.name, state=fact.state)
-    return [Delivery(status.id, status.event, status.line, tuple(batch.stage.changes), state=fact.state)]
+    return [status_of(number, test.commit, fact.name, fact.state, batch.stage.changes)]
+
+
+def delivered_of_report(number: int, fact: Reported, known: "Known") -> List[Delivery]:
+    """A report counts for the batches that are tested by this commit, and for the open changes of which it is the head. There may be none
+    any more."""
+    changes = known.changes_at(fact.commit)
+    return [status_of(number, fact.commit, fact.name, fact.state, changes)] if changes else []
+
+
+def status_of(number: int, commit: str, name: str, state: str, changes: Sequence[int]) -> Delivery:
+    return replace(made("status", number, commit=commit, name=name, state=state), changes=tuple(changes))
 
 
 def made(event: str, number: int, **fields: Json) -> Delivery:
@@ -112,11 +127,16 @@ def delivery_of(
     id: str, event: str, line: str, fields: Dict[str, Json], order: Optional[Order] = None, changes: Sequence[int] = (),
 ) -> Delivery:
     """A delivery by its line and the fields in it, and by the changes of the batch that it reports."""
-    change, now, state = fields.get("change"), fields.get("now"), fields.get("state")
+    change, now = fields.get("change"), fields.get("now")
     return Delivery(
         id, event, line, (change,) if isinstance(change, int) else tuple(changes), order, now if isinstance(now, int) else 0,
-        state if isinstance(state, str) else "",
+        text_of(fields, "state"), text_of(fields, "person"), text_of(fields, "text"),
     )
+
+
+def text_of(fields: Mapping[str, Json], name: str) -> str:
+    found = fields.get(name)
+    return found if isinstance(found, str) else ""
 
 
 def touched(delivery: Delivery, orders: Sequence[Order], known: "Known") -> List[int]:

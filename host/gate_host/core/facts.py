@@ -107,6 +107,14 @@ class Conflicted:
 
 
 @dataclass(frozen=True)
+class Queued:
+    """An approved change waits in this batch, as the bot's report of its queue has it."""
+
+    change: int
+    batch: int
+
+
+@dataclass(frozen=True)
 class Delayed:
     """An order to stage can't be done yet, for a reason of the host, which is no fault of the changes."""
 
@@ -142,6 +150,18 @@ class Faulted:
 
 
 @dataclass(frozen=True)
+class Reported:
+    """A person who may report it said in a note how a status of a commit stands, with a description, which may be empty."""
+
+    note: str
+    person: str
+    commit: str
+    name: str
+    state: str
+    description: str
+
+
+@dataclass(frozen=True)
 class Moved:
     """An order to land is done: its commit is on the main branch, which has this name."""
 
@@ -172,7 +192,7 @@ class Upgraded:
 
 Fact = Union[
     RoleGiven, MainSeen, Opened, Pushed, Closed, Said, PushTold, MoverFound, PushesForgotten, Merged, Conflicted, Delayed, Staged, Ended,
-    Faulted, Moved, NotMoved, Ticked, Upgraded,
+    Faulted, Reported, Queued, Moved, NotMoved, Ticked, Upgraded,
 ]
 KINDS: Dict[str, Type[Fact]] = {kind.__name__: kind for kind in get_args(Fact)}
 

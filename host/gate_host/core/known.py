@@ -7,14 +7,15 @@ from dataclasses import dataclass, field, replace
 from typing import Dict, List, NamedTuple, Optional, Set, Tuple, Union
 
 from . import words
+from .commands import REPEATED, Command, Kind, commands_in
 from .deliveries import Delivery, delivered
 from .earlier import restore
 from .facts import (
     Closed, Conflicted, Delayed, Ended, Fact, Faulted, MainSeen, Merged, Moved, MoverFound, NotMoved, Opened, Pushed, PushesForgotten,
-    PushTold, RoleGiven, Said, Staged, Ticked,
+    PushTold, Queued, Reported, RoleGiven, Said, Staged, Ticked,
 )
 from .notes import objection_to
-from .orders import Answer, Land, Notice, Order, Stage, Unread, is_done, orders_of
+from .orders import Answer, Denied, Land, Notice, Order, Stage, Unread, is_done, orders_of
 
 
 # So much of what one person tells of pushes is kept.
@@ -40,13 +41,45 @@ class Change:
 
 
 @dataclass(frozen=True)
+class People:
+    """The people of a change: its author, and who has approved it last, if anybody has since its head came. And which command `retry`
+    repeats: the last approval or try that has acted."""
+
+    author: str = ""
+    approvers: Tuple[str, ...] = ()
+    last: Optional[Command] = None
+
+
+@dataclass(frozen=True)
+class Member:
+    """A change of a batch as it was ordered to be staged: its head, its author, and who approved it. A try needs no approval."""
+
+    change: int
+    head: str
+    author: str
+    approvers: Tuple[str, ...] = ()
+
+
+@dataclass(frozen=True)
 class Batch:
-    """A batch that was ordered to be staged: by which order, at which reading of the clock, and its merge, if that is made."""
+    """A batch that was ordered to be staged: by which order, at which reading of the clock, and its merge, if that is made. And its changes
+    with their people, unless it is of a journal of an earlier version."""
 
     order: str
     stage: Stage
     now: int
     commit: str = ""
+    members: Tuple[Member, ...] = ()
+
+
+@dataclass(frozen=True)
+class Landing:
+    """A batch that has landed: from which commit the main branch moved to which, and the changes."""
+
+    batch: int
+    base: str
+    commit: str
+    members: Tuple[Member, ...]
 
 
 @dataclass(frozen=True)
@@ -80,12 +113,21 @@ class Known:
     base: str = ""
     settings_of: str = ""
     refusal: str = ""
+    # The text of the settings that were told last, or none if there were none; and of those that were taken last.
+    settings: Optional[str] = None
+    taken: str = ""
     clock: int = 0
     # The branch on which something landed last, by its name.
     landed_on: str = ""
     # How many batches have ended, each of which may let another one be staged.
     ended: int = 0
     changes: Dict[int, Change] = field(default_factory=dict)
+    people: Dict[int, People] = field(default_factory=dict)
+    # In which batch each change was seen to wait last.
+    queued: Dict[int, int] = field(default_factory=dict)
+    # What has landed, by its commits, in their order; and by which commit each change has.
+    landings: Dict[str, Landing] = field(default_factory=dict)
+    landed_by: Dict[int, str] = field(default_factory=dict)
     # Who told first of a push of a head, of each change in the order in which that was told; and what each person has told so.
     pushers: Dict[int, Dict[str, str]] = field(default_factory=dict)
     claims: Dict[str, Dict[Tuple[int, str], None]] = field(default_factory=dict)
@@ -112,6 +154,10 @@ class Known:
         found = self.changes.get(change)
         return found.phase if found else "closed"
 
+    def head_of(self, change: int) -> str:
+        found = self.changes.get(change)
+        return found.head if found else ""
+
     def open_changes(self) -> List[int]:
         return sorted(change for change, it in self.changes.items() if it.phase == "open")
 
@@ -130,6 +176,23 @@ class Known:
     def batch_of(self, number: int) -> Optional[Batch]:
         """A batch, if it is the last one of its branch."""
         return next((batch for batch in self.batches.values() if batch.stage.batch == number), None)
+
+    def people_of(self, change: int) -> People:
+        return self.people.get(change, People())
+
+    def landing_of(self, change: int) -> Optional[Landing]:
+        """By which landing a change has landed."""
+        return self.landings.get(self.landed_by.get(change, ""))
+
+    def tests_of(self, commit: str) -> List[Test]:
+        """What is tested by a commit."""
+        return [test for test in self.tests.values() if test.commit == commit]
+
+    def changes_at(self, commit: str) -> List[int]:
+        """The changes of the batches that are tested by a commit, and the open changes of which it is the head."""
+        batches = [batch for test in self.tests_of(commit) for batch in [self.batch_of(test.batch)] if batch]
+        heads = [change for change, it in self.changes.items() if it.phase == "open" and it.head == commit]
+        return sorted({*heads, *(change for batch in batches for change in batch.stage.changes)})
 
     # What changes it
 
@@ -154,6 +217,11 @@ class Known:
             return [Told(fact.change, words.quoted(fact.person, fact.text)), *objection]
         elif isinstance(fact, (Ended, Faulted)):
             return self.take_check(fact)
+        elif isinstance(fact, Reported):
+            return self.take_report(fact)
+        elif isinstance(fact, Queued):
+            self.queued[fact.change] = fact.batch
+            return [Told(fact.change, words.queued(fact.batch))]
         else:
             restore(self, fact)
         return []
@@ -162,11 +230,14 @@ class Known:
         if self.base and fact.commit != self.base:
             self.moves[number] = Move(number, at, self.base, fact.commit)
         self.base = self.settings_of = fact.commit
+        self.settings = fact.settings
         if fact.settings is None:
             self.refusal = words.NO_SETTINGS
 
     def take_change(self, fact: Union[Opened, Pushed, Closed]) -> List[Told]:
         before = self.changes.get(fact.change)
+        people = self.people_of(fact.change)
+        self.people[fact.change] = replace(people, approvers=(), author=fact.author if isinstance(fact, Opened) else people.author)
         if isinstance(fact, Closed):
             self.changes[fact.change] = Change("closed", before.head if before else "")
             return []
@@ -251,23 +322,37 @@ class Known:
         stage = batch.stage
         if isinstance(fact, Ended):
             self.results.setdefault(stage.branch, {})[fact.name] = fact.state
-            text = f"{words.result(stage, fact.name, fact.state, fact.said)}\noutput: {fact.output}"
+            output = f"\noutput: {fact.output}" if fact.output else ""
+            text = f"{words.result(stage, fact.name, fact.state, fact.said)}{output}"
             return [Told(change, text) for change in stage.changes]
         if (fact.batch, fact.name) in self.faulted:
             return []
         self.faulted.add((fact.batch, fact.name))
         return [Told(change, words.faulted(stage, fact.name, fact.said)) for change in stage.changes]
 
+    def take_report(self, fact: Reported) -> List[Told]:
+        """Takes in what somebody reports of a commit. That a check has begun isn't told."""
+        told: List[Told] = []
+        for test in self.tests_of(fact.commit):
+            self.results.setdefault(test.branch, {})[fact.name] = fact.state
+            batch = self.batch_of(test.batch)
+            said = words.reported(fact.person, fact.description)
+            if batch and fact.state != "pending":
+                text = words.result(batch.stage, fact.name, fact.state, said)
+                told += [Told(change, text) for change in batch.stage.changes]
+        return told
+
     def hear(self, answer: Answer) -> List[Told]:
         """Takes in the answer to the first delivery that has none."""
         delivery = self.waiting.pop(0)
         told: List[Told] = []
         if delivery.event == "comment":
-            told += [Told(change, words.replies(answer)) for change in delivery.changes]
+            told += self.take_replies(delivery, answer)
         elif delivery.event == "settings":
             self.refusal = "" if is_done(answer) else words.first_denial(answer)
+            self.taken = self.taken if self.refusal else delivery.text
         elif delivery.event == "staged" and is_done(answer) and isinstance(delivery.order, Stage):
-            self.begin_test(delivery.order)
+            told += self.begin_test(delivery.order)
         elif delivery.event == "base" and is_done(answer) and isinstance(delivery.order, Land):
             told += self.note_landing(delivery.order)
         for place, order in enumerate(orders_of(answer)):
@@ -275,11 +360,27 @@ class Known:
         self.note_end(delivery, answer)
         return told
 
-    def begin_test(self, stage: Stage) -> None:
+    def take_replies(self, delivery: Delivery, answer: Answer) -> List[Told]:
+        """Tells what became of each command of a comment. If there aren't as many as there are replies, it tells the replies alone."""
+        change, text = delivery.changes[0], []
+        commands: List[Optional[Command]] = [*commands_in(delivery.text)]
+        for command, reply in zip(commands if len(commands) == len(answer) else [None] * len(answer), answer):
+            people = self.people_of(change)
+            if isinstance(reply, Denied) or command is None:
+                text.append(words.reply_in_words(reply))
+            else:
+                again = people.last if command.kind is Kind.RETRY else None
+                text.append(words.acted(again or command, again is not None, self.head_of(change), people.author))
+                self.people[change] = after_command(people, command, delivery.person)
+        return [Told(change, "\n".join(text))]
+
+    def begin_test(self, stage: Stage) -> List[Told]:
         batch = self.batch_of(stage.batch)
-        if batch and batch.commit:
-            self.tests[stage.branch] = Test(stage.branch, stage.batch, batch.commit)
-            self.results[stage.branch] = {}
+        if batch is None or not batch.commit:
+            return []
+        self.tests[stage.branch] = Test(stage.branch, stage.batch, batch.commit)
+        self.results[stage.branch] = {}
+        return [Told(change, words.staged(stage, batch.commit)) for change in stage.changes]
 
     def note_landing(self, land: Land) -> List[Told]:
         """Notes which changes have landed."""
@@ -288,7 +389,11 @@ class Known:
             return []
         for change, head in batch.stage.heads:
             self.changes[change] = Change("landed", head)
-        return [Told(change, words.landed(batch.stage, self.landed_on, land.commit)) for change in batch.stage.changes]
+            self.landed_by[change] = land.commit
+        self.landings[land.commit] = Landing(land.batch, land.base, land.commit, batch.members)
+        approvers = {member.change: member.approvers for member in batch.members}
+        text = words.landed(batch.stage, self.landed_on, land.commit)
+        return [Told(change, f"{text}{words.approved_by(approvers.get(change, ()))}") for change in batch.stage.changes]
 
     def take_order(self, name: str, delivery: Delivery, order: Order) -> List[Told]:
         """Takes in an order. A batch on a branch replaces the one before it there, with its order and its test."""
@@ -301,11 +406,17 @@ class Known:
             return []
         self.orders = {it: other for it, other in self.orders.items() if isinstance(other, Land) or other.branch != order.branch}
         self.orders[name] = order
-        self.batches[order.branch] = Batch(name, order, delivery.now)
+        self.batches[order.branch] = Batch(name, order, delivery.now, members=self.members_of(order))
         self.tests.pop(order.branch, None)
         self.results.pop(order.branch, None)
         self.faulted = {(batch, it) for batch, it in self.faulted if self.batch_of(batch)}
         return []
+
+    def members_of(self, stage: Stage) -> Tuple[Member, ...]:
+        """The changes of a batch with their people, as they are now."""
+        people = {change: self.people_of(change) for change in stage.changes}
+        is_try = stage.branch == "trying"
+        return tuple(Member(it, head, people[it].author, () if is_try else people[it].approvers) for it, head in stage.heads)
 
     def note_end(self, delivery: Delivery, answer: Answer) -> None:
         """Notes whether a batch has ended by this, so that the next one needn't wait for its reading of the clock: it has landed, was
@@ -314,3 +425,14 @@ class Known:
         has_failed = delivery.event == "status" and delivery.state in ("failure", "error")
         is_told = any(isinstance(order, Notice) and order.why in ENDS for order in orders_of(answer))
         self.ended += is_end or has_failed or is_told
+
+
+def after_command(people: People, command: Command, person: str) -> People:
+    """The people of a change after a command of somebody that has acted."""
+    meant = people.last if command.kind is Kind.RETRY and people.last else command
+    last = meant if meant.kind in REPEATED else people.last
+    if meant.kind is Kind.APPROVE:
+        return replace(people, approvers=(person,), last=last)
+    if meant.kind is Kind.APPROVE_FOR:
+        return replace(people, approvers=meant.people, last=last)
+    return replace(people, approvers=() if meant.kind is Kind.WITHDRAW else people.approvers, last=last)

@@ -1,8 +1,9 @@
 """What notes say, and what is taken of them."""
 import re
 from dataclasses import asdict, dataclass
-from typing import TYPE_CHECKING, Dict, List, Mapping, Optional, Tuple, Union
+from typing import TYPE_CHECKING, Dict, Mapping, Optional, Tuple, Union
 
+from .commands import command_lines
 from .facts import PushTold, Said
 from .orders import Json
 
@@ -13,7 +14,11 @@ LAST_CHANGE = 4294967295
 # A character takes up to six bytes in a line that is handed in, and a line has at most 65,536.
 MOST_IN_COMMENT = 8000
 COMMIT = re.compile(r"[0-9a-f]{40}")
-COMMAND_LINE = re.compile(r"bors[ :]", re.IGNORECASE)
+# A name of a status has at most so many bytes, and the bot takes no control characters in it.
+MOST_IN_NAME = 255
+CONTROL = re.compile(r"[\x00-\x1f\x7f]")
+MOST_IN_DESCRIPTION = 300
+STATES = ("success", "failure", "error", "pending")
 
 
 @dataclass(frozen=True)
@@ -38,6 +43,18 @@ class Acceptance:
 
 
 @dataclass(frozen=True)
+class Report:
+    """A person reports the status of a commit under a name, with a description of it, which may be empty."""
+
+    note: str
+    person: str
+    commit: str
+    name: str
+    state: str
+    description: str
+
+
+@dataclass(frozen=True)
 class Strange:
     """A note that is none of these."""
 
@@ -45,7 +62,7 @@ class Strange:
     person: str
 
 
-Note = Union[Comment, PushTold, Acceptance, Strange]
+Note = Union[Comment, PushTold, Acceptance, Report, Strange]
 
 
 @dataclass(frozen=True)
@@ -75,8 +92,19 @@ class AcceptanceLeft:
     commit: str
 
 
-Left = Union[CommentLeft, PushLeft, AcceptanceLeft]
-KINDS = {CommentLeft: "comment", PushLeft: "push", AcceptanceLeft: "accept"}
+@dataclass(frozen=True)
+class ReportLeft:
+    """The status of a commit under a name, with a description of it, which may be empty."""
+
+    person: Optional[str]
+    commit: str
+    name: str
+    state: str
+    description: str
+
+
+Left = Union[CommentLeft, PushLeft, AcceptanceLeft, ReportLeft]
+KINDS = {CommentLeft: "comment", PushLeft: "push", AcceptanceLeft: "accept", ReportLeft: "status"}
 
 
 def table_of(left: Left) -> Dict[str, Json]:
@@ -88,15 +116,12 @@ def note_in(name: str, person: str, body: Mapping[str, Json]) -> Note:
     """What a note says, by its name, who left it, and the table that it has."""
     if body.get("kind") == "push":
         return push_in(name, person, body)
+    if body.get("kind") == "status":
+        return report_in(name, person, body)
     if body.get("kind") != "accept":
         return comment_in(name, person, body)
     commit = body.get("commit")
     return Acceptance(name, person, commit) if isinstance(commit, str) and is_commit(commit) else Strange(name, person)
-
-
-def command_lines(text: str) -> List[str]:
-    """The lines of a comment that are commands. The bot needs no others."""
-    return [line for line in text.split("\n") if COMMAND_LINE.match(line)]
 
 
 def push_in(name: str, person: str, body: Mapping[str, Json]) -> Union[PushTold, Strange]:
@@ -114,6 +139,25 @@ def comment_in(name: str, person: str, body: Mapping[str, Json]) -> Union[Commen
     seen = None if head is None else head if isinstance(head, str) and is_commit(head) else ""
     # Half of a surrogate pair is no character, and the bot takes none.
     return Comment(name, person, change, text.encode("utf-8", "replace").decode("utf-8"), seen)
+
+
+def report_in(note: str, person: str, body: Mapping[str, Json]) -> Union[Report, Strange]:
+    commit, name, state = body.get("commit"), body.get("name"), body.get("state")
+    more = body.get("description")
+    if not (isinstance(commit, str) and is_commit(commit) and isinstance(name, str) and is_name_of_status(name)):
+        return Strange(note, person)
+    if not isinstance(state, str) or state not in STATES or not isinstance(more, str) or len(more) > MOST_IN_DESCRIPTION:
+        return Strange(note, person)
+    return Report(note, person, commit, name, state, more.encode("utf-8", "replace").decode("utf-8"))
+
+
+def is_name_of_status(name: str) -> bool:
+    """Whether the bot takes this for the name of a status."""
+    try:
+        return 0 < len(name.encode()) <= MOST_IN_NAME and not CONTROL.search(name)
+    except UnicodeEncodeError:
+        # Half of a surrogate pair is no character.
+        return False
 
 
 def objection_to(known: "Known", said: Said) -> str:

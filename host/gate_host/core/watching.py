@@ -2,10 +2,11 @@
 and is seen again by the next one."""
 from dataclasses import dataclass, field
 from itertools import count
-from typing import Collection, Container, Dict, List, Mapping, Optional, Set, Tuple
+from typing import Collection, Container, Dict, Iterable, List, Mapping, Optional, Set, Tuple, Union
 
-from .facts import Closed, Fact, MoverFound, Pushed, PushesForgotten, RoleGiven
+from .facts import Closed, Fact, MoverFound, Pushed, PushesForgotten, Queued, Reported, RoleGiven
 from .known import Known, Move
+from .notes import Report
 
 # So many changes are opened before there is other news, so that a push of many holds nobody up.
 MOST_CHANGES_AT_ONCE = 50
@@ -56,13 +57,13 @@ class Watch:
         """Notes in which round a move of the main branch was seen first."""
         self.moves = {move.number: self.moves.get(move.number, self.rounds) for move in known.unknown_moves()}
 
-    def next_mover(self, known: Known, may_push: Collection[str], has_more: bool) -> Optional[MoverFound]:
+    def next_mover(self, known: Known, may_push: Collection[str], has_more: bool, first: str = "") -> Optional[MoverFound]:
         """Who made the first move of the main branch that nobody has looked into, unless a note may still tell it. What tells of one is
-        used up when that is written down, so they are looked into one by one."""
+        used up when that is written down, so they are looked into one by one. From the commit `first` a reviewer may move it as well."""
         self.note_moves(known)
         for move in known.unknown_moves():
             if not self.may_be_told_yet(self.moves[move.number], has_more):
-                return mover_of(known, move, may_push)
+                return mover_of(known, move, may_push, first)
         return None
 
 
@@ -93,11 +94,11 @@ def gone(known: Known, heads: Container[int]) -> List[Closed]:
     return [Closed(change) for change, it in known.changes.items() if it.phase == "open" and change not in heads]
 
 
-def mover_of(known: Known, move: Move, may_push: Collection[str]) -> MoverFound:
+def mover_of(known: Known, move: Move, may_push: Collection[str], first: str = "") -> MoverFound:
     """Who may push there and told of having moved the branch, by one step or several; or nobody."""
     told: Dict[str, List[Tuple[str, str]]] = {}
     for before, target, person in sorted(known.told_moves):
-        if person in may_push:
+        if person in may_push or (first and before == first and known.roles.get(person) == "reviewer"):
             told.setdefault(target, []).append((before, person))
     seen: Set[str] = {move.target}
     steps = [(move.target, "")]
@@ -121,6 +122,34 @@ def old_pushes(known: Known, up_to: int) -> Optional[PushesForgotten]:
     """What is forgotten of who told of pushes, unless somebody has still to look into a move."""
     is_old = any(at <= up_to for at in known.told_moves.values())
     return PushesForgotten(up_to) if is_old and not known.unknown_moves() else None
+
+
+def report_of(known: Known, report: Report, commands: Container[str], reporters: Mapping[str, Container[str]]) -> Union[Reported, str]:
+    """The fact as which a report is written down, or why it doesn't count. What a command of the host tests the host alone reports."""
+    said = f"{report.person} reports {report.name} of {report.commit}"
+    if report.person not in reporters.get(report.name, ()):
+        return f"{said}, and isn't named as a reporter of that"
+    if report.name in commands and known.tests_of(report.commit):
+        return f"{said}, for which the host has a command of its own"
+    if not known.changes_at(report.commit):
+        return f"{said}, which is neither tested now nor the head of an open change"
+    return Reported(report.note, report.person, report.commit, report.name, report.state, report.description)
+
+
+def news_of_queue(known: Known, waiting: Mapping[int, int]) -> List[Queued]:
+    """In which batches changes wait that people weren't told of yet, by the number of the batch of each."""
+    return [Queued(change, batch) for change, batch in sorted(waiting.items()) if known.queued.get(change) != batch]
+
+
+def never_reported(required: Iterable[str], commands: Container[str], reporters: Container[str]) -> List[str]:
+    """The required statuses that nobody ever reports."""
+    return [name for name in required if name not in commands and name not in reporters]
+
+
+def left_by_landings(known: Known, heads: Mapping[int, str]) -> Dict[int, str]:
+    """The branches of changes that have landed and are still at the heads that have."""
+    landings = filter(None, map(known.landing_of, heads))
+    return {it.change: it.head for landing in landings for it in landing.members if heads.get(it.change) == it.head}
 
 
 def free_number(taken: Container[int]) -> int:

@@ -1,11 +1,19 @@
 """What people are told: the words for the bot's answers, its notices and batches."""
-from typing import Sequence
+from typing import TYPE_CHECKING, Mapping, Optional, Sequence
 
+from .commands import Command, Kind
 from .orders import Answer, Denied, Notice, Reply, Stage
 
+if TYPE_CHECKING:
+    from .known import Batch, Landing
+
+# The first digits of a commit, by which people know it, and how much of a title they are shown.
+DIGITS = 7
+MOST_IN_TITLE = 200
 # The text of bors.toml is read up to so many bytes.
 MOST_IN_SETTINGS = 10000
 NO_SETTINGS = f"there is no bors.toml of at most {MOST_IN_SETTINGS} bytes"
+NO_SETTINGS_LEFT = f"with this there would be no bors.toml of at most {MOST_IN_SETTINGS} bytes any more"
 DENIALS = {
     "UnknownChange": "this change was never opened",
     "NotACommand": "this is no command",
@@ -44,9 +52,17 @@ def notice(order: Notice) -> str:
     return f"The approval or the try has ended ({order.why}): {NOTICES.get(order.why, 'it says no more').format(name=order.name)}."
 
 
-def replies(answer: Answer) -> str:
-    """What the bot said to the commands of a comment, one after the other."""
-    return "\n".join(map(reply_in_words, answer))
+def acted(command: Command, is_again: bool, head: str, author: str) -> str:
+    """What became of a command that has acted, on a change with this head and author. `retry` has done one again."""
+    again, at, people = (" again" if is_again else ""), head[:DIGITS], ", ".join(command.people)
+    said = {
+        Kind.PING: "pong", Kind.APPROVE: f"approved{again} at {at}", Kind.APPROVE_FOR: f"approved{again} at {at} for {people}",
+        Kind.WITHDRAW: "the approval is taken back", Kind.PRIORITY: f"priority {command.number}",
+        Kind.TRY: f"to be tried{again} at {at}", Kind.TRY_CANCEL: "the try is over",
+        Kind.DELEGATE_AUTHOR: f"{author or 'the author'} may approve it now", Kind.DELEGATE_TO: f"{people} may approve it now",
+        Kind.DELEGATE_NONE: "nobody is a delegate of it any more",
+    }
+    return f"gate: {said.get(command.kind, 'done')}"
 
 
 def reply_in_words(reply: Reply) -> str:
@@ -76,6 +92,52 @@ def plain(text: str) -> str:
 def listed(changes: Sequence[int]) -> str:
     """The numbers of changes, in words."""
     return ("change " if len(changes) == 1 else "changes ") + ", ".join(map(str, changes))
+
+
+def queued(batch: int) -> str:
+    return f"It waits in batch {batch}."
+
+
+def staged(stage: Stage, commit: str) -> str:
+    return f"Batch {stage.batch} ({listed(stage.changes)}) is merged onto {stage.base[:DIGITS]} as {commit[:DIGITS]}, which is tested now."
+
+
+def approved_by(people: Sequence[str]) -> str:
+    """Who approved something, as a sentence more, or nothing."""
+    return f" Approved by {', '.join(people)}." if people else ""
+
+
+def landing_of(landing: "Optional[Landing]", change: int) -> str:
+    """What is said of a change that has landed, below the lines of the bot."""
+    if landing is None:
+        return ""
+    member = next((it for it in landing.members if it.change == change), None)
+    by = f", approved by {', '.join(member.approvers)}" if member and member.approvers else ""
+    return f"\nlanded as {landing.commit} with batch {landing.batch}{by}\n"
+
+
+def reported(person: str, description: str) -> str:
+    """How a check has ended, as somebody reports it."""
+    return f"as {person} reports{': ' if description else ''}{plain(description)}"
+
+
+def merge_message(batch: "Batch", titles: Mapping[int, str]) -> str:
+    """The message of the merge of a batch. No line but the last ones can be taken for a trailer: those of people have words before them."""
+    stage = batch.stage
+    lines = [f"Batch {stage.batch}: " + ", ".join(f"change {change}" for change in stage.changes), ""]
+    for it in batch.members:
+        lines.append(f"change {it.change}: {plain(titles.get(it.change, ''))[:MOST_IN_TITLE]}".rstrip())
+        by = [f"by {it.author}"] * bool(it.author) + [f"approved by {', '.join(it.approvers)}"] * bool(it.approvers)
+        lines.append(f"  {', '.join([it.head, *by])}")
+    people = dict.fromkeys(person for it in batch.members for person in it.approvers)
+    trailers = [*(f"Approved-by: {person}" for person in people), f"Batch: {stage.batch}"]
+    return "\n".join([*lines, *([""] if batch.members else []), *trailers]) + "\n"
+
+
+def without_reporter(names: Sequence[str]) -> str:
+    """That some required statuses never come."""
+    said = "the status " if len(names) == 1 else "the statuses "
+    return f"{said}{', '.join(map(plain, names))}, for which there is neither a command in the settings of the host nor a reporter"
 
 
 def conflict(stage: Stage, which: int, why: str) -> str:
