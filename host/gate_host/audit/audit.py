@@ -1,0 +1,92 @@
+"""The audit, put together of its parts: what `gate-host audit` does."""
+import argparse
+import sys
+import tempfile
+from pathlib import Path
+from typing import Dict, List, Mapping, Optional, Union
+
+from ..faults import Trouble, Unable
+from ..required import required_statuses
+from .entries import Finding, Journal, entries_of, gaps_in
+from .journal_file import read_journal
+from .objects import Objects, full_name, head_of
+from .replay import replayed
+from .shown import Result, json_of_result, text_of_result
+from .steps import Known, Step, landings_by_commit, lost, steps_of, to_be_made
+from .story import Story, movers_in, story_of
+
+# The file of settings is read up to this size.
+MOST_BYTES = 65536
+
+
+def audit(arguments: argparse.Namespace) -> int:
+    """Looks at each step of the main branch. The status is 1 if something isn't as it should be."""
+    repository = Path(arguments.repository).resolve()
+    if not (repository / "objects").is_dir() or not (repository / "HEAD").is_file():
+        raise Trouble(f"{repository} is no bare repository of git")
+    given = settings_in(repository / "gate/settings")
+    branch = arguments.main or given.get("main") or head_of(repository)
+    program = arguments.program or given.get("program")
+    if not branch or not program:
+        raise Trouble("the main branch can't be told; name it by --main" if program else "name the program of the bot by --program")
+    path = Path(arguments.journal) if arguments.journal else repository / "gate/records/journal.db"
+    with tempfile.TemporaryDirectory(prefix="gate-audit-") as room:
+        try:
+            folder = Path(room)
+            journal, objects = read_journal(path, folder), Objects(folder, repository, branch)
+            result = result_of(journal, objects, program, arguments.start, [name.lower() for name in arguments.allow])
+        except Unable as fault:
+            raise Trouble(str(fault)) from fault
+    print(json_of_result(result) if arguments.json else text_of_result(result), end="")
+    sys.stdout.flush()
+    return 1 if result.findings else 0
+
+
+def result_of(journal: Journal, objects: Objects, program: str, start: Optional[str], allowed: List[str]) -> Result:
+    """What is found out of a journal and a repository."""
+    entries, unread = entries_of(journal)
+    story = story_of(entries)
+    others = [*gaps_in(journal), *unread, *story.findings, *replayed(program, journal.rows), *objects.replacements()]
+    not_there = objects.fetch()
+    steps: List[Step] = []
+    if not not_there:
+        walk = objects.walk()
+        made = objects.remake_all(to_be_made(walk, story))
+        known = Known(objects.branch, walk, story, movers_in(journal.facts), made, required_by_text(program, story), allowed)
+        beginning = full_name(walk, start) if start else None
+        steps = steps_of(known, beginning)
+        others += [*without_beginning(known), *lost(known, beginning)]
+    answers = sum(row.answer is not None for row in journal.rows)
+    return Result(objects.branch, objects.tip, len(journal.facts), len(journal.rows), answers, steps, [*others, *not_there])
+
+
+def without_beginning(known: Known) -> List[Finding]:
+    """A journal without a base says nothing of any step."""
+    return [] if known.story.bases else [Finding("missing delivery", "the journal has no base, so it says of no commit how it came there")]
+
+
+def required_by_text(program: str, story: Story) -> Mapping[str, Union[List[str], int]]:
+    """The statuses that each text of settings requires that counted at an order to land. Each is asked for once."""
+    found: Dict[str, Union[List[str], int]] = {}
+    for landing in landings_by_commit(story).values():
+        if landing.settings is not None and landing.settings not in found:
+            found[landing.settings] = required_statuses(program, landing.settings)
+    return found
+
+
+def settings_in(path: Path) -> Dict[str, str]:
+    """The lines of the part [host] of a file of settings, as texts. There may be no such file."""
+    try:
+        with open(path, encoding="utf-8", errors="replace") as file:
+            lines = file.read(MOST_BYTES).splitlines()
+    except OSError:
+        return {}
+    found: Dict[str, str] = {}
+    is_within = False
+    for line in lines:
+        key, equals, value = line.partition("=")
+        if line.startswith("["):
+            is_within = line.strip() == "[host]"
+        elif is_within and equals and not line.startswith(("#", ";")):
+            found.setdefault(key.strip(), value.strip())
+    return found
