@@ -59,7 +59,11 @@ class Objects:
         if ran.status == 0:
             return []
         said = f"not all of the {self.branch} branch can be read as it is named, so none of its steps can be looked at: {ran.said}"
-        return [Finding("object", said, self.tip), *self.altered()]
+        return [Finding("object", self.here(said), self.tip), *self.altered()]
+
+    def here(self, said: str) -> str:
+        """What git said of the repository, which it reads by way of another folder."""
+        return said.replace(str(self.window), str(self.repository))
 
     def altered(self) -> List[Finding]:
         """Which objects those are, as far as git can tell."""
@@ -68,7 +72,7 @@ class Objects:
         except GitFailed as fault:
             return [Finding("object", f"git can't tell which objects those are: {fault}", self.tip)]
         words = f"{ran.said} {' '.join(ran.output.split())}".replace("error: ", "\n").replace("missing ", "\nmissing ").split("\n")
-        return [Finding("object", shown(it.strip()), self.tip) for it in words[1:1 + MOST_SHOWN]]
+        return [Finding("object", shown(self.here(it.strip())), self.tip) for it in words[1:1 + MOST_SHOWN]]
 
     def walk(self) -> List[Commit]:
         """The branch from its beginning, each commit the first parent of the next."""

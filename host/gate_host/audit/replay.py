@@ -1,4 +1,5 @@
 """Hands the deliveries of a journal to the program once more, and compares its answers with those that were kept."""
+import os
 import subprocess
 import tempfile
 from typing import List, Sequence
@@ -8,6 +9,8 @@ from .entries import Finding, Row, shown
 
 # Some ten thousand deliveries a second are usual, and a program with checks is slower.
 SECONDS = 6 * 3600
+# Of what two answers have in common no more is shown.
+MOST_SAME = 100
 
 
 def replayed(program: str, rows: Sequence[Row]) -> List[Finding]:
@@ -23,9 +26,17 @@ def differences(rows: Sequence[Row], answers: Sequence[str]) -> List[Finding]:
     if not found:
         return []
     row, answer = found[0]
-    others = f"; {len(found) - 1} later answers differ too" if len(found) > 1 else ""
-    said = f"the program answers {row.id} by {shown(answer)}, and the journal has {shown(row.answer or '')}{others}"
-    return [Finding("answer", said, row.id)]
+    kept = row.answer or ""
+    others = f" Of the later answers {len(found) - 1} differ too." if len(found) > 1 else ""
+    one, other = beginning_at_difference(answer, kept), beginning_at_difference(kept, answer)
+    said = f"the program answers {row.id} by {one}, and the journal has {other}."
+    return [Finding("answer", said + others, row.id)]
+
+
+def beginning_at_difference(text: str, other: str) -> str:
+    """A text, or what of it stands around the first place at which another one differs."""
+    same = len(os.path.commonprefix([text, other]))
+    return shown(text) if same < MOST_SAME else f"..{shown(text[same - MOST_SAME // 2:])}"
 
 
 def answers_of(program: str, lines: Sequence[str]) -> List[str]:

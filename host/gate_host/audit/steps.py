@@ -98,11 +98,10 @@ def parents_of(stage: Stage) -> Tuple[str, ...]:
 
 def moves_in(known: Known, first: int) -> List[Move]:
     """The moves that no order to land named, after a base."""
-    landed = landings_by_commit(known.story)
     bases = known.story.bases
     return [
         Move(base, before.commit, known.movers.get(base.fact) if base.fact else None)
-        for before, base in zip(bases[first:], bases[first + 1:]) if base.commit not in landed and not base.is_report
+        for before, base in zip(bases[first:], bases[first + 1:]) if not base.is_landing
     ]
 
 
@@ -110,27 +109,28 @@ def steps_of(known: Known, start: Optional[str] = None) -> List[Step]:
     """Each step of the branch from the first base that was handed in, or from a commit; and then the moves that left no commit there."""
     place, first = first_place(known, start)
     by_commit, moves = landings_by_commit(known.story), moves_in(known, first)
-    places = {commit.name: number for number, commit in enumerate(known.walk)}
+    brought = brought_by(known.walk, moves)
     steps = []
     for before, commit in zip(known.walk[place:], known.walk[place + 1:]):
-        landing = by_commit.get(commit.name)
+        landing, move = by_commit.get(commit.name), brought.get(commit.name)
         if landing:
             steps.append(step_of_landing(known, before, commit, landing))
-            continue
-        move = move_over(moves, places, places[commit.name])
-        steps.append(step_of_move(known, commit.name, move) if move else without_order(known, commit.name))
+        else:
+            steps.append(step_of_move(known, commit.name, move) if move else without_order(known, commit.name))
     used = {step.move.base.id for step in steps if step.move}
     gone = [step_of_move(known, move.base.commit, move, is_there=False) for move in moves if move.base.id not in used]
     tell_once(steps)
     return steps + gone
 
 
-def move_over(moves: Sequence[Move], places: Mapping[str, int], place: int) -> Optional[Move]:
-    """The first move that brought the commit at some place onto the branch. A move may bring many."""
+def brought_by(walk: Sequence[Commit], moves: Sequence[Move]) -> Dict[str, Move]:
+    """Which move brought a commit onto the branch. One move may bring many, and the first one counts."""
+    places = {commit.name: place for place, commit in enumerate(walk)}
+    found: Dict[str, Move] = {}
     for move in moves:
-        if places.get(move.before, -1) < place <= places.get(move.base.commit, -1):
-            return move
-    return None
+        for commit in walk[places.get(move.before, -1) + 1:places.get(move.base.commit, -1) + 1]:
+            found.setdefault(commit.name, move)
+    return found
 
 
 def tell_once(steps: Sequence[Step]) -> None:
@@ -147,7 +147,7 @@ def tell_once(steps: Sequence[Step]) -> None:
 def step_of_move(known: Known, commit: str, move: Move, is_there: bool = True) -> Step:
     kind = "stray" if move.person == "" else "push"
     step = Step(commit, kind, move.base.at, move=move, is_there=is_there)
-    if move.person is None or move.person.lower() not in known.allowed:
+    if not move.person or move.person.lower() not in known.allowed:
         to = f"the {known.branch} branch was moved from {move.before} to {move.base.commit}, and no order to land said so"
         if move.person:
             step.findings.append(Finding("past the queue", f"{to}: the host has {move.person} down for it, as who may push there", commit))

@@ -40,13 +40,14 @@ class Landing:
 
 @dataclass(frozen=True)
 class Base:
-    """A base that was handed in and taken: by which delivery, of which fact, when, and whether it reports an order."""
+    """A base that was handed in and taken: by which delivery, of which fact, when, and whether it is told as a landing. That is so if it
+    reports an order, or is the commit of the one that was open."""
 
     id: str
     fact: int
     at: Optional[int]
     commit: str
-    is_report: bool
+    is_landing: bool
 
 
 @dataclass
@@ -102,10 +103,10 @@ class Story:
 
     def take_base(self, entry: Entry, commit: str) -> None:
         """A base that is the commit of the order to land is its landing, whoever tells of it."""
-        is_report = not OF_FACT.fullmatch(entry.id)
-        self.bases.append(Base(entry.id, entry.fact, entry.at, commit, is_report))
         landing = self.open_landing()
-        if landing and landing.land.commit == commit:
+        has_landed = landing is not None and landing.land.commit == commit
+        self.bases.append(Base(entry.id, entry.fact, entry.at, commit, has_landed or not OF_FACT.fullmatch(entry.id)))
+        if landing and has_landed:
             for change, _ in landing.stage.heads if landing.stage else ():
                 self.approvals.pop(change, None)
             self.settle("base")
