@@ -89,7 +89,7 @@ def add_audit(jobs: "argparse._SubParsersAction[argparse.ArgumentParser]") -> No
         "ordered, tested and approved. Writes nothing there. The status is 1 if something isn't as it should be."))
     job.add_argument("repository", metavar="REPOSITORY")
     job.add_argument("--journal", metavar="FILE", help="a copy of journal.db, with its -wal beside it (usually that of the repository)")
-    job.add_argument("--program", help="the built program of the bot (usually the one that gate/settings of the repository names)")
+    job.add_argument("--program", default=PROGRAM, help=f"the built program of the bot, of the host's version (usually {PROGRAM})")
     job.add_argument("--main", metavar="BRANCH", help="the main branch (usually that of gate/settings, or that of HEAD)")
     job.add_argument("--from", dest="start", metavar="COMMIT", help="look at the steps after this commit alone")
     job.add_argument("--allow", action="append", default=[], metavar="NAME", help="pushes past the queue by this person are no findings")

@@ -16,13 +16,16 @@ from unittest import mock
 sys.path.insert(0, str(Path(__file__).resolve().parent.parent))
 
 from folders import InFolder, InHistory  # noqa: E402
+from gate_host import journal as hosts  # noqa: E402
 from gate_host.audit import journal_file, replay  # noqa: E402
-from gate_host.audit.audit import audit, settings_in  # noqa: E402
-from gate_host.audit.entries import Row, Stage  # noqa: E402
+from gate_host.audit.audit import audit, main_in  # noqa: E402
+from gate_host.audit.entries import Row, Stage, entries_of, gaps_in  # noqa: E402
 from gate_host.audit.journal_file import read_journal  # noqa: E402
 from gate_host.audit.objects import Objects, full_name, head_of  # noqa: E402
+from gate_host.core.facts import Ticked  # noqa: E402
 from gate_host.faults import Trouble  # noqa: E402
 from telling import Told  # noqa: E402
+from test_journal_of_2 import OF_1, OF_2  # noqa: E402
 
 TABLES = """CREATE TABLE facts (number INTEGER PRIMARY KEY, at INTEGER, kind TEXT, body TEXT);
 CREATE TABLE deliveries (number INTEGER PRIMARY KEY, fact INTEGER, id TEXT, line TEXT, answer TEXT);"""
@@ -60,6 +63,23 @@ class JournalTests(InFolder):
         write_journal(self.path, self.journal).close()
         (self.folder / "journal.db-wal").write_text("of before", encoding="utf-8")
         self.assertEqual(read_journal(self.path, self.folder), self.journal)
+
+    def test_one_that_was_brought_over(self):
+        """Of what came before there are the deliveries, and one fact."""
+        with closing(sqlite3.connect(self.path)) as journal:
+            journal.executescript(OF_1 + OF_2)
+            rows = [(row.number, row.id, row.line, None if row.number == 3 else row.answer) for row in self.journal.rows]
+            journal.executemany("INSERT INTO deliveries VALUES (?, ?, ?, ?)", rows)
+            journal.commit()
+        with closing(hosts.Journal(self.path)) as journal:
+            known = journal.known()
+            journal.keep_answer(known, 9, '[{"orders":[],"verdict":"done"}]')
+            journal.record(known, 9, Ticked(7))
+            journal.keep_answer(known, 9, '[{"orders":[],"verdict":"done"}]')
+        found = read_journal(self.path, self.folder)
+        self.assertEqual([fact.kind for fact in found.facts], ["Upgraded", "Ticked"])
+        self.assertEqual(gaps_in(found), [])
+        self.assertEqual(len(entries_of(found)[0]), len(rows) + 1)
 
     def test_what_is_no_journal(self):
         for version, why in ((1, "; start the host of today"), (2, "; start the host of today"), (0, ""), (4, "")):
@@ -222,10 +242,12 @@ class ObjectTests(InHistory):
         self.assertIsNone(head_of(self.path))
 
     def test_the_settings_are_read_as_text(self):
-        path = self.room / "settings"
-        self.assertEqual(settings_in(path), {})
-        path.write_text("main = a\n[host]\n# main = b\nmain = c\nprogram=/x = y\nmain = d\n[checks]\nmain = e\n", encoding="utf-8")
-        self.assertEqual(settings_in(path), {"main": "c", "program": "/x = y"})
+        for text, due in (
+            ("", None), ("main = a", None), ("[host]\n", None), ("[checks]\nmain = e\n", None), ("[host]\nmain =\n", None),
+            ("main = a\n[host]\n# main = b\nmain = c\nprogram=/x\nmain = d\n[checks]\nmain = e\n", "c"), ("[host]\nmain=a/b", "a/b"),
+            ("[host]\n[checks]\nmain = e\n", None),
+        ):
+            self.assertEqual(main_in(text), due, text)
 
 
 class CommandTests(InHistory):
@@ -290,7 +312,7 @@ class CommandTests(InHistory):
 
     def test_what_cannot_be_done(self):
         for why, more in (
-            ("is no bare repository", {"repository": str(self.room)}), ("name the program of the bot", {"program": None}),
+            ("is no bare repository", {"repository": str(self.room)}), ("can't be started", {"program": str(self.room / "none")}),
             ("no branch other", {"main": "other"}), ("no commit", {"start": "0" * 40}),
             ("there is no journal", {"journal": str(self.room / "none")}),
         ):

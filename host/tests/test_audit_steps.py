@@ -69,6 +69,14 @@ class LandingTests(unittest.TestCase):
         self.found(told, [], walk=(FIRST, LANDED._replace(parents=(BASE, OTHER, HEAD))))
         self.found(told, ["other parents"], walk=(FIRST, LANDED._replace(parents=(BASE, HEAD, OTHER))))
 
+    def test_a_parent_that_is_named_twice(self):
+        told = Told()
+        told.begin(heads=[(1, HEAD), (2, HEAD), (3, BASE)])
+        for change in (1, 2, 3):
+            told.approve(change)
+        told.landed(told.test(heads=[(1, HEAD), (2, HEAD), (3, BASE)]))
+        self.found(told, [])
+
     def test_another_base(self):
         told = told_of_landing(base=NEXT)
         self.found(told, ["other base", "other parents"])
@@ -190,7 +198,7 @@ class MoveTests(unittest.TestCase):
         told = told_of_landing()
         self.moved(told, BASE, "ines")
         known = known_of(told, (FIRST,), allowed=("ines",))
-        self.assertEqual([(step.commit, step.is_there) for step in steps_of(known)], [(BASE, False)])
+        self.assertEqual([(step.commit, step.is_step) for step in steps_of(known)], [(BASE, False)])
         said = f"batch 1 landed as {MERGED} (status-8.0), and the history of the branch has that no more"
         self.assertEqual([it.said for it in lost(known)], [said])
         self.moved(told, NEXT, "")
@@ -247,12 +255,12 @@ class ShownTests(unittest.TestCase):
         self.assertEqual(set(document), {"branch", "tip", "steps", "findings", "counts"})
         landing, push = document["steps"]
         self.assertEqual(landing, {
-            "commit": MERGED, "kind": "landing", "at": 108, "is_on_branch": True, "order": "status-8.0", "batch": 1, "base": BASE,
+            "commit": MERGED, "kind": "landing", "at": 108, "is_step": True, "order": "status-8.0", "batch": 1, "base": BASE,
             "changes": [{"change": 1, "head": HEAD, "approved_by": ["rosa"], "said_by": "rosa", "delivery": "comment-4", "at": 104}],
             "statuses": {"build": "success", "lint": "success"},
         })
         self.assertEqual(push, {
-            "commit": NEXT, "kind": "push", "at": 110, "is_on_branch": True, "delivery": "base-10", "before": MERGED, "after": NEXT,
+            "commit": NEXT, "kind": "push", "at": 110, "is_step": True, "delivery": "base-10", "before": MERGED, "after": NEXT,
             "person": "ines\x1b",
         })
         self.assertEqual([(it["kind"], it["about"]) for it in document["findings"]], [("past the queue", NEXT)])
@@ -267,8 +275,8 @@ class ShownTests(unittest.TestCase):
         known = known_of(told, walk=(FIRST, LANDED._replace(parents=(BASE, HEAD, OTHER))))
         line = text_of_result(Result("main", MERGED, 0, 0, 0, steps_of(known), [])).splitlines()[1]
         self.assertIn("1 aaaaaaa, 2 bbbbbbb  1: vera and milo (said by rosa), 2: nobody  build, lint pending", line)
-        push = [replace(step, at=10 ** 20, is_there=False) for step in self.result().steps[1:]]
-        self.assertIn("-     push by ines?, and gone", text_of_result(Result("main", NEXT, 0, 0, 0, push, [])))
+        push = [replace(step, at=10 ** 20, is_step=False) for step in self.result().steps[1:]]
+        self.assertIn("-     push by ines?, left no step", text_of_result(Result("main", NEXT, 0, 0, 0, push, [])))
 
 
 if __name__ == "__main__":

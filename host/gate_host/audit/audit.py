@@ -1,11 +1,13 @@
 """The audit, put together of its parts: what `gate-host audit` does."""
 import argparse
+import re
 import sys
 import tempfile
 from pathlib import Path
 from typing import Dict, List, Mapping, Optional, Union
 
 from ..faults import Trouble, Unable
+from ..places import text_of_reference
 from ..required import required_statuses
 from .entries import Finding, Journal, entries_of, gaps_in
 from .journal_file import read_journal
@@ -15,20 +17,17 @@ from .shown import Result, json_of_result, text_of_result
 from .steps import Known, Step, landings_by_commit, lost, steps_of, to_be_made
 from .story import Story, movers_in, story_of
 
-# The file of settings is read up to this size.
-MOST_BYTES = 65536
-
 
 def audit(arguments: argparse.Namespace) -> int:
     """Looks at each step of the main branch. The status is 1 if something isn't as it should be."""
     repository = Path(arguments.repository).resolve()
     if not (repository / "objects").is_dir() or not (repository / "HEAD").is_file():
         raise Trouble(f"{repository} is no bare repository of git")
-    given = settings_in(repository / "gate/settings")
-    branch = arguments.main or given.get("main") or head_of(repository)
-    program = arguments.program or given.get("program")
-    if not branch or not program:
-        raise Trouble("the main branch can't be told; name it by --main" if program else "name the program of the bot by --program")
+    branch = arguments.main or main_in(text_of_reference(repository / "gate/settings") or "") or head_of(repository)
+    if not branch:
+        raise Trouble("which branch is the main branch can't be told; name it by --main")
+    # What the settings name for a program is the host's, and nothing of the host is run.
+    program = str(Path(arguments.program).resolve())
     path = Path(arguments.journal) if arguments.journal else repository / "gate/records/journal.db"
     with tempfile.TemporaryDirectory(prefix="gate-audit-") as room:
         try:
@@ -74,19 +73,8 @@ def required_by_text(program: str, story: Story) -> Mapping[str, Union[List[str]
     return found
 
 
-def settings_in(path: Path) -> Dict[str, str]:
-    """The lines of the part [host] of a file of settings, as texts. There may be no such file."""
-    try:
-        with open(path, encoding="utf-8", errors="replace") as file:
-            lines = file.read(MOST_BYTES).splitlines()
-    except OSError:
-        return {}
-    found: Dict[str, str] = {}
-    is_within = False
-    for line in lines:
-        key, equals, value = line.partition("=")
-        if line.startswith("["):
-            is_within = line.strip() == "[host]"
-        elif is_within and equals and not line.startswith(("#", ";")):
-            found.setdefault(key.strip(), value.strip())
-    return found
+def main_in(text: str) -> Optional[str]:
+    """The main branch that a text of the host's settings names in its part [host]."""
+    part = re.search(r"^\[host\]$(.*?)(?=^\[|\Z)", text, re.MULTILINE | re.DOTALL)
+    found = re.search(r"^main *= *(.+?) *$", part[1], re.MULTILINE) if part else None
+    return found[1] if found else None

@@ -60,7 +60,7 @@ def what_of(step: Step) -> str:
         return f"batch {step.landing.land.batch}"
     person = step.move.person if step.move else None
     word = {"push": f"push by {person or 'somebody'}", "stray": "moved by nobody who may"}.get(step.kind, step.kind)
-    return word if step.is_there else f"{word}, and gone"
+    return word if step.is_step else f"{word}, left no step"
 
 
 def heads_of(landing: Optional[Landing]) -> List[Tuple[int, str]]:
@@ -103,7 +103,7 @@ def counted(count: int, what: str) -> str:
 
 def counts_of(result: Result) -> Dict[str, int]:
     landings = [step.landing for step in result.steps if step.landing]
-    there = [step for step in result.steps if step.is_there]
+    there = [step for step in result.steps if step.is_step]
     return {
         "steps": len(there), "landings": len(landings), "changes": sum(len(heads_of(it)) for it in landings),
         "pushes": len(there) - len(landings), "facts": result.facts, "deliveries": result.deliveries, "answers": result.answers,
@@ -121,7 +121,7 @@ def json_of_result(result: Result) -> str:
 
 def table_of_step(step: Step) -> Dict[str, Json]:
     landing, move = step.landing, step.move
-    table: Dict[str, Json] = {"commit": step.commit, "kind": step.kind, "at": step.at, "is_on_branch": step.is_there}
+    table: Dict[str, Json] = {"commit": step.commit, "kind": step.kind, "at": step.at, "is_step": step.is_step}
     if move:
         table.update(delivery=move.base.id, before=move.before, after=move.base.commit, person=move.person)
     if landing:

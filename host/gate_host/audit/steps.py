@@ -48,7 +48,8 @@ class Move:
 
 @dataclass
 class Step:
-    """A step of the main branch: `landing`, `push`, `stray`, or `no order`. A move that left no commit on the branch is a step as well."""
+    """A step of the main branch: `landing`, `push`, `stray`, or `no order`. Or a move to a commit that is no step of its own, since the
+    branch was set back by it or after it."""
 
     commit: str
     kind: str
@@ -56,7 +57,7 @@ class Step:
     landing: Optional[Landing] = None
     move: Optional[Move] = None
     required: Sequence[str] = ()
-    is_there: bool = True
+    is_step: bool = True
     findings: List[Finding] = field(default_factory=list)
 
 
@@ -93,7 +94,8 @@ def to_be_made(walk: Sequence[Commit], story: Story) -> Dict[str, Stage]:
 
 
 def parents_of(stage: Stage) -> Tuple[str, ...]:
-    return (stage.base, *(head for _, head in stage.heads))
+    """The parents of the merge that was ordered. Git names no parent twice."""
+    return tuple(dict.fromkeys((stage.base, *(head for _, head in stage.heads))))
 
 
 def moves_in(known: Known, first: int) -> List[Move]:
@@ -106,7 +108,7 @@ def moves_in(known: Known, first: int) -> List[Move]:
 
 
 def steps_of(known: Known, start: Optional[str] = None) -> List[Step]:
-    """Each step of the branch from the first base that was handed in, or from a commit; and then the moves that left no commit there."""
+    """Each step of the branch from the first base that was handed in, or from a commit; and then the moves that left no step."""
     place, first = first_place(known, start)
     by_commit, moves = landings_by_commit(known.story), moves_in(known, first)
     brought = brought_by(known.walk, moves)
@@ -118,7 +120,7 @@ def steps_of(known: Known, start: Optional[str] = None) -> List[Step]:
         else:
             steps.append(step_of_move(known, commit.name, move) if move else without_order(known, commit.name))
     used = {step.move.base.id for step in steps if step.move}
-    gone = [step_of_move(known, move.base.commit, move, is_there=False) for move in moves if move.base.id not in used]
+    gone = [step_of_move(known, move.base.commit, move, is_step=False) for move in moves if move.base.id not in used]
     tell_once(steps)
     return steps + gone
 
@@ -144,9 +146,9 @@ def tell_once(steps: Sequence[Step]) -> None:
 # Steps past the queue
 
 
-def step_of_move(known: Known, commit: str, move: Move, is_there: bool = True) -> Step:
+def step_of_move(known: Known, commit: str, move: Move, is_step: bool = True) -> Step:
     kind = "stray" if move.person == "" else "push"
-    step = Step(commit, kind, move.base.at, move=move, is_there=is_there)
+    step = Step(commit, kind, move.base.at, move=move, is_step=is_step)
     if not move.person or move.person.lower() not in known.allowed:
         to = f"the {known.branch} branch was moved from {move.before} to {move.base.commit}, and no order to land said so"
         if move.person:
