@@ -225,6 +225,18 @@ class MoveTests(unittest.TestCase):
         for start, due in ((MERGED, ["d", "e"]), (NEXT, ["e"]), (LAST.name, []), (walk[0].name, ["0", "1", "d", "e"])):
             self.assertEqual([commit for commit, _, _ in kinds_of(known, start)], due)
 
+    def test_what_was_lost_since(self):
+        """Also if the branch came back to where it is looked at from."""
+        told = told_of_landing()
+        self.moved(told, LAST.name, "ines")
+        self.moved(told, MERGED, "ines")
+        self.moved(told, "9" * 40, "ines")
+        walk = (FIRST, LANDED, Commit("8" * 40, TREE, (MERGED,)), Commit("9" * 40, TREE, ("8" * 40,)))
+        known = known_of(told, walk, allowed=("ines",))
+        for start, due, gone in ((MERGED, [LAST.name], ["e", "1"]), ("8" * 40, [], []), ("9" * 40, [], [])):
+            self.assertEqual([it.about for it in lost(known, start)], due)
+            self.assertEqual([step.commit[0] for step in steps_of(known, start) if not step.is_step], gone)
+
     def test_a_first_base_that_is_not_there_any_more(self):
         known = known_of(told_of_landing(), (LANDED._replace(parents=()), PUSHED))
         self.assertEqual([it.about for it in lost(known)], [BASE])

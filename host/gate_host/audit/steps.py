@@ -63,13 +63,14 @@ class Step:
 
 def first_place(known: Known, start: Optional[str]) -> Tuple[int, int]:
     """From where on the branch is looked at: the place of a commit on it, and the place among the bases that were handed in. That is the
-    first base, or the commit that was named."""
+    first base; or the commit that was named, and the base of the time at which the branch came there first."""
     places = {commit.name: place for place, commit in enumerate(known.walk)}
-    bases = [places.get(base.commit) for base in known.story.bases]
+    bases = [places.get(base.commit, -1) for base in known.story.bases]
     if start is None:
-        return (bases[0] or 0 if bases else 0), 0
-    from_here = [number for number, place in enumerate(bases) if place is not None and place <= places[start]]
-    return places[start], from_here[-1] if from_here else 0
+        return max(bases[0], 0) if bases else 0, 0
+    first = next((number for number, place in enumerate(bases) if place >= places[start]), len(bases))
+    is_there = first < len(bases) and bases[first] == places[start]
+    return places[start], first if is_there else max(first - 1, 0)
 
 
 def landings_by_commit(story: Story) -> Dict[str, Landing]:
