@@ -2,6 +2,7 @@
 import argparse
 import contextlib
 import io
+import itertools
 import json
 import os
 import shutil
@@ -303,6 +304,22 @@ class CommandTests(InHistory):
         self.assertEqual(status, 1)
         self.assertIn("FINDING not approved: change 1 landed", printed)
         self.assertTrue(printed.endswith("; 1 finding\n"))
+
+    def test_a_branch_that_moves_meanwhile(self):
+        """The two are read once more then."""
+        merged = self.git("rev-parse", "main")
+        for moves, status in ((iter([self.base, merged]), 0), (itertools.cycle([self.base, merged]), None)):
+            def read(path, folder):
+                for commit in itertools.islice(moves, 1):
+                    self.git("update-ref", "refs/heads/main", commit)
+                return read_journal(path, folder)
+
+            with mock.patch("gate_host.audit.audit.read_journal", read):
+                if status is None:
+                    with self.assertRaisesRegex(Trouble, "moves all the time"):
+                        self.run_audit()
+                else:
+                    self.assertEqual(self.run_audit()[0], status)
 
     def test_a_journal_without_a_base(self):
         self.told = Told()

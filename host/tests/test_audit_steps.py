@@ -156,7 +156,8 @@ class LandingTests(unittest.TestCase):
 
     def test_which_merges_are_made_again(self):
         story = known_of(told_of_landing()).story
-        self.assertEqual(list(to_be_made([FIRST, LANDED, PUSHED], story)), [MERGED])
+        for start, due in ((None, [MERGED]), (BASE, [MERGED]), (MERGED, []), (NEXT, [])):
+            self.assertEqual(list(to_be_made([FIRST, LANDED, PUSHED], story, start)), due)
         self.assertEqual(to_be_made([FIRST, LANDED._replace(parents=(BASE,))], story), {})
 
 

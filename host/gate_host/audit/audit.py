@@ -4,7 +4,7 @@ import re
 import sys
 import tempfile
 from pathlib import Path
-from typing import Dict, List, Mapping, Optional, Union
+from typing import Dict, List, Mapping, Optional, Tuple, Union
 
 from ..faults import Trouble, Unable
 from ..places import text_of_reference
@@ -16,6 +16,9 @@ from .replay import replayed
 from .shown import Result, json_of_result, text_of_result
 from .steps import Known, Step, landings_by_commit, lost, steps_of, to_be_made
 from .story import Story, movers_in, story_of
+
+# How often a branch may move while the journal is read.
+ATTEMPTS = 10
 
 
 def audit(arguments: argparse.Namespace) -> int:
@@ -31,14 +34,23 @@ def audit(arguments: argparse.Namespace) -> int:
     path = Path(arguments.journal) if arguments.journal else repository / "gate/records/journal.db"
     with tempfile.TemporaryDirectory(prefix="gate-audit-") as room:
         try:
-            folder = Path(room)
-            journal, objects = read_journal(path, folder), Objects(folder, repository, branch)
+            journal, objects = read_both(path, Path(room), repository, branch)
             result = result_of(journal, objects, program, arguments.start, [name.lower() for name in arguments.allow])
         except Unable as fault:
             raise Trouble(str(fault)) from fault
     print(json_of_result(result) if arguments.json else text_of_result(result), end="")
     sys.stdout.flush()
     return 1 if result.findings else 0
+
+
+def read_both(path: Path, folder: Path, repository: Path, branch: str) -> Tuple[Journal, Objects]:
+    """A journal and a repository of one moment: a host at work may land something between a look at the one and at the other."""
+    for _ in range(ATTEMPTS):
+        objects = Objects(folder, repository, branch)
+        journal = read_journal(path, folder)
+        if objects.is_at_tip():
+            return journal, objects
+    raise Trouble(f"{branch} moves all the time; audit copies that were made while no host ran")
 
 
 def result_of(journal: Journal, objects: Objects, program: str, start: Optional[str], allowed: List[str]) -> Result:
@@ -50,9 +62,9 @@ def result_of(journal: Journal, objects: Objects, program: str, start: Optional[
     steps: List[Step] = []
     if not not_there:
         walk = objects.walk()
-        made = objects.remake_all(to_be_made(walk, story))
-        known = Known(objects.branch, walk, story, movers_in(journal.facts), made, required_by_text(program, story), allowed)
         beginning = full_name(walk, start) if start else None
+        made = objects.remake_all(to_be_made(walk, story, beginning))
+        known = Known(objects.branch, walk, story, movers_in(journal.facts), made, required_by_text(program, story), allowed)
         steps = steps_of(known, beginning)
         others += [*without_beginning(known), *lost(known, beginning)]
     answers = sum(row.answer is not None for row in journal.rows)

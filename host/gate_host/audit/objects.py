@@ -37,6 +37,10 @@ class Objects:
             raise Trouble(f"{repository} has no branch {branch}; name the main branch by --main")
         self.tip = tip
 
+    def is_at_tip(self) -> bool:
+        """Whether the branch still is where it was."""
+        return pointed_to(self.repository, BRANCHES + self.branch)[0] == self.tip
+
     def replacements(self) -> List[Finding]:
         """What has git read other objects than those that are named, for whoever reads the branch in the repository."""
         written = ask_git(self.window, "for-each-ref", "--format=%(refname) %(objectname)", REPLACED)

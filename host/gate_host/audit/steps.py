@@ -83,11 +83,13 @@ def landings_by_commit(story: Story) -> Dict[str, Landing]:
     return found
 
 
-def to_be_made(walk: Sequence[Commit], story: Story) -> Dict[str, Stage]:
-    """The orders whose merges have to be made again, by their commits: those of which each parent is the one that was named."""
+def to_be_made(walk: Sequence[Commit], story: Story, start: Optional[str] = None) -> Dict[str, Stage]:
+    """The orders whose merges have to be made again, by their commits: those of which each parent is the one that was named. If the branch
+    is looked at from a commit on, those after it will do."""
     by_commit = landings_by_commit(story)
+    first = next((place for place, commit in enumerate(walk, 1) if commit.name == start), 0)
     found = {}
-    for commit in walk:
+    for commit in walk[first:]:
         landing = by_commit.get(commit.name)
         if landing and landing.stage and commit.parents == parents_of(landing.stage):
             found[commit.name] = landing.stage
