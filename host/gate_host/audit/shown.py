@@ -10,6 +10,8 @@ from .story import Approval, Landing
 
 HEADINGS = ("commit", "when", "what", "changes", "approved by", "statuses")
 SHORT_COMMIT, SHORT_HEAD = 10, 7
+# A column is no wider, and a cell that is longer goes on.
+WIDEST = 60
 
 
 @dataclass(frozen=True)
@@ -39,8 +41,8 @@ def text_of_result(result: Result) -> str:
 
 
 def table_of(rows: Sequence[Sequence[str]]) -> List[str]:
-    """The lines of a table. Each column is as wide as its longest cell."""
-    widths = [max(len(row[place]) for row in [HEADINGS, *rows]) for place in range(len(HEADINGS))]
+    """The lines of a table. Each column is as wide as its longest cell, up to a limit: a batch may have many changes."""
+    widths = [min(WIDEST, max(len(row[place]) for row in [HEADINGS, *rows])) for place in range(len(HEADINGS))]
     return ["  ".join(cell.ljust(width) for cell, width in zip(row, widths)).rstrip() for row in [HEADINGS, *rows]]
 
 
@@ -72,7 +74,7 @@ def approvers_of(landing: Landing) -> str:
     found = [approver_of(landing.approvals.get(change), head) for change, head in heads_of(landing)]
     if len(set(found)) == 1:
         return found[0]
-    return ", ".join(f"{change}: {who}" for (change, _), who in zip(heads_of(landing), found))
+    return ", ".join(f"{change}: {who}" for (change, _), who in zip(heads_of(landing), found)) or "-"
 
 
 def approver_of(approval: Optional[Approval], head: str) -> str:
@@ -90,15 +92,15 @@ def status_of(landing: Landing, name: str) -> str:
 
 def counts_in_words(result: Result) -> str:
     counts = counts_of(result)
+    branch = f"{counted(counts['steps'], 'step')} of {result.branch} up to {result.tip}"
     steps = f"{counted(counts['landings'], 'landing')} with {counted(counts['changes'], 'change')}, {counts['pushes']} past the queue"
-    return (
-        f"{counted(counts['steps'], 'step')} of {result.branch} up to {result.tip}: {steps}; {counted(result.facts, 'fact')}, "
-        f"{counted(result.answers, 'answer')} to {counted(result.deliveries, 'delivery')}; {counted(counts['findings'], 'finding')}"
-    ).replace("deliverys", "deliveries")
+    answers = f"{counted(result.answers, 'answer')} to {counted(result.deliveries, 'delivery', 'deliveries')}"
+    journal = f"{counted(result.facts, 'fact')}, {answers}"
+    return f"{branch}: {steps}; {journal}; {counted(counts['findings'], 'finding')}"
 
 
-def counted(count: int, what: str) -> str:
-    return f"{count} {what}{'' if count == 1 else 's'}"
+def counted(count: int, one: str, several: str = "") -> str:
+    return f"{count} {one if count == 1 else several or one + 's'}"
 
 
 def counts_of(result: Result) -> Dict[str, int]:
