@@ -134,6 +134,13 @@ class LandingTests(unittest.TestCase):
         self.assertEqual(finding.kind, "not approved")
         self.assertIn("change 1 landed", finding.said)
 
+    def test_an_approval_of_another_head_does_not_count(self):
+        told = Told()
+        told.begin()
+        told.approve()
+        told.landed(told.test(heads=[(1, OTHER)]))
+        self.found(told, ["not approved"], walk=(FIRST, LANDED._replace(parents=(BASE, OTHER))))
+
     def test_an_order_that_was_not_done(self):
         told = Told()
         told.begin()
