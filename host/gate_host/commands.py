@@ -8,6 +8,7 @@ from pathlib import Path
 from typing import List, NoReturn, Optional
 
 from . import VERSION, ssh_command
+from .audit.audit import audit
 from .bare import run_host
 from .doctor import checks_of, stray_named
 from .git import GitFailed
@@ -80,10 +81,24 @@ def add_jobs_of_owner(jobs: "argparse._SubParsersAction[argparse.ArgumentParser]
     job.add_argument("repository", metavar="REPOSITORY")
     job.add_argument("--accept", metavar="COMMIT", help="a move of the main branch to this commit was right after all")
 
+    add_audit(jobs)
     job = jobs.add_parser("ssh", help="what sshd runs for a person", description=(
         "Runs what a person asks for by ssh: git, and what people use of this program. It is the command in authorized_keys."))
     job.add_argument("person", metavar="PERSON")
     job.add_argument("repository", nargs="+", metavar="REPOSITORY")
+
+
+def add_audit(jobs: "argparse._SubParsersAction[argparse.ArgumentParser]") -> None:
+    job = jobs.add_parser("audit", help="check each step of the main branch, without trusting the host", description=(
+        "Checks by a repository, a copy of the journal and the program of the bot that each step of the main branch is a merge that was "
+        "ordered, tested and approved. Writes nothing there. The status is 1 if something isn't as it should be."))
+    job.add_argument("repository", metavar="REPOSITORY")
+    job.add_argument("--journal", metavar="FILE", help="a copy of journal.db, with its -wal beside it (usually that of the repository)")
+    job.add_argument("--program", default=PROGRAM, help=f"the built program of the bot, of the host's version (usually {PROGRAM})")
+    job.add_argument("--main", metavar="BRANCH", help="the main branch (usually that of gate/settings, or that of HEAD)")
+    job.add_argument("--from", dest="start", metavar="COMMIT", help="look at the steps after this commit alone")
+    job.add_argument("--allow", action="append", default=[], metavar="NAME", help="pushes past the queue by this person are no findings")
+    job.add_argument("--json", action="store_true", help="print one document of JSON")
 
 
 def add_jobs_of_people(jobs: "argparse._SubParsersAction[argparse.ArgumentParser]") -> None:
@@ -326,5 +341,5 @@ def plain_lines(text: str) -> str:
 
 JOBS = {
     "init": init, "run": run, "doctor": look_after, "say": say, "queue": show_queue, "change": show_change, "log": show_log,
-    "hook": look_at_push, "ssh": serve_by_ssh, "status": report_status,
+    "hook": look_at_push, "ssh": serve_by_ssh, "status": report_status, "audit": audit,
 }

@@ -3,8 +3,8 @@
 Each is a story of its own, and fails if the attack succeeds. Each has been seen to succeed on the host that didn't know of it. The users
 are told by the variable of gitolite here; attacks_on_notes.py has those that need several users of the system.
 """
-import json
 import os
+import pwd
 import shlex
 import shutil
 import sqlite3
@@ -14,6 +14,7 @@ import time
 from contextlib import closing
 from pathlib import Path
 
+from audit_plants import audited
 from stories import GIT, HOST, TESTS, Failed, Story, must, run, want, why_not
 
 # How long a host that must not do something is watched.
@@ -70,6 +71,10 @@ class Attack(Story):
         ran = self.host("doctor", str(self.repository))
         return ran.returncode, ran.stdout
 
+    def audit(self, *words):
+        """The kinds of what an audit finds, beside a host at work."""
+        return audited(self.repository, self.program, *words)[1]
+
 
 class ReplacedHead(Attack):
     """Somebody replaces the head that was approved by another commit, for git alone: by a push, and by a file."""
@@ -87,6 +92,7 @@ class ReplacedHead(Attack):
         must(f"whether what was approved has landed, by {files}", "parts/good" in files and "parts/evil" not in files)
         want("what a push of a replacement says", pushed, None)
         must("whether the host says that it stands there", "refs/replace" in self.doctor()[1])
+        want("what an audit finds", self.audit(), {"replacement"})
 
 
 class ReplacedFile(Attack):
@@ -136,6 +142,7 @@ class Graft(Attack):
         self.say("rosa", 1, "bors r+")
         self.told(1, "Landed on main")
         must("whether it says that grafts stand there", "info/grafts" in self.doctor()[1])
+        want("what an audit finds", self.audit(), {"replacement"})
 
 
 class OtherName(Attack):
@@ -191,6 +198,7 @@ class Stray(Attack):
         status, said = self.doctor()
         want("how the doctor ends", status, 1)
         must(f"whether the doctor says so in {said}", f"to {commit}" in said)
+        want("what an audit finds", self.audit("--allow", "ines"), {"past the hook"})
         self.stop()
         want("how the doctor ends without a host", self.doctor()[0], 1)
         self.must_host("doctor", str(self.repository), "--accept", commit)
@@ -202,6 +210,9 @@ class Stray(Attack):
         # The tree of the tests may lie in a folder that others can't enter.
         wrong = [line for line in self.doctor()[1].splitlines() if line.startswith("WRONG") and "can be run by some alone" not in line]
         want("what the doctor finds after that", wrong, [])
+        owner = pwd.getpwuid(os.geteuid()).pw_name
+        want("what an audit finds after that", self.audit("--allow", "ines"), {"past the queue"})
+        want("what an audit finds that allows the owner too", self.audit("--allow", "ines", "--allow", owner), set())
 
     def push_by_ines(self):
         self.must_git("fetch", "--quiet", at=self.clone)
@@ -711,34 +722,6 @@ class LastNumber(Attack):
         self.until("the queue has both", lambda: "open: changes 1, 4294967295; the next free number is 2\n" in self.report("queue"))
 
 
-def checker_finds_a_replaced_head(program, room):
-    """A landing by a replaced head: its parents are those that were named, and its files aren't those of their merge."""
-    story = Attack(program, room)
-    head = story.push("otto", 1, {"parts/good": "test 1 -gt 0\n"})
-    evil = story.commit(["--detach", story.first], {"parts/evil": "test 1 -gt 0\n"}, "evil")
-    story.must_git("push", "--quiet", "origin", f"{evil}:refs/heads/other", at=story.clone, person="otto")
-    story.must_git("update-ref", f"refs/replace/{head}", evil)
-    base = story.must_git("rev-parse", "main")
-    tree = story.must_git("merge-tree", "--write-tree", base, head)
-    landed = story.write("", "commit-tree", tree, "-p", base, "-p", head, "-m", "Batch 1")
-    story.must_git("update-ref", "refs/heads/main", landed)
-    stage = {"order": "stage", "batch": 1, "branch": "staging", "base": base, "heads": [[1, head]]}
-    land = {"order": "land", "batch": 1, "base": base, "commit": landed}
-    happened = [
-        ({"event": "role", "person": "rosa", "role": "reviewer"}, []), ({"event": "opened", "change": 1, "head": head}, []),
-        ({"event": "comment", "change": 1, "person": "rosa", "text": "bors r+"}, []), ({"event": "tick"}, [stage]),
-        ({"event": "staged", "batch": 1, "commit": landed}, []), ({"event": "status"}, [land]),
-    ]
-    lines = [
-        json.dumps({"delivery": {"id": str(number), **delivery}, "answer": [{"verdict": "done", "orders": orders}]})
-        for number, (delivery, orders) in enumerate(happened)
-    ]
-    story.answers.write_text("".join(f"{line}\n" for line in lines), encoding="utf-8")
-    story.checked.write_text("".join(f"{landed} {tree} {name} 0\n" for name in ("build", "lint")), encoding="utf-8")
-    ran = run(sys.executable, TESTS / "history.py", story.repository, story.answers, story.checked, story.beside, "build", "lint")
-    must(f"whether the checker finds it, by {ran.stdout!r} {ran.stderr!r}", "its files aren't those of the merge" in ran.stdout)
-
-
 def without_sandbox():
     """The attacks that can't be played here."""
     return [OutOfTheSandbox] if why_not() else []
@@ -749,4 +732,3 @@ ATTACKS = [
     StaleLock, StalledGit, OlderFile, OfAnotherHistory, TryReachesOut, OutOfTheSandbox, OtherNameOfTrying, OtherRepository, LostMirror,
     LockInMirror, HiddenStray, ManyBranches, JumpingClock, CannotBeCheckedOut, KilledCheck, KilledBesideOthers, LastNumber,
 ]
-CASES = [checker_finds_a_replaced_head]

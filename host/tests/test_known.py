@@ -155,7 +155,8 @@ class KnownTests(unittest.TestCase):
             (BEFORE, Closed(7), ["closed-5"]), (BEFORE, RoleGiven("otto", "member"), ["role-5"]),
             (STAGED, Faulted(1, "build", "why"), []), (ORDERED, Delayed("tick-5.0", "why"), []),
             (BEFORE, PushTold("n2", "ines", ((7, C),), ((A, B),)), []), (BEFORE, MoverFound(9, "ines"), []),
-            (BEFORE, PushesForgotten(5), []), (BEFORE, Queued(7, 1), []), (STAGED, Reported("n3", "ci", C, "lint", "success", ""), ["status-8"]),
+            (BEFORE, PushesForgotten(5), []), (BEFORE, Queued(7, 1), []),
+            (STAGED, Reported("n3", "ci", C, "lint", "success", ""), ["status-8"]),
             (STAGED, Reported("n3", "ci", D, "lint", "success", ""), []),
             (BEFORE, Reported("n3", "ci", B, "lint", "pending", ""), ["status-5"]),
         ):

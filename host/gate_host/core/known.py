@@ -201,6 +201,12 @@ class Known:
         self.waiting += delivered(number, fact, self)
         if isinstance(fact, (Merged, Conflicted, Delayed, Staged, Moved, NotMoved)):
             return self.take_outcome(fact)
+        if isinstance(fact, (Opened, Pushed, Closed)):
+            return self.take_change(fact)
+        if isinstance(fact, (Ended, Faulted)):
+            return self.take_check(fact)
+        if isinstance(fact, (Said, Reported, Queued)):
+            return self.take_news(fact)
         if isinstance(fact, (PushTold, MoverFound, PushesForgotten)):
             self.take_push(at, fact)
         elif isinstance(fact, RoleGiven):
@@ -209,22 +215,19 @@ class Known:
             self.take_main(number, at, fact)
         elif isinstance(fact, Ticked):
             self.clock = fact.now
-        elif isinstance(fact, (Opened, Pushed, Closed)):
-            return self.take_change(fact)
-        elif isinstance(fact, Said):
-            why = objection_to(self, fact)
-            objection = [Told(fact.change, f"Not taken: {why}")] if why else []
-            return [Told(fact.change, words.quoted(fact.person, fact.text)), *objection]
-        elif isinstance(fact, (Ended, Faulted)):
-            return self.take_check(fact)
-        elif isinstance(fact, Reported):
-            return self.take_report(fact)
-        elif isinstance(fact, Queued):
-            self.queued[fact.change] = fact.batch
-            return [Told(fact.change, words.queued(fact.batch))]
         else:
             restore(self, fact)
         return []
+
+    def take_news(self, fact: Union[Said, Reported, Queued]) -> List[Told]:
+        if isinstance(fact, Reported):
+            return self.take_report(fact)
+        if isinstance(fact, Queued):
+            self.queued[fact.change] = fact.batch
+            return [Told(fact.change, words.queued(fact.batch))]
+        why = objection_to(self, fact)
+        objection = [Told(fact.change, f"Not taken: {why}")] if why else []
+        return [Told(fact.change, words.quoted(fact.person, fact.text)), *objection]
 
     def take_main(self, number: int, at: int, fact: MainSeen) -> None:
         if self.base and fact.commit != self.base:
