@@ -197,8 +197,11 @@ class Host:
 
     def look(self) -> None:
         """Looks at the owner's files, and where the branches are."""
-        for name, trouble in self.ports.owner.read():
+        owner = self.ports.owner
+        before = (owner.settings, owner.reporters)
+        for name, trouble in owner.read():
             self.troubles.put(name, f"{trouble}; the {name} of before stay" if trouble else "")
+        self.is_report_due = self.is_report_due or (owner.settings, owner.reporters) != before
         for role in watching.news_of_roles(self.known, self.ports.owner.roles):
             self.record(role)
         seen = self.ports.source.look()

@@ -4,7 +4,8 @@
     recorder.py ANSWERS MARKS PUSH PROGRAM ARGUMENT..
 
 ANSWERS gets a line for each answer, before the host has it. MARKS is a folder with a mark for each death, or `-` if nobody is to die. PUSH
-is a command that runs before the host has the first order to stage, or `-`. Of other jobs than `run` it takes no note.
+is a command that runs before the host has the first order to stage, or `-`. Of other jobs than `run` it takes no note, nor of a run over
+other records than the host's, by which it asks what a text of settings means.
 """
 import json
 import os
@@ -36,7 +37,7 @@ def end(bot):
 
 def main():
     answers, marks, push, *command = sys.argv[1:]
-    if command[1:2] != ["run"]:
+    if command[1:2] != ["run"] or not command[-1].endswith("/records/bot.db"):
         os.execv(command[0], command)
     host = os.getppid()
     bot = subprocess.Popen(command, stdin=subprocess.PIPE, stdout=subprocess.PIPE, bufsize=0)

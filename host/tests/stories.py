@@ -73,6 +73,8 @@ class Story:
     """A bare repository with a host, a clone, and people."""
 
     changes = range(1, 11)
+    # Whose pushes to the main branch past the queue are no findings of an audit.
+    may_push = ("ines",)
     # The checks of the stories write down outside of their clones what they find.
     sandbox = "off"
     # What the environment of the host has besides.
