@@ -305,6 +305,22 @@ class CommandTests(InHistory):
         self.assertIn("FINDING not approved: change 1 landed", printed)
         self.assertTrue(printed.endswith("; 1 finding\n"))
 
+    def test_what_is_about_no_step(self):
+        self.told.rows[1] = self.told.rows[1]._replace(number=50)
+        self.told.rows.sort()
+        merged = self.git("rev-parse", "main")
+        self.git("update-ref", "refs/heads/main", self.base)
+        printed = self.run_audit()[1]
+        for words in ("missing delivery: delivery 2 of", f"lost: batch 1 landed as {merged} "):
+            self.assertIn(f"FINDING {words}", printed)
+
+    def test_an_object_that_was_altered(self):
+        one, two = (self.git("hash-object", "-w", "--stdin", given=text) for text in ("2\n", "evil\n"))
+        os.replace(self.path / "objects" / two[:2] / two[2:], self.path / "objects" / one[:2] / one[2:])
+        status, printed = self.run_audit()
+        self.assertEqual(status, 1)
+        self.assertTrue(printed.startswith("FINDING object: not all of the main branch can be read"), printed)
+
     def test_a_branch_that_moves_meanwhile(self):
         """The two are read once more then."""
         merged = self.git("rev-parse", "main")

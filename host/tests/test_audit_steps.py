@@ -154,6 +154,24 @@ class LandingTests(unittest.TestCase):
         told.tell("base", commit=NEXT)
         self.assertEqual(kinds_of(known_of(told))[0], ("1", "landing", ["other report"]))
 
+    def test_two_orders_for_one_commit(self):
+        """The one that was reported as done counts, whichever it is."""
+        told = Told()
+        told.begin()
+        told.approve()
+        told.tell("refused", id=told.test(), batch=1)
+        told.landed(told.test(batch=2))
+        told.tell("status", land(batch=2), commit=MERGED, name="build", state="success")
+        self.assertEqual([(step.landing.land.batch, step.landing.name) for step in steps_of(known_of(told))], [(2, "status-13.0")])
+        self.found(told, [])
+
+    def test_what_has_landed_is_not_approved_any_more(self):
+        told = told_of_landing()
+        told.landed(told.test(batch=2, base=MERGED, commit=NEXT), NEXT)
+        walk = (FIRST, LANDED, Commit(NEXT, TREE, (MERGED, HEAD)))
+        known = known_of(told, walk, made={**MADE, NEXT: Remade(TREE)})
+        self.assertEqual(kinds_of(known), [("1", "landing", []), ("d", "landing", ["not approved"])])
+
     def test_a_journal_that_ends_before_the_report(self):
         told = Told()
         told.begin()
@@ -194,6 +212,19 @@ class MoveTests(unittest.TestCase):
         walk = (FIRST, LANDED, PUSHED, LAST, Commit("f" * 40, TREE, (LAST.name,)))
         due = [("1", "landing", []), ("d", "push", []), ("e", "push", ["past the queue"]), ("f", "stray", ["past the hook"])]
         self.assertEqual(kinds_of(known_of(told, walk)), due)
+
+    def test_from_the_middle_of_a_move(self):
+        told = told_of_landing()
+        self.moved(told, LAST.name, "ines")
+        known = known_of(told, (FIRST, LANDED, PUSHED, LAST))
+        self.assertEqual(kinds_of(known, NEXT), [("e", "push", ["past the queue"])])
+
+    def test_a_commit_that_was_brought_twice(self):
+        told = told_of_landing()
+        for commit, person in ((NEXT, "ines"), (MERGED, "otto"), (NEXT, "vera")):
+            self.moved(told, commit, person)
+        steps = steps_of(known_of(told, (FIRST, LANDED, PUSHED)))
+        self.assertEqual([(step.move.person, step.is_step) for step in steps[1:]], [("ines", True), ("otto", False), ("vera", False)])
 
     def test_what_the_journal_does_not_have(self):
         self.assertEqual(kinds_of(known_of(told_of_landing(), (FIRST, LANDED, PUSHED)))[1], ("d", "no order", ["no order"]))

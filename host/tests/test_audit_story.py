@@ -62,6 +62,7 @@ class EntryTests(unittest.TestCase):
     def test_other_answers(self):
         rows = [Row(number, 1, f"x-{number}", "", answer) for number, answer in enumerate(("[1]", None, "[2]", "[3]"))]
         self.assertEqual(differences(rows, ["[1]", "[7]", "[2]", "[3]"]), [])
+        self.assertEqual(len(differences(rows[:1], ["[1] "])), 1)
         found, = differences(rows, ["[1]", "[7]", "[5]", "[6]"])
         self.assertEqual((found.kind, found.about), ("answer", "x-2"))
         self.assertEqual(found.said, "the program answers x-2 by [5], and the journal has [2]. Of the later answers 1 differ too.")
@@ -140,11 +141,15 @@ class ApprovalTests(unittest.TestCase):
             ("a push", [say("bors r+"), away], None),
             ("a push and back", [say("bors r+"), away, back], None),
             ("a push of the same head", [say("bors r+"), back], rosa),
+            ("a push and back, without a notice", [say("bors r+"), tell("pushed", head=OTHER), back], None),
+            ("closed", [say("bors r+"), tell("closed")], None),
+            ("opened again", [say("bors r+"), tell("opened", author="otto", head=HEAD)], None),
             ("a push before", [away, back, say("bors r+")], rosa),
             ("an approval of another head", [away, say("bors r+"), back], None),
             ("closed and opened", [say("bors r+"), tell("closed"), tell("opened", author="otto", head=HEAD)], None),
             ("retry of nothing", [say("bors retry", False)], None),
             ("retry after a push", [say("bors r+"), away, back, say("bors retry")], rosa),
+            ("retry twice", [say("bors r+"), away, back, say("bors retry"), away, back, say("bors retry")], rosa),
             ("retry by another one", [say("bors r+"), away, back, say("bors retry", person="vera")], (("vera",), "vera")),
             ("retry of a list", [say("bors r=vera,milo"), away, back, say("bors retry")], vera),
             ("retry of a try", [say("bors r+"), away, back, say("bors try"), say("bors retry")], None),

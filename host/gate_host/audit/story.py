@@ -130,7 +130,7 @@ class Story:
         for act, reply in zip(acts, entry.replies):
             if reply.is_done:
                 self.take_act(entry, change, act)
-        # No command orders anything but by a fact that comes later.
+        # A command gives no orders. If an answer has some all the same, they come after it.
         self.take_orders(entry, [order for reply in entry.replies for order in reply.orders])
 
     def take_act(self, entry: Entry, change: int, act: Act) -> None:
