@@ -31,6 +31,9 @@ class FirstHours(Story):
         self.somebody_else_reports()
         self.bad_settings_do_not_land()
         self.a_push_past_the_queue_locks_it()
+        # Who made the last push is looked into a round later.
+        self.say("rosa", 3, "bors ping")
+        self.until_log(3, "gate: pong")
 
     def an_older_history_comes(self):
         self.first = self.commit(["-B", "main"], {**FILES, "bors.toml": 'status = ["build"]\n'}, "first")

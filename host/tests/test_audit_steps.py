@@ -271,10 +271,13 @@ class MoveTests(unittest.TestCase):
         self.moved(told, MERGED, "ines")
         self.moved(told, "9" * 40, "ines")
         walk = (FIRST, LANDED, Commit("8" * 40, TREE, (MERGED,)), Commit("9" * 40, TREE, ("8" * 40,)))
-        known = known_of(told, walk, allowed=("ines",))
+        known = known_of(told, walk)
         for start, due, gone in ((MERGED, [LAST.name], ["e", "1"]), ("8" * 40, [], []), ("9" * 40, [], [])):
             self.assertEqual([it.about for it in lost(known, start)], due)
             self.assertEqual([step.commit[0] for step in steps_of(known, start) if not step.is_step], gone)
+        # What somebody has replaced who is allowed, and what hadn't landed, is told as that push alone.
+        self.assertEqual(lost(known_of(told, walk, allowed=("ines",))), [])
+        self.assertEqual([it.about for it in lost(known_of(told, walk, allowed=("otto",)))], [LAST.name])
 
     def test_a_first_base_that_is_not_there_any_more(self):
         known = known_of(told_of_landing(), (LANDED._replace(parents=()), PUSHED))

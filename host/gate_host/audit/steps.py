@@ -245,13 +245,16 @@ def not_approved(commit: str, landing: Landing) -> Iterator[Finding]:
 
 
 def lost(known: Known, start: Optional[str] = None) -> List[Finding]:
-    """What the main branch had, by what was handed in, and has no more: a commit that isn't on its way by first parents."""
+    """What the main branch had, by what was handed in, and has no more: a commit that isn't on its way by first parents. What somebody
+    whose pushes are no findings has put another commit in the place of isn't lost, unless it had landed."""
     there = {commit.name for commit in known.walk}
     landed = {landing.land.commit: landing for landing in known.story.landings}
+    first = first_place(known, start)[1]
+    replaced = {move.before for move in moves_in(known, first) if move.person and move.person.lower() in known.allowed}
     found = {}
-    for base in known.story.bases[first_place(known, start)[1]:]:
-        if base.commit not in there:
-            landing = landed.get(base.commit)
+    for base in known.story.bases[first:]:
+        landing = landed.get(base.commit)
+        if base.commit not in there and (landing or base.commit not in replaced):
             what = f"batch {landing.land.batch} landed as {base.commit}" if landing else f"the {known.branch} branch was at {base.commit}"
             said = f"{what} ({base.id}), and the history of the branch has that no more"
             found[base.commit] = Finding("lost", said, base.commit)
