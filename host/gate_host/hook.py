@@ -46,7 +46,7 @@ def complaints_of(update: Update, pusher: str, places: Places, settings: Setting
     _, target = pointed_to(places.repository, branch)
     if target != branch:
         yield f"{branch} is another name of {target}, and a push to it would move that"
-    if branch == f"{BRANCHES}{settings.main}" and not may_move_main(before, pusher, places, settings):
+    if branch == f"{BRANCHES}{settings.main}" and not may_move_main(before, after, pusher, places, settings):
         yield f"{settings.main} moves by the queue alone. Push to a branch change/NUMBER, and have that approved"
     for name in (settings.staging, settings.trying):
         if branch == BRANCHES + name:
@@ -58,12 +58,12 @@ def complaints_of(update: Update, pusher: str, places: Places, settings: Setting
         yield from complaints_of_name(branch, settings)
 
 
-def may_move_main(before: str, pusher: str, places: Places, settings: Settings) -> bool:
+def may_move_main(before: str, after: str, pusher: str, places: Places, settings: Settings) -> bool:
     """Whether somebody may move the main branch from a commit. The first push makes the branch, and there is no queue yet. In the place of
     the commit with which `init` has made it a reviewer may push another history."""
     if is_nothing(before) or pusher in settings.may_push:
         return True
-    return before == places.first_commit() and read_roles(places.roles, places.owner).get(pusher) == "reviewer"
+    return not is_nothing(after) and before == places.first_commit() and read_roles(places.roles, places.owner).get(pusher) == "reviewer"
 
 
 def complaints_of_name(branch: str, settings: Settings) -> Iterator[str]:

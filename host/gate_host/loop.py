@@ -2,7 +2,7 @@
 import signal
 import time
 from dataclasses import replace
-from typing import Dict, List, Optional, Sequence, Union
+from typing import Dict, List, Optional, Sequence, Tuple, Union
 
 from .core import watching, words
 from .core.clock import ClockWatch
@@ -49,8 +49,9 @@ class Host:
         self.looking_until = 0.0
         # The heads of changes at the last look.
         self.heads: Dict[int, str] = {}
-        # Of what is tested, by its batch, why it fails before it is tested, or nothing; and what is to be said of the bot's settings.
-        self.objections: Dict[int, str] = {}
+        # Of what is tested, by its batch, as which check and why it fails before it is tested, or none; and what is to be said of the bot's
+        # settings.
+        self.objections: Dict[int, Optional[Tuple[str, str]]] = {}
         self.said_of_settings: List[str] = []
 
     # The loop
@@ -366,18 +367,18 @@ class Host:
         that is required now."""
         if test.batch not in self.objections:
             batches = [it.batch for it in self.known.tests.values()]
-            self.objections = {batch: why for batch, why in self.objections.items() if batch in batches}
+            self.objections = {batch: found for batch, found in self.objections.items() if batch in batches}
+            self.objections[test.batch] = None
             try:
-                self.objections[test.batch] = self.objection_to(test)
+                why, required = self.objection_to(test), self.ports.bot.read(self.known.taken).required
+                self.objections[test.batch] = (required[0], why) if why and required else None
             except Unable as fault:
-                # Whether it is tested doesn't rest on this.
-                self.objections[test.batch] = ""
+                # It is tested all the same.
                 complain(f"the settings of batch {test.batch} can't be looked at: {fault}")
-        why = self.objections[test.batch]
-        if why and not self.known.results.get(test.branch):
-            required = self.ports.bot.read(self.known.taken).required
-            self.record(Ended(test.batch, required[0], "failure", why, ""))
-        return bool(why)
+        found = self.objections[test.batch]
+        if found and not self.known.results.get(test.branch):
+            self.record(Ended(test.batch, found[0], "failure", found[1], ""))
+        return found is not None
 
     def objection_to(self, test: Test) -> str:
         """Why the settings in the merge of a batch would keep others from landing, or nothing."""

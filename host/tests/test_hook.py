@@ -62,6 +62,7 @@ class HookTests(InRepository):
         self.assertEqual(self.places.first_commit(), first)
         for person, before, due in (("rosa", first, 0), ("otto", first, 1), ("rosa", COMMIT, 1)):
             self.assertEqual(len(self.refused(before, COMMIT, "refs/heads/main", person)), due, (person, before))
+        self.assertEqual(len(self.refused(first, NOTHING, "refs/heads/main", "rosa")), 1)
 
     def test_a_push_never_ends_in_a_traceback(self):
         """Whatever of the host or its Python has moved."""
