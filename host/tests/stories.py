@@ -565,7 +565,7 @@ exec {git} "$@"
             self.said.append([27, "eve", taken or text])
             self.leave({"kind": "comment", "person": "eve", "change": 27, "text": text, "head": self.heads[27]})
         self.say("milo", 27, "bors ping")
-        self.told(27, "milo wrote:\n    > bors ping\n", "  gate: done\n")
+        self.told(27, "milo wrote:\n    > bors ping\n", "  gate: pong\n")
         want("how often the host was started", self.starts, starts)
 
     def leave(self, body):

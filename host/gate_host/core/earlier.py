@@ -1,8 +1,9 @@
 """What a journal of an earlier version knew, written down as one fact, with which the list of facts then begins."""
 import json
-from dataclasses import asdict
-from typing import TYPE_CHECKING, Dict, List, Union
+from dataclasses import asdict, astuple, replace
+from typing import TYPE_CHECKING, Any, Dict, List, Mapping, Tuple, Union
 
+from .commands import Command, Kind
 from .deliveries import Delivery, delivery_of
 from .facts import Upgraded
 from .orders import Json, Land, Order, Stage, order_in, table_in
@@ -26,8 +27,17 @@ def upgraded(known: "Known") -> Upgraded:
         "tests": [[it.branch, it.batch, it.commit] for it in known.tests.values()],
         "results": known.results,
         "waiting": [[it.line, table_of(it.order) if it.order else None, it.changes] for it in known.waiting],
+        "settings": known.settings, "taken": known.taken, "queued": list(known.queued.items()),
+        "people": [[change, it.author, it.approvers, it.last and list_of(it.last)] for change, it in known.people.items()],
+        "members": [[branch, [astuple(it) for it in batch.members]] for branch, batch in known.batches.items()],
+        "landings": [[it.batch, it.base, it.commit, [astuple(member) for member in it.members]] for it in known.landings.values()],
+        "landed_by": list(known.landed_by.items()),
     }
     return Upgraded(json.dumps(table, ensure_ascii=False))
+
+
+def list_of(command: Command) -> List[Json]:
+    return [command.kind.name, command.people, command.number]
 
 
 def table_of(order: Order) -> Dict[str, Json]:
@@ -56,6 +66,24 @@ def restore(known: "Known", fact: Upgraded) -> None:
     known.tests = {it[0]: Test(*it) for it in table["tests"]}
     known.results = {branch: dict(of) for branch, of in table["results"].items()}
     known.waiting = [waiting_in(line, order, changes) for line, order, changes in table["waiting"]]
+    restore_people(known, table)
+
+
+def restore_people(known: "Known", table: Mapping[str, Any]) -> None:
+    """Takes in what a fact has that was written by a later host alone."""
+    from .known import Landing, Member, People
+
+    def members_in(found: List[List[Any]]) -> Tuple[Member, ...]:
+        return tuple(Member(change, head, author, tuple(approvers)) for change, head, author, approvers in found)
+    known.settings, known.taken = table.get("settings"), table.get("taken", "")
+    known.queued = dict(table.get("queued", []))
+    for change, author, approvers, last in table.get("people", []):
+        known.people[change] = People(author, tuple(approvers), last and Command(Kind[last[0]], tuple(last[1]), last[2]))
+    for branch, members in table.get("members", []):
+        known.batches[branch] = replace(known.batches[branch], members=members_in(members))
+    for batch, base, commit, members in table.get("landings", []):
+        known.landings[commit] = Landing(batch, base, commit, members_in(members))
+    known.landed_by = dict(table.get("landed_by", []))
 
 
 def orders_to_do(found: Json) -> List[Union[Stage, Land]]:
