@@ -4,7 +4,7 @@ from dataclasses import fields
 
 from playing import A, B, C, DONE, LANDED, LANDING, ORDERED, Play, said_by, stage, with_orders
 from gate_host.core.earlier import restore, upgraded
-from gate_host.core.facts import MainSeen, Merged, PushTold, Queued, RoleGiven, Staged, Ticked, fact_in, kind_of, written
+from gate_host.core.facts import Labeled, MainSeen, Merged, PushTold, Queued, Reviewed, RoleGiven, Staged, Ticked, fact_in, kind_of, written
 from gate_host.core.known import Known
 
 # What may be forgotten: which batches have just ended, and which faults people were told of.
@@ -18,7 +18,8 @@ class EarlierTests(unittest.TestCase):
         for steps in (
             [], LANDED, LANDING, ORDERED, [*LANDING, (push,), (MainSeen(B, None), DONE)],
             [*LANDING, (Ticked(60), with_orders(stage(2, "trying", heads=((8, C),)))), (Merged("tick-9.0", C),)],
-            [*LANDED, (Queued(8, 3),), said_by(2, "rosa", "bors ping", DONE)],
+            [*LANDED, (Queued(8, 3),), said_by(2, "rosa", "bors ping", DONE), (Labeled(9, "wip"), DONE),
+             (Reviewed(9, "rosa", C, True), DONE)],
         ):
             known = Play(*steps).known
             # A delivery that has no answer yet, of each kind.

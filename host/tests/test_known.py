@@ -9,7 +9,7 @@ from gate_host.core.commands import Command, Kind
 from gate_host.core.duties import open_duties
 from gate_host.core.facts import (
     KINDS, Closed, Conflicted, Delayed, Ended, Faulted, MainSeen, Merged, Moved, MoverFound, NotMoved, Opened, Pushed, PushesForgotten,
-    PushTold, Queued, Reported, RoleGiven, Said, Staged, Ticked, kind_of,
+    PushTold, Labeled, Queued, Reported, Reviewed, RoleGiven, Said, Staged, Ticked, Unlabeled, kind_of,
 )
 from gate_host.core.known import MOST_CLAIMS, MOST_TOLD_MOVES, Change, Landing, Member, People, Test
 from gate_host.core.orders import Unread, answer_in
@@ -71,6 +71,17 @@ class KnownTests(unittest.TestCase):
             ([*approved, (Closed(7), DONE), (Opened(7, "vera", C), DONE)], People("vera", (), approve)),
         ):
             self.assertEqual(Play(*steps).known.people[7], due)
+
+    def test_labels_and_reviews(self):
+        labeled = [*BEFORE, (Labeled(7, "wip"), DONE), (Labeled(7, "b"), DONE)]
+        for steps, due in ((BEFORE, {}), (labeled, {7: {"wip", "b"}}), ([*labeled, (Unlabeled(7, "b"), DONE)], {7: {"wip"}}),
+                           ([*labeled, (Closed(7), DONE), (Opened(7, "vera", C), DONE)], {7: {"wip", "b"}})):
+            self.assertEqual(Play(*steps).known.labels, due)
+        opinions = (("rosa", True), ("milo", True), ("milo", False))
+        reviewed = [*BEFORE, *((Reviewed(7, person, B, approves), DONE) for person, approves in opinions)]
+        for steps, due in ((reviewed, {7: {"rosa": True, "milo": False}}), ([*reviewed, (Pushed(7, C), DONE)], {}),
+                           ([*reviewed, (Closed(7), DONE), (Opened(7, "vera", B), DONE)], {})):
+            self.assertEqual(Play(*steps).known.reviews, due)
 
     def test_what_has_landed(self):
         known = Play(*LANDED).known
@@ -155,7 +166,8 @@ class KnownTests(unittest.TestCase):
             (BEFORE, Closed(7), ["closed-5"]), (BEFORE, RoleGiven("otto", "member"), ["role-5"]),
             (STAGED, Faulted(1, "build", "why"), []), (ORDERED, Delayed("tick-5.0", "why"), []),
             (BEFORE, PushTold("n2", "ines", ((7, C),), ((A, B),)), []), (BEFORE, MoverFound(9, "ines"), []),
-            (BEFORE, PushesForgotten(5), []), (BEFORE, Queued(7, 1), []),
+            (BEFORE, PushesForgotten(5), []), (BEFORE, Queued(7, 1), []), (BEFORE, Labeled(7, "wip"), ["labeled-5"]),
+            (BEFORE, Unlabeled(7, "wip"), ["unlabeled-5"]), (BEFORE, Reviewed(7, "rosa", B, False), ["review-5"]),
             (STAGED, Reported("n3", "ci", C, "lint", "success", ""), ["status-8"]),
             (STAGED, Reported("n3", "ci", D, "lint", "success", ""), []),
             (BEFORE, Reported("n3", "ci", B, "lint", "pending", ""), ["status-5"]),

@@ -4,7 +4,9 @@ from dataclasses import astuple, replace
 
 from playing import A, B, C, D, E, DONE, Play, BEFORE, STAGED, LANDED
 from gate_host.core import watching
-from gate_host.core.facts import Closed, MainSeen, MoverFound, Pushed, PushesForgotten, PushTold, Queued, Reported, RoleGiven
+from gate_host.core.facts import (
+    Closed, Labeled, MainSeen, MoverFound, Pushed, PushesForgotten, PushTold, Queued, Reported, Reviewed, RoleGiven, Unlabeled,
+)
 from gate_host.core.known import Change
 from gate_host.core.notes import Report
 from gate_host.core.watching import Watch
@@ -114,6 +116,32 @@ class WatchTests(unittest.TestCase):
         ):
             found = watching.report_of(known, given, {"build"}, reporters)
             self.assertEqual(found if not due else due in found, Reported(*astuple(given)) if not due else True, given)
+
+    def test_labels(self):
+        play = Play(*BEFORE)
+        for labels, due in (
+            (["wip", "b"], [Labeled(7, "b"), Labeled(7, "wip")]), (["wip", "b"], []),
+            (["c", "wip"], [Labeled(7, "c"), Unlabeled(7, "b")]), ([], [Unlabeled(7, "c"), Unlabeled(7, "wip")]),
+        ):
+            found = watching.news_of_labels(play.known, 7, labels)
+            self.assertEqual(found, due)
+            for it in found:
+                play.add(it, DONE)
+
+    def test_reviews(self):
+        play = Play(*BEFORE, (RoleGiven("milo", "member"), DONE))
+        for reviews, due in (
+            ({"rosa": True, "ines": True, "eve": True, "milo": False}, [Reviewed(7, "rosa", B, True)]), ({"rosa": True}, []),
+            ({"rosa": False, "milo": True}, [Reviewed(7, "milo", B, True), Reviewed(7, "rosa", B, False)]),
+            ({"rosa": False}, [Reviewed(7, "milo", B, False)]), ({}, []),
+        ):
+            found = watching.news_of_reviews(play.known, 7, reviews)
+            self.assertEqual(found, due)
+            for it in found:
+                play.add(it, DONE)
+        play = Play(*BEFORE, (Reviewed(7, "rosa", B, True), DONE), (Pushed(7, C), DONE))
+        self.assertEqual(watching.news_of_reviews(play.known, 7, {}), [])
+        self.assertEqual(watching.news_of_reviews(play.known, 7, {"rosa": True}), [Reviewed(7, "rosa", C, True)])
 
     def test_in_which_batch_a_change_waits_is_told_once(self):
         play = Play(*BEFORE)

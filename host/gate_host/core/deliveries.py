@@ -5,7 +5,8 @@ from typing import TYPE_CHECKING, Dict, List, Mapping, Optional, Sequence, Tuple
 
 from .commands import command_lines
 from .facts import (
-    Closed, Conflicted, Ended, Fact, MainSeen, Moved, NotMoved, Opened, Pushed, Reported, RoleGiven, Said, Staged, Ticked,
+    Closed, Conflicted, Ended, Fact, Labeled, MainSeen, Moved, NotMoved, Opened, Pushed, Reported, Reviewed, RoleGiven, Said, Staged,
+    Ticked, Unlabeled,
 )
 from .notes import objection_to
 from .orders import Json, Land, Order, Stage
@@ -39,6 +40,8 @@ def delivered(number: int, fact: Fact, known: "Known") -> List[Delivery]:
         return delivered_of_main(number, fact, known)
     if isinstance(fact, (Opened, Pushed, Closed)):
         return delivered_of_change(number, fact, known)
+    if isinstance(fact, (Labeled, Unlabeled, Reviewed)):
+        return [delivered_of_people(number, fact)]
     if isinstance(fact, (Staged, Conflicted, Moved, NotMoved)):
         return delivered_of_outcome(fact, known)
     if isinstance(fact, Ended):
@@ -69,6 +72,12 @@ def delivered_of_change(number: int, fact: Union[Opened, Pushed, Closed], known:
     if isinstance(fact, Pushed) and known.phase(fact.change) != "landed":
         return [made("pushed", number, change=fact.change, head=fact.head)]
     return [made("closed", number, change=fact.change)] if isinstance(fact, Closed) else []
+
+
+def delivered_of_people(number: int, fact: Union[Labeled, Unlabeled, Reviewed]) -> Delivery:
+    if isinstance(fact, Reviewed):
+        return made("review", number, change=fact.change, person=fact.person, head=fact.head, approves=fact.approves)
+    return made("labeled" if isinstance(fact, Labeled) else "unlabeled", number, change=fact.change, label=fact.label)
 
 
 def delivered_of_outcome(fact: Union[Staged, Conflicted, Moved, NotMoved], known: "Known") -> List[Delivery]:

@@ -28,6 +28,8 @@ def upgraded(known: "Known") -> Upgraded:
         "results": known.results,
         "waiting": [[it.line, table_of(it.order) if it.order else None, it.changes] for it in known.waiting],
         "settings": known.settings, "taken": known.taken, "queued": list(known.queued.items()),
+        "labels": [[change, sorted(it)] for change, it in known.labels.items()],
+        "reviews": [[change, it] for change, it in known.reviews.items()],
         "people": [[change, it.author, it.approvers, it.last and list_of(it.last)] for change, it in known.people.items()],
         "members": [[branch, [astuple(it) for it in batch.members]] for branch, batch in known.batches.items()],
         "landings": [[it.batch, it.base, it.commit, [astuple(member) for member in it.members]] for it in known.landings.values()],
@@ -77,6 +79,8 @@ def restore_people(known: "Known", table: Mapping[str, Any]) -> None:
         return tuple(Member(change, head, author, tuple(approvers)) for change, head, author, approvers in found)
     known.settings, known.taken = table.get("settings"), table.get("taken", "")
     known.queued = dict(table.get("queued", []))
+    known.labels = {change: set(it) for change, it in table.get("labels", [])}
+    known.reviews = {change: dict(it) for change, it in table.get("reviews", [])}
     for change, author, approvers, last in table.get("people", []):
         known.people[change] = People(author, tuple(approvers), last and Command(Kind[last[0]], tuple(last[1]), last[2]))
     for branch, members in table.get("members", []):

@@ -50,6 +50,32 @@ class Closed:
 
 
 @dataclass(frozen=True)
+class Labeled:
+    """A change has a label that it hadn't."""
+
+    change: int
+    label: str
+
+
+@dataclass(frozen=True)
+class Unlabeled:
+    """A change has a label no more."""
+
+    change: int
+    label: str
+
+
+@dataclass(frozen=True)
+class Reviewed:
+    """A person has reviewed a change at a head, and approves it or doesn't."""
+
+    change: int
+    person: str
+    head: str
+    approves: bool
+
+
+@dataclass(frozen=True)
 class Said:
     """A person said something of a change, in a note. The head is the one that the writer has seen, empty if it is no commit, and none if
     the note doesn't say so. And whether the head that the change has then could be read whole."""
@@ -191,8 +217,8 @@ class Upgraded:
 
 
 Fact = Union[
-    RoleGiven, MainSeen, Opened, Pushed, Closed, Said, PushTold, MoverFound, PushesForgotten, Merged, Conflicted, Delayed, Staged, Ended,
-    Faulted, Reported, Queued, Moved, NotMoved, Ticked, Upgraded,
+    RoleGiven, MainSeen, Opened, Pushed, Closed, Labeled, Unlabeled, Reviewed, Said, PushTold, MoverFound, PushesForgotten, Merged,
+    Conflicted, Delayed, Staged, Ended, Faulted, Reported, Queued, Moved, NotMoved, Ticked, Upgraded,
 ]
 KINDS: Dict[str, Type[Fact]] = {kind.__name__: kind for kind in get_args(Fact)}
 

@@ -11,8 +11,8 @@ from .commands import REPEATED, Command, Kind, commands_in
 from .deliveries import Delivery, delivered
 from .earlier import restore
 from .facts import (
-    Closed, Conflicted, Delayed, Ended, Fact, Faulted, MainSeen, Merged, Moved, MoverFound, NotMoved, Opened, Pushed, PushesForgotten,
-    PushTold, Queued, Reported, RoleGiven, Said, Staged, Ticked,
+    Closed, Conflicted, Delayed, Ended, Fact, Faulted, Labeled, MainSeen, Merged, Moved, MoverFound, NotMoved, Opened, Pushed,
+    PushesForgotten, PushTold, Queued, Reported, Reviewed, RoleGiven, Said, Staged, Ticked, Unlabeled,
 )
 from .notes import objection_to
 from .orders import Answer, Denied, Land, Notice, Order, Stage, Unread, is_done, orders_of
@@ -123,6 +123,9 @@ class Known:
     ended: int = 0
     changes: Dict[int, Change] = field(default_factory=dict)
     people: Dict[int, People] = field(default_factory=dict)
+    # The labels of each change, and who was told to approve the head that it has, or not.
+    labels: Dict[int, Set[str]] = field(default_factory=dict)
+    reviews: Dict[int, Dict[str, bool]] = field(default_factory=dict)
     # In which batch each change was seen to wait last.
     queued: Dict[int, int] = field(default_factory=dict)
     # What has landed, by its commits, in their order; and by which commit each change has.
@@ -207,6 +210,8 @@ class Known:
             return self.take_check(fact)
         if isinstance(fact, (Said, Reported, Queued)):
             return self.take_news(fact)
+        if isinstance(fact, (Labeled, Unlabeled, Reviewed)):
+            return self.take_opinion(fact)
         if isinstance(fact, (PushTold, MoverFound, PushesForgotten)):
             self.take_push(at, fact)
         elif isinstance(fact, RoleGiven):
@@ -229,6 +234,15 @@ class Known:
         objection = [Told(fact.change, f"Not taken: {why}")] if why else []
         return [Told(fact.change, words.quoted(fact.person, fact.text)), *objection]
 
+    def take_opinion(self, fact: Union[Labeled, Unlabeled, Reviewed]) -> List[Told]:
+        if isinstance(fact, Reviewed):
+            self.reviews.setdefault(fact.change, {})[fact.person] = fact.approves
+        elif isinstance(fact, Labeled):
+            self.labels.setdefault(fact.change, set()).add(fact.label)
+        else:
+            self.labels.get(fact.change, set()).discard(fact.label)
+        return []
+
     def take_main(self, number: int, at: int, fact: MainSeen) -> None:
         if self.base and fact.commit != self.base:
             self.moves[number] = Move(number, at, self.base, fact.commit)
@@ -241,6 +255,8 @@ class Known:
         before = self.changes.get(fact.change)
         people = self.people_of(fact.change)
         self.people[fact.change] = replace(people, approvers=(), author=fact.author if isinstance(fact, Opened) else people.author)
+        # A head that moves ends all reviews, also if it comes back.
+        self.reviews.pop(fact.change, None)
         if isinstance(fact, Closed):
             self.changes[fact.change] = Change("closed", before.head if before else "")
             return []

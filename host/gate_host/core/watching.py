@@ -4,7 +4,7 @@ from dataclasses import dataclass, field
 from itertools import count
 from typing import Collection, Container, Dict, Iterable, List, Mapping, Optional, Set, Tuple, Union
 
-from .facts import Closed, Fact, MoverFound, Pushed, PushesForgotten, Queued, Reported, RoleGiven
+from .facts import Closed, Fact, Labeled, MoverFound, Pushed, PushesForgotten, Queued, Reported, Reviewed, RoleGiven, Unlabeled
 from .known import Known, Move
 from .notes import Report
 
@@ -87,6 +87,21 @@ def news_of_head(known: Known, change: int, head: str) -> Optional[Fact]:
     """Whether a change that was there before is at another head."""
     found = known.changes.get(change)
     return Pushed(change, head) if found and found.phase != "closed" and found.head != head else None
+
+
+def news_of_labels(known: Known, change: int, labels: Collection[str]) -> List[Fact]:
+    """Which labels of a change weren't told yet, and which it has no more."""
+    before = known.labels.get(change, set())
+    return [*(Labeled(change, it) for it in sorted({*labels} - before)), *(Unlabeled(change, it) for it in sorted(before - {*labels}))]
+
+
+def news_of_reviews(known: Known, change: int, reviews: Mapping[str, bool]) -> List[Reviewed]:
+    """Whose reviews of the head that a change has weren't told yet, and who approves it no more. Only people with a role review, and nobody
+    the own change: the bot denies all others, and would deny them at each look."""
+    people, before, head = known.people_of(change), known.reviews.get(change, {}), known.head_of(change)
+    taken = {it for it in reviews if known.roles.get(it, "nobody") != "nobody" and it != people.author}
+    new = [Reviewed(change, it, head, reviews[it]) for it in sorted(taken) if before.get(it, False) != reviews[it]]
+    return new + [Reviewed(change, it, head, False) for it in sorted(before) if before[it] and it not in reviews]
 
 
 def gone(known: Known, heads: Container[int]) -> List[Closed]:
