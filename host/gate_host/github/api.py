@@ -1,0 +1,163 @@
+"""GitHub's API over HTTPS. Each request is one question, and nothing waits here: if GitHub wants to be left alone for a while, or doesn't
+answer, `Later` says so, and whoever asked goes on with other work."""
+import time
+from dataclasses import dataclass
+from typing import Callable, Dict, Iterator, Mapping, Optional, Union
+
+import httpx
+
+from ..core.orders import Json
+from ..faults import Unable
+from .credentials import Credentials
+from .pauses import pause_after, pause_after_fault
+
+ACCEPTED = "application/vnd.github+json"
+VERSION = "2022-11-28"
+SECONDS = 20.0
+# A list has at most so many pages. More than that nobody has open at a time.
+MOST_PAGES = 200
+PER_PAGE = 100
+# What was answered before is kept of so many questions, so that an answer which is the same costs nothing of the limit.
+MOST_KEPT = 2000
+Value = Union[str, int]
+
+
+class Later(Unable):
+    """GitHub can't be asked for now."""
+
+
+class Unanswered(Later):
+    """A request was sent and not answered: it may have acted, or not."""
+
+
+class Refused(Unable):
+    """GitHub refuses what was asked, with its status and its words."""
+
+    def __init__(self, status: int, said: str):
+        super().__init__(f"GitHub answers {status}: {said}")
+        self.status = status
+
+
+@dataclass(frozen=True)
+class Kept:
+    """An answer with the tag by which GitHub knows it, and where the next page is."""
+
+    tag: str
+    body: Json
+    next: Optional[str]
+
+
+class Api:
+    """The API of one GitHub."""
+
+    def __init__(
+        self, address: str, credentials: Credentials, client: Optional[httpx.Client] = None, now: Callable[[], float] = time.time,
+    ):
+        self.address = address.rstrip("/")
+        self.credentials = credentials
+        # Nothing of the environment leads a request elsewhere, and no answer sends it on with its token.
+        self.client = client or httpx.Client(timeout=SECONDS, trust_env=False, follow_redirects=False)
+        self.now = now
+        self.not_before, self.faults = 0.0, 0
+        self.kept: Dict[str, Kept] = {}
+
+    def get(self, path: str, **query: Value) -> Json:
+        """What GitHub answers to a question."""
+        return self.page(self.place_of(path, query)).body
+
+    def all(self, path: str, **query: Value) -> Iterator[Json]:
+        """The entries of a list, on however many pages it stands."""
+        place: Optional[str] = self.place_of(path, {"per_page": PER_PAGE, **query})
+        for _ in range(MOST_PAGES):
+            if place is None:
+                return
+            page = self.page(place)
+            if not isinstance(page.body, list):
+                raise Refused(200, f"no list at {path}")
+            yield from page.body
+            place = page.next
+        raise Refused(200, f"more than {MOST_PAGES} pages at {path}")
+
+    def post(self, path: str, body: Mapping[str, Json]) -> Json:
+        """Has something made. `Unanswered` says that it may have been."""
+        response = self.sent("POST", self.place_of(path, {}), {}, body)
+        return json_of(response)
+
+    def close(self) -> None:
+        self.client.close()
+
+    # One request
+
+    def place_of(self, path: str, query: Mapping[str, Value]) -> str:
+        return str(httpx.URL(f"{self.address}{path}", params=dict(query)) if query else f"{self.address}{path}")
+
+    def page(self, place: str) -> Kept:
+        known = self.kept.get(place)
+        response = self.sent("GET", place, {"If-None-Match": known.tag} if known else {})
+        if response.status_code == 304 and known:
+            return known
+        found = Kept(response.headers.get("etag", ""), json_of(response), self.next_of(response))
+        self.kept.pop(place, None)
+        if found.tag:
+            self.kept = dict(list(self.kept.items())[-MOST_KEPT:]) if len(self.kept) > 2 * MOST_KEPT else self.kept
+            self.kept[place] = found
+        return found
+
+    def next_of(self, response: httpx.Response) -> Optional[str]:
+        """Where the next page of a list is. A place elsewhere than here gets no token."""
+        place = response.links.get("next", {}).get("url")
+        if place is not None and not place.startswith(f"{self.address}/"):
+            raise Refused(200, "the next page of a list is elsewhere")
+        return place
+
+    def sent(self, method: str, place: str, headers: Mapping[str, str], body: Optional[Mapping[str, Json]] = None) -> httpx.Response:
+        """The response to a request. If the credentials weren't taken, it is sent once more with new ones: then it hasn't acted."""
+        for is_again in (False, True):
+            response = self.tried(method, place, {**headers, "Authorization": self.credentials.header()}, body)
+            if response.status_code != 401 or is_again:
+                break
+            self.credentials.refused()
+        if response.status_code >= 300 and response.status_code != 304:
+            raise Refused(response.status_code, words_of(response))
+        return response
+
+    def tried(self, method: str, place: str, headers: Mapping[str, str], body: Optional[Mapping[str, Json]]) -> httpx.Response:
+        if self.now() < self.not_before:
+            raise Later(f"GitHub is asked again in {self.not_before - self.now():.0f} seconds")
+        given = {"Accept": ACCEPTED, "X-GitHub-Api-Version": VERSION, "User-Agent": "gate-host", **headers}
+        try:
+            response = self.client.request(method, place, headers=given, json=body)
+        except httpx.ConnectError as fault:
+            self.wait(pause_after_fault(self.faults))
+            raise Later(f"GitHub can't be reached: {fault}") from fault
+        except httpx.HTTPError as fault:
+            self.wait(pause_after_fault(self.faults))
+            raise Unanswered(f"GitHub didn't answer: {fault or type(fault).__name__}") from fault
+        pause = pause_after(response.status_code, response.headers, self.now(), self.faults)
+        if pause is not None:
+            self.wait(pause, response.status_code >= 500)
+            kind = Unanswered if response.status_code >= 500 else Later
+            raise kind(f"GitHub answers {response.status_code}, and is asked again in {pause:.0f} seconds")
+        self.faults = 0
+        return response
+
+    def wait(self, pause: float, is_fault: bool = True) -> None:
+        self.not_before = self.now() + pause
+        self.faults += is_fault
+
+
+def json_of(response: httpx.Response) -> Json:
+    try:
+        return response.json()
+    except ValueError as fault:
+        raise Refused(response.status_code, "something that is no JSON") from fault
+
+
+def words_of(response: httpx.Response) -> str:
+    """The message of a refusal, and nothing else of what came."""
+    try:
+        body = response.json()
+    except ValueError:
+        return response.reason_phrase
+    message = body.get("message") if isinstance(body, dict) else None
+    return message[:300] if isinstance(message, str) else response.reason_phrase
