@@ -1,0 +1,129 @@
+"""Tests of the receiver of webhooks at its socket, and of the spool between it and the host."""
+import hmac
+import http.client
+import json
+import os
+import socket
+import sys
+import tempfile
+import threading
+import unittest
+from hashlib import sha256
+from pathlib import Path
+from unittest import mock
+
+sys.path.insert(0, str(Path(__file__).resolve().parent.parent))
+
+from gate_host.github import hints  # noqa: E402
+from gate_host.github.hints import Hint, hint_in, is_waiting, take  # noqa: E402
+from gate_host.github.receiver import PLACE, serve  # noqa: E402
+
+try:
+    import waitress
+except ImportError:
+    waitress = None
+
+SECRET = "correct horse"
+BODY = json.dumps({"action": "opened", "number": 7, "pull_request": {"number": 7}}).encode()
+
+
+def signed(body, secret=SECRET):
+    return {"X-Hub-Signature-256": f"sha256={hmac.new(secret.encode(), body, sha256).hexdigest()}"}
+
+
+@unittest.skipIf(waitress is None, "waitress isn't installed")
+class SocketTests(unittest.TestCase):
+    def setUp(self):
+        room = tempfile.TemporaryDirectory()
+        self.addCleanup(room.cleanup)
+        self.folder = Path(room.name)
+        servers = []
+        create = waitress.create_server
+
+        def created(*given, **options):
+            servers.append(create(*given, **options))
+            return servers[0]
+        began = threading.Event()
+        with mock.patch.object(waitress, "create_server", created):
+            thread = threading.Thread(target=serve, args=(SECRET, self.folder, "127.0.0.1:0", lambda said: began.set()), daemon=True)
+            thread.start()
+            self.assertTrue(began.wait(20))
+        # It ends with the tests.
+        self.port = servers[0].effective_port
+
+    def post(self, body, headers, method="POST", place=PLACE):
+        connection = http.client.HTTPConnection("127.0.0.1", self.port, timeout=20)
+        self.addCleanup(connection.close)
+        try:
+            connection.request(method, place, body, headers)
+        except ConnectionError:
+            # It was answered before all of it was sent.
+            return 413
+        return connection.getresponse().status
+
+    def left(self):
+        return sorted(it.read_bytes() for it in self.folder.iterdir())
+
+    def test_what_is_signed_is_kept(self):
+        self.assertEqual((self.post(BODY, signed(BODY)), self.left()), (202, [BODY]))
+        # One that comes again, by whoever has seen it, has the host look again.
+        self.assertEqual((self.post(BODY, signed(BODY)), self.left()), (202, [BODY, BODY]))
+
+    def test_what_is_refused_leaves_nothing(self):
+        big = b'{"a":"' + b"x" * (2 * 1048576) + b'"}'
+        for body, headers, due in (
+            (BODY, {}, 401), (BODY, signed(BODY, "wrong"), 401), (BODY, signed(BODY + b" "), 401), (BODY, signed(BODY, ""), 401),
+            (BODY, {"X-Hub-Signature-256": signed(BODY)["X-Hub-Signature-256"].upper()}, 401),
+            (BODY, {"X-Hub-Signature": "sha1=" + "0" * 40}, 401), (BODY, {"X-Hub-Signature-256": "sha256=é".encode("latin-1")}, 401),
+            (b"x", signed(b"x"), 400), (b"[]", signed(b"[]"), 400), (b"\xff", signed(b"\xff"), 400), (b"", signed(b""), 400),
+            (b"[" * 100000, signed(b"[" * 100000), 400), (big, signed(big), 413),
+        ):
+            self.assertEqual(self.post(body, headers), due, (body[:40], headers))
+        for method, place, due in (("GET", PLACE, 405), ("POST", "/", 404), ("POST", f"{PLACE}/x", 404), ("PUT", PLACE, 405)):
+            self.assertEqual(self.post(BODY, signed(BODY), method, place), due, (method, place))
+        self.assertEqual(self.left(), [])
+
+    def test_a_client_that_stops_leaves_nothing(self):
+        with socket.create_connection(("127.0.0.1", self.port), 20) as client:
+            head = f"POST {PLACE} HTTP/1.1\r\nHost: x\r\nContent-Length: {len(BODY)}\r\n"
+            client.sendall((head + "".join(f"{name}: {value}\r\n" for name, value in signed(BODY).items()) + "\r\n").encode() + BODY[:-1])
+        self.assertEqual((self.post(BODY, {}), self.left()), (401, []))
+
+    def test_no_more_than_so_many_wait(self):
+        with mock.patch.object(hints, "MOST_WAITING", 2):
+            self.assertEqual([self.post(BODY, signed(BODY)) for _ in range(3)], [202, 202, 503])
+        self.assertEqual(len(self.left()), 2)
+
+    def test_a_disk_that_is_full_is_told(self):
+        with mock.patch.object(os, "fsync", side_effect=OSError(28, "No space left on device")):
+            self.assertEqual(self.post(BODY, signed(BODY)), 503)
+        self.assertEqual(self.left(), [])
+
+
+class HintTests(unittest.TestCase):
+    def test_where_to_look(self):
+        commit = "a" * 40
+        for body, due in (
+            ({"number": 7, "pull_request": {"number": 7}}, Hint(frozenset({7}))), ({"issue": {"number": 8}}, Hint(frozenset({8}))),
+            ({"sha": commit}, Hint(commits=frozenset({commit}))), ({"check_run": {"head_sha": commit}}, Hint(commits=frozenset({commit}))),
+            ({"check_suite": {"head_sha": commit}}, Hint(commits=frozenset({commit}))), ({"ref": "refs/heads/main"}, Hint()),
+            ({"number": True, "sha": 7, "issue": 7, "pull_request": {"number": -1}}, Hint()), ({"issue": {"number": 2 ** 40}}, Hint()),
+            ([], Hint()), (7, Hint()),
+        ):
+            self.assertEqual(hint_in(json.dumps(body).encode()), due, body)
+        for body in (b"", b"\xff", b"[" * 100000):
+            self.assertEqual(hint_in(body), Hint())
+
+    def test_what_lies_there_is_taken_once(self):
+        with tempfile.TemporaryDirectory() as room:
+            folder = Path(room)
+            self.assertEqual((is_waiting(folder), take(folder)), (False, Hint()))
+            for body in (b'{"number":7}', b'{"number":8}', b'{"number":7}', b"x"):
+                hints.leave(folder, body)
+            (folder / f"{hints.NAME_OF_PART}x").write_bytes(b'{"number":9}')
+            self.assertEqual((is_waiting(folder), take(folder)), (True, Hint(frozenset({7, 8}))))
+            self.assertEqual((is_waiting(folder), take(folder)), (False, Hint()))
+
+
+if __name__ == "__main__":
+    unittest.main()
