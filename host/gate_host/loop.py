@@ -2,13 +2,15 @@
 import signal
 import time
 from dataclasses import replace
-from typing import Dict, List, Optional, Sequence, Tuple, Union
+from typing import Dict, List, Mapping, Optional, Sequence, Tuple, Union
 
 from .core import watching, words
 from .core.clock import ClockWatch
 from .core.deliveries import touched
 from .core.duties import Duty, Merge, Move, Point, open_duties
-from .core.facts import Delayed, Ended, Fact, Faulted, MainSeen, Merged, Moved, NotMoved, Opened, PushTold, Said, Staged, Ticked
+from .core.facts import (
+    Delayed, Ended, Fact, Faulted, HeadDated, MainSeen, Merged, Moved, NotMoved, Opened, PushTold, Said, Staged, Ticked,
+)
 from .core.known import Batch, Known, Test
 from .core.commands import command_lines
 from .core.notes import Acceptance, Comment, Note, Report, Strange, objection_to
@@ -17,7 +19,7 @@ from .core.watching import Watch
 from .core.words import MOST_IN_SETTINGS, listed
 from .faults import Unable
 from .journal import Heard
-from .ports import Fault, Ports, Result
+from .ports import Detail, Fault, Ports, Result
 from .troubles import Troubles, complain
 
 PAUSE_SECONDS = 0.1
@@ -49,6 +51,7 @@ class Host:
         self.looking_until = 0.0
         # The heads of changes at the last look.
         self.heads: Dict[int, str] = {}
+        self.details: Mapping[int, Detail] = {}
         # Of what is tested, by its batch, as which check and why it fails before it is tested, or none; and what is to be said of the bot's
         # settings.
         self.objections: Dict[int, Optional[Tuple[str, str]]] = {}
@@ -212,7 +215,7 @@ class Host:
             self.record(MainSeen(seen.main, self.ports.repository.settings_at(seen.main, MOST_IN_SETTINGS)))
             self.watch.note_moves(self.known)
         self.look_at_settings()
-        self.heads = seen.heads
+        self.heads, self.details = seen.heads, seen.details
         self.look_at_changes(self.watch.pick(self.known, seen.heads))
         self.drop_branches()
 
@@ -260,8 +263,20 @@ class Host:
                 self.record(moved)
             elif watching.is_new(self.known, change):
                 self.open(change, head)
+            self.look_at_detail(change, head)
         for closed in watching.gone(self.known, self.heads):
             self.record(closed)
+
+    def look_at_detail(self, change: int, head: str) -> None:
+        """Writes down what a code host says of an open change besides its head."""
+        detail, known = self.details.get(change), self.known
+        if detail is None or known.phase(change) != "open" or known.head_of(change) != head:
+            return
+        if known.dated.get(change, ("", 0))[0] != head:
+            self.record(HeadDated(change, head, detail.dated))
+        news = [*watching.news_of_labels(known, change, detail.labels), *watching.news_of_reviews(known, change, detail.reviews)]
+        for fact in news:
+            self.record(fact)
 
     def fetch(self, heads: Dict[int, str]) -> None:
         """Has new heads here at once. One that can't come is fetched when it is needed, or told then."""
@@ -274,7 +289,10 @@ class Host:
     def open(self, change: int, head: str) -> None:
         """Opens a change for whoever pushed it. A hook tells of that before the branch moves, so its note is there in the next round at
         the latest."""
-        author = self.watch.author(self.known, change, head, self.owner or "nobody", self.ports.source.has_more)
+        detail = self.details.get(change)
+        author: Optional[str] = detail.author if detail else None
+        if detail is None:
+            author = self.watch.author(self.known, change, head, self.owner or "nobody", self.ports.source.has_more)
         if author is None:
             self.next_look = 0.0
         else:
@@ -325,7 +343,8 @@ class Host:
         if comment.change not in self.known.changes:
             complain(f"a note of {comment.person} is no comment on a change")
         elif not self.ports.journal.has_taken(comment.note):
-            said = Said(comment.note, comment.change, comment.person, comment.text, comment.seen)
+            seen = comment.seen if comment.written is None else watching.seen_by(self.known, comment.change, comment.written)
+            said = Said(comment.note, comment.change, comment.person, comment.text, seen)
             self.record(said if self.is_readable(said) else replace(said, is_readable=False))
         return True
 

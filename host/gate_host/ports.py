@@ -1,5 +1,5 @@
 """The ports: what the host touches, one concern each. The bare repository is the first set of them; `bare` puts it together."""
-from dataclasses import dataclass
+from dataclasses import dataclass, field
 from typing import Dict, FrozenSet, Iterable, List, Mapping, Optional, Protocol, Sequence, Tuple, Union
 
 from .core.deliveries import Delivery
@@ -12,12 +12,25 @@ from .settings import Settings
 
 
 @dataclass(frozen=True)
+class Detail:
+    """What a code host says of a change besides its head: who opened it, its labels, whether people approve this head, and since when it
+    has it at the latest, by the clock of the code host."""
+
+    author: str
+    labels: Tuple[str, ...]
+    reviews: Mapping[str, bool]
+    dated: int
+
+
+@dataclass(frozen=True)
 class Look:
-    """What a look has seen: the commit of the main branch, if it is there, the heads of the changes, and what is in the way."""
+    """What a look has seen: the commit of the main branch, if it is there, the heads of the changes, and what is in the way. And what else
+    is known of changes, if their source knows more than branches."""
 
     main: Optional[str]
     heads: Dict[int, str]
     in_way: Sequence[str] = ()
+    details: Mapping[int, Detail] = field(default_factory=dict)
 
 
 @dataclass(frozen=True)

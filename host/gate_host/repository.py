@@ -47,9 +47,19 @@ class Repository:
         # The branches on which the host stages, by the names that the bot has for them.
         self.staged_on = {"staging": BRANCHES + staging, "trying": BRANCHES + trying}
         self.mirror, self.window = places.mirror, places.window
-        settings = settings_in_file(places.repository / "config")
         make_mirror(self.mirror)
-        make_window(self.window, places.repository, logs_of(settings), shared_by(settings), places.is_shared())
+        # From where commits come, and where branches are moved.
+        self.remote = self.found()
+
+    def found(self) -> str:
+        """Finds the guarded repository, and gives by what git reaches it."""
+        settings = settings_in_file(self.places.repository / "config")
+        make_window(self.window, self.places.repository, logs_of(settings), shared_by(settings), self.places.is_shared())
+        return str(self.window)
+
+    def credentials(self) -> Dict[str, str]:
+        """What the environment of git has besides, so that it reaches the guarded repository."""
+        return {}
 
     def ask(
         self, *arguments: str, seconds: float = SECONDS, more: Optional[Dict[str, str]] = None, given: bytes = b"",
@@ -85,8 +95,8 @@ class Repository:
     def fetched(self, heads: Mapping[str, str]) -> Ran:
         places = "".join(f"+{commit}:{FETCHED}{name}\n" for name, commit in heads.items())
         return run_git(
-            self.mirror, "fetch", "--quiet", "--no-tags", "--no-write-fetch-head", "--stdin", str(self.window), given=places.encode(),
-            seconds=SECONDS_FOR_OBJECTS,
+            self.mirror, "fetch", "--quiet", "--no-tags", "--no-write-fetch-head", "--stdin", self.remote, given=places.encode(),
+            seconds=SECONDS_FOR_OBJECTS, more=self.credentials(),
         )
 
     def all_fetched(self) -> Dict[str, str]:
@@ -183,8 +193,8 @@ class Repository:
         before the commit would have git move it in any case."""
         lease = f"--force-with-lease={branch}:{before or ''}"
         return run_git(
-            self.mirror, "push", "--quiet", "--porcelain", lease, str(self.window), f"{commit}:{branch}", held=held,
-            seconds=SECONDS_FOR_OBJECTS,
+            self.mirror, "push", "--quiet", "--porcelain", lease, self.remote, f"{commit}:{branch}", held=held,
+            seconds=SECONDS_FOR_OBJECTS, more=self.credentials(),
         )
 
     def stage(self, name: str, commit: str, before: Optional[str], is_own: bool) -> Optional[str]:
@@ -195,17 +205,23 @@ class Repository:
         self.keep(f"staged/{name}", commit)
         kept = None
         if before and before != commit and not is_own:
-            kept = f"{KEPT}{name}/{before}"
-            ask_git(self.window, "update-ref", kept, before)
+            kept = self.keep_others(name, before)
         if before != commit:
             ran = self.push(commit, branch, before)
             if ran.status != 0:
                 raise GitFailed(f"{branch} can't be moved: {reason_in(ran)}")
         return kept
 
+    def keep_others(self, name: str, commit: str) -> str:
+        """Keeps what somebody else has put on a branch of the host, and gives under which name."""
+        kept = f"{KEPT}{name}/{commit}"
+        ask_git(self.window, "update-ref", kept, commit)
+        return kept
+
     def drop_branch(self, branch: str, at: str) -> None:
         """Takes a branch of the guarded repository away, if it is at exactly this commit."""
-        ran = run_git(self.mirror, "push", "--quiet", "--porcelain", f"--force-with-lease={branch}:{at}", str(self.window), f":{branch}")
+        lease = f"--force-with-lease={branch}:{at}"
+        ran = run_git(self.mirror, "push", "--quiet", "--porcelain", lease, self.remote, f":{branch}", more=self.credentials())
         if ran.status != 0:
             raise GitFailed(f"{branch} can't be deleted: {reason_in(ran)}")
 

@@ -2,9 +2,11 @@
 import unittest
 from dataclasses import fields
 
-from playing import A, B, C, DONE, LANDED, LANDING, ORDERED, Play, said_by, stage, with_orders
+from playing import A, B, C, DONE, LANDED, LANDING, ORDERED, STAGED, Play, said_by, stage, with_orders
 from gate_host.core.earlier import restore, upgraded
-from gate_host.core.facts import Labeled, MainSeen, Merged, PushTold, Queued, Reviewed, RoleGiven, Staged, Ticked, fact_in, kind_of, written
+from gate_host.core.facts import (
+    fact_in, HeadDated, kind_of, Labeled, MainSeen, Merged, PushTold, Queued, Reported, Reviewed, RoleGiven, Staged, Ticked, written,
+)
 from gate_host.core.known import Known
 
 # What may be forgotten: which batches have just ended, and which faults people were told of.
@@ -18,8 +20,8 @@ class EarlierTests(unittest.TestCase):
         for steps in (
             [], LANDED, LANDING, ORDERED, [*LANDING, (push,), (MainSeen(B, None), DONE)],
             [*LANDING, (Ticked(60), with_orders(stage(2, "trying", heads=((8, C),)))), (Merged("tick-9.0", C),)],
-            [*LANDED, (Queued(8, 3),), said_by(2, "rosa", "bors ping", DONE), (Labeled(9, "wip"), DONE),
-             (Reviewed(9, "rosa", C, True), DONE)],
+            [*LANDED, (Queued(8, 3),), said_by(2, "rosa", "bors ping", DONE), (Labeled(9, "wip"), DONE), (HeadDated(7, C, 5),),
+             (Reviewed(9, "rosa", C, True), DONE)], [*STAGED, (Reported("n", "ci", C, "lint", "error", ""), DONE)],
         ):
             known = Play(*steps).known
             # A delivery that has no answer yet, of each kind.

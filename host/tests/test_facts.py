@@ -3,8 +3,9 @@ import unittest
 
 from playing import A, B, C
 from gate_host.core.facts import (
-    Closed, Conflicted, Delayed, Ended, fact_in, Faulted, kind_of, KINDS, MainSeen, Merged, Moved, MoverFound, NotMoved, Opened,
-    Pushed, PushesForgotten, PushTold, Labeled, Queued, Reported, Reviewed, RoleGiven, Said, Staged, Ticked, Unlabeled, Upgraded, written,
+    Closed, Conflicted, Delayed, Ended, fact_in, Faulted, HeadDated, kind_of, KINDS, Labeled, MainSeen, Merged, Moved, MoverFound,
+    NotMoved, Opened, Pushed, PushesForgotten, PushTold, Queued, Reported, Reviewed, RoleGiven, Said, Staged, Ticked, Unlabeled, Upgraded,
+    written,
 )
 from gate_host.core.orders import Unread
 
@@ -18,7 +19,7 @@ class FactTests(unittest.TestCase):
             Ended(1, "build", "error", "said", "1-0-build"), Faulted(1, "build", "said"), Moved("status-1.0", "main"),
             NotMoved("status-1.0"),
             Reported("n", "ci", C, "tests", "pending", "at 7"), Queued(7, 3),
-            Labeled(7, "wip"), Unlabeled(7, "wip"), Reviewed(7, "rosa", B, True), Ticked(5), Upgraded("{}"),
+            HeadDated(7, B, 5), Labeled(7, "wip"), Unlabeled(7, "wip"), Reviewed(7, "rosa", B, True), Ticked(5), Upgraded("{}"),
         ]
         self.assertEqual({kind_of(fact) for fact in facts}, set(KINDS))
         for fact in facts:

@@ -8,8 +8,8 @@ from gate_host.core import words
 from gate_host.core.commands import Command, Kind
 from gate_host.core.duties import open_duties
 from gate_host.core.facts import (
-    KINDS, Closed, Conflicted, Delayed, Ended, Faulted, MainSeen, Merged, Moved, MoverFound, NotMoved, Opened, Pushed, PushesForgotten,
-    PushTold, Labeled, Queued, Reported, Reviewed, RoleGiven, Said, Staged, Ticked, Unlabeled, kind_of,
+    Closed, Conflicted, Delayed, Ended, Faulted, HeadDated, kind_of, KINDS, Labeled, MainSeen, Merged, Moved, MoverFound, NotMoved,
+    Opened, Pushed, PushesForgotten, PushTold, Queued, Reported, Reviewed, RoleGiven, Said, Staged, Ticked, Unlabeled,
 )
 from gate_host.core.known import MOST_CLAIMS, MOST_TOLD_MOVES, Change, Landing, Member, People, Test
 from gate_host.core.orders import Unread, answer_in
@@ -166,7 +166,8 @@ class KnownTests(unittest.TestCase):
             (BEFORE, Closed(7), ["closed-5"]), (BEFORE, RoleGiven("otto", "member"), ["role-5"]),
             (STAGED, Faulted(1, "build", "why"), []), (ORDERED, Delayed("tick-5.0", "why"), []),
             (BEFORE, PushTold("n2", "ines", ((7, C),), ((A, B),)), []), (BEFORE, MoverFound(9, "ines"), []),
-            (BEFORE, PushesForgotten(5), []), (BEFORE, Queued(7, 1), []), (BEFORE, Labeled(7, "wip"), ["labeled-5"]),
+            (BEFORE, PushesForgotten(5), []), (BEFORE, Queued(7, 1), []), (BEFORE, HeadDated(7, B, 5), []),
+            (BEFORE, Labeled(7, "wip"), ["labeled-5"]),
             (BEFORE, Unlabeled(7, "wip"), ["unlabeled-5"]), (BEFORE, Reviewed(7, "rosa", B, False), ["review-5"]),
             (STAGED, Reported("n3", "ci", C, "lint", "success", ""), ["status-8"]),
             (STAGED, Reported("n3", "ci", D, "lint", "success", ""), []),

@@ -28,6 +28,7 @@ def upgraded(known: "Known") -> Upgraded:
         "results": known.results,
         "waiting": [[it.line, table_of(it.order) if it.order else None, it.changes] for it in known.waiting],
         "settings": known.settings, "taken": known.taken, "queued": list(known.queued.items()),
+        "dated": [[change, *it] for change, it in known.dated.items()], "reported": known.reported,
         "labels": [[change, sorted(it)] for change, it in known.labels.items()],
         "reviews": [[change, it] for change, it in known.reviews.items()],
         "people": [[change, it.author, it.approvers, it.last and list_of(it.last)] for change, it in known.people.items()],
@@ -79,6 +80,8 @@ def restore_people(known: "Known", table: Mapping[str, Any]) -> None:
         return tuple(Member(change, head, author, tuple(approvers)) for change, head, author, approvers in found)
     known.settings, known.taken = table.get("settings"), table.get("taken", "")
     known.queued = dict(table.get("queued", []))
+    known.dated = {change: (head, at) for change, head, at in table.get("dated", [])}
+    known.reported = {commit: dict(states) for commit, states in table.get("reported", {}).items()}
     known.labels = {change: set(it) for change, it in table.get("labels", [])}
     known.reviews = {change: dict(it) for change, it in table.get("reviews", [])}
     for change, author, approvers, last in table.get("people", []):

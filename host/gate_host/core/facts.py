@@ -50,6 +50,15 @@ class Closed:
 
 
 @dataclass(frozen=True)
+class HeadDated:
+    """A change is at a head since this time at the latest, by the clock of the code host, in seconds since 1970."""
+
+    change: int
+    head: str
+    at: int
+
+
+@dataclass(frozen=True)
 class Labeled:
     """A change has a label that it hadn't."""
 
@@ -217,8 +226,8 @@ class Upgraded:
 
 
 Fact = Union[
-    RoleGiven, MainSeen, Opened, Pushed, Closed, Labeled, Unlabeled, Reviewed, Said, PushTold, MoverFound, PushesForgotten, Merged,
-    Conflicted, Delayed, Staged, Ended, Faulted, Reported, Queued, Moved, NotMoved, Ticked, Upgraded,
+    RoleGiven, MainSeen, Opened, Pushed, Closed, HeadDated, Labeled, Unlabeled, Reviewed, Said, PushTold, MoverFound, PushesForgotten,
+    Merged, Conflicted, Delayed, Staged, Ended, Faulted, Reported, Queued, Moved, NotMoved, Ticked, Upgraded,
 ]
 KINDS: Dict[str, Type[Fact]] = {kind.__name__: kind for kind in get_args(Fact)}
 

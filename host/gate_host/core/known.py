@@ -11,7 +11,7 @@ from .commands import REPEATED, Command, Kind, commands_in
 from .deliveries import Delivery, delivered
 from .earlier import restore
 from .facts import (
-    Closed, Conflicted, Delayed, Ended, Fact, Faulted, Labeled, MainSeen, Merged, Moved, MoverFound, NotMoved, Opened, Pushed,
+    Closed, Conflicted, Delayed, Ended, Fact, Faulted, HeadDated, Labeled, MainSeen, Merged, Moved, MoverFound, NotMoved, Opened, Pushed,
     PushesForgotten, PushTold, Queued, Reported, Reviewed, RoleGiven, Said, Staged, Ticked, Unlabeled,
 )
 from .notes import objection_to
@@ -125,6 +125,10 @@ class Known:
     people: Dict[int, People] = field(default_factory=dict)
     # The labels of each change, and who was told to approve the head that it has, or not.
     labels: Dict[int, Set[str]] = field(default_factory=dict)
+    # Since when each change is at the head that it has, by the clock of the code host.
+    dated: Dict[int, Tuple[str, int]] = field(default_factory=dict)
+    # What was reported of commits that are tested, or heads of open changes: the states by the names.
+    reported: Dict[str, Dict[str, str]] = field(default_factory=dict)
     reviews: Dict[int, Dict[str, bool]] = field(default_factory=dict)
     # In which batch each change was seen to wait last.
     queued: Dict[int, int] = field(default_factory=dict)
@@ -210,7 +214,7 @@ class Known:
             return self.take_check(fact)
         if isinstance(fact, (Said, Reported, Queued)):
             return self.take_news(fact)
-        if isinstance(fact, (Labeled, Unlabeled, Reviewed)):
+        if isinstance(fact, (Labeled, Unlabeled, Reviewed, HeadDated)):
             return self.take_opinion(fact)
         if isinstance(fact, (PushTold, MoverFound, PushesForgotten)):
             self.take_push(at, fact)
@@ -234,8 +238,10 @@ class Known:
         objection = [Told(fact.change, f"Not taken: {why}")] if why else []
         return [Told(fact.change, words.quoted(fact.person, fact.text)), *objection]
 
-    def take_opinion(self, fact: Union[Labeled, Unlabeled, Reviewed]) -> List[Told]:
-        if isinstance(fact, Reviewed):
+    def take_opinion(self, fact: Union[Labeled, Unlabeled, Reviewed, HeadDated]) -> List[Told]:
+        if isinstance(fact, HeadDated):
+            self.dated[fact.change] = (fact.head, fact.at)
+        elif isinstance(fact, Reviewed):
             self.reviews.setdefault(fact.change, {})[fact.person] = fact.approves
         elif isinstance(fact, Labeled):
             self.labels.setdefault(fact.change, set()).add(fact.label)
@@ -352,6 +358,8 @@ class Known:
     def take_report(self, fact: Reported) -> List[Told]:
         """Takes in what somebody reports of a commit. That a check has begun isn't told."""
         told: List[Told] = []
+        self.reported = {commit: states for commit, states in self.reported.items() if self.changes_at(commit)}
+        self.reported.setdefault(fact.commit, {})[fact.name] = fact.state
         for test in self.tests_of(fact.commit):
             self.results.setdefault(test.branch, {})[fact.name] = fact.state
             batch = self.batch_of(test.batch)

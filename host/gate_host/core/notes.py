@@ -31,6 +31,8 @@ class Comment:
     change: int
     text: str
     seen: Optional[str]
+    # When it was written, by the clock of a code host whose comments name no head.
+    written: Optional[int] = None
 
 
 @dataclass(frozen=True)

@@ -104,6 +104,19 @@ def news_of_reviews(known: Known, change: int, reviews: Mapping[str, bool]) -> L
     return new + [Reviewed(change, it, head, False) for it in sorted(before) if before[it] and it not in reviews]
 
 
+def seen_by(known: Known, change: int, written: int) -> str:
+    """The head that the writer of a comment has seen, by the time at which it was written: the one that the change has, if it came before
+    that; else none. In the same second it may have come after."""
+    head, at = known.dated.get(change, ("", 0))
+    return head if head == known.head_of(change) and written > at else ""
+
+
+def news_of_statuses(known: Known, commit: str, states: Mapping[str, str]) -> List[str]:
+    """Of which names the state on a commit wasn't told yet. One that is pending from the first is no news."""
+    before = known.reported.get(commit, {})
+    return [name for name, state in states.items() if before.get(name, "pending") != state]
+
+
 def gone(known: Known, heads: Container[int]) -> List[Closed]:
     """The open changes that aren't there any more."""
     return [Closed(change) for change, it in known.changes.items() if it.phase == "open" and change not in heads]
