@@ -79,8 +79,7 @@ class AfterLandings:
         self.set_mark(landing.commit)
 
     def set_mark(self, mark: str) -> None:
-        with self.journal.step():
-            self.journal.set_mark(MARK, mark)
+        self.journal.put_mark(MARK, mark)
         self.mark = mark
 
     def close(self) -> None:

@@ -199,7 +199,17 @@ class Journal:
     def set_mark(self, name: str, value: str) -> None:
         self.database.execute("INSERT OR REPLACE INTO marks VALUES (?, ?)", (name, value))
 
+    def put_mark(self, name: str, value: str) -> None:
+        """Sets a mark, in a step of its own."""
+        with self.step():
+            self.set_mark(name, value)
+
     # What people are told
+
+    def told_after(self, number: int, most: int) -> List[Tuple[int, int, str]]:
+        """What was told after so many, up to a number of them: each with its number, and of which change."""
+        query = "SELECT number, change, text FROM told WHERE number > ? ORDER BY number LIMIT ?"
+        return self.database.execute(query, (number, most)).fetchall()
 
     def tell(self, at: int, told: Sequence[Told]) -> None:
         rows = [(change, at, text) for change, text in told]

@@ -110,7 +110,8 @@ class HintTests(unittest.TestCase):
             ({"number": True, "sha": 7, "issue": 7, "pull_request": {"number": -1}}, Hint()), ({"issue": {"number": 2 ** 40}}, Hint()),
             ([], Hint()), (7, Hint()),
         ):
-            self.assertEqual(hint_in(json.dumps(body).encode()), due, body)
+            found = hint_in(json.dumps(body).encode())
+            self.assertEqual((found.changes, found.commits), (due.changes, due.commits), body)
         for body in (b"", b"\xff", b"[" * 100000):
             self.assertEqual(hint_in(body), Hint())
 
@@ -121,7 +122,7 @@ class HintTests(unittest.TestCase):
             for body in (b'{"number":7}', b'{"number":8}', b'{"number":7}', b"x"):
                 hints.leave(folder, body)
             (folder / f"{hints.NAME_OF_PART}x").write_bytes(b'{"number":9}')
-            self.assertEqual((is_waiting(folder), take(folder)), (True, Hint(frozenset({7, 8}))))
+            self.assertEqual((is_waiting(folder), take(folder)), (True, Hint(frozenset({7, 8}), frozenset(), True)))
             self.assertEqual((is_waiting(folder), take(folder)), (False, Hint()))
 
 

@@ -6,7 +6,7 @@ from typing import Callable, Dict, Iterator, Mapping, Optional, Union
 
 import httpx
 
-from ..core.orders import Json
+from ..core.orders import Json, list_in, table_in
 from ..faults import Unable
 from .credentials import Credentials
 from .pauses import pause_after, pause_after_fault
@@ -75,6 +75,17 @@ class Api:
             if not isinstance(page.body, list):
                 raise Refused(200, f"no list at {path}")
             yield from page.body
+            place = page.next
+        raise Refused(200, f"more than {MOST_PAGES} pages at {path}")
+
+    def entries(self, path: str, name: str, **query: Value) -> Iterator[Json]:
+        """The entries of a list that stands within an object, under a name."""
+        place: Optional[str] = self.place_of(path, {"per_page": PER_PAGE, **query})
+        for _ in range(MOST_PAGES):
+            if place is None:
+                return
+            page = self.page(place)
+            yield from list_in(table_in(page.body).get(name))
             place = page.next
         raise Refused(200, f"more than {MOST_PAGES} pages at {path}")
 

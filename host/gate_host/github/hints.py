@@ -24,6 +24,8 @@ class Hint:
 
     changes: FrozenSet[int] = frozenset()
     commits: FrozenSet[str] = frozenset()
+    # Whether anything came at all.
+    is_some: bool = False
 
 
 class Full(Exception):
@@ -65,7 +67,7 @@ def take(folder: Path) -> Hint:
 
 def joined(hints: Sequence[Hint]) -> Hint:
     changes, commits = ({it for hint in hints for it in getattr(hint, name)} for name in ("changes", "commits"))
-    return Hint(frozenset(changes), frozenset(commits))
+    return Hint(frozenset(changes), frozenset(commits), bool(hints))
 
 
 def is_waiting(folder: Path) -> bool:
@@ -86,7 +88,7 @@ def hint_in(body: bytes) -> Hint:
     commits = [value_in(found, *path) for path in (("sha",), ("check_run", "head_sha"), ("check_suite", "head_sha"))]
     return Hint(
         frozenset(it for it in numbers if isinstance(it, int) and is_number(it)),
-        frozenset(it for it in commits if isinstance(it, str) and is_commit(it)),
+        frozenset(it for it in commits if isinstance(it, str) and is_commit(it)), True,
     )
 
 
