@@ -13,6 +13,18 @@ ENVIRONMENT = {
     "PATH": os.environ.get("PATH", "/usr/bin:/bin"), "HOME": "/nonexistent", "LC_ALL": "C.UTF-8", "GIT_CONFIG_NOSYSTEM": "1",
     "GIT_CONFIG_GLOBAL": "/dev/null",
 }
+# As GitHub has it: nobody pushes to the refs of pull requests, and each commit may be asked for by its name.
+SETTINGS = """\
+[http]
+    receivepack = true
+[receive]
+    hideRefs = refs/pull
+[uploadpack]
+    allowAnySHA1InWant = true
+    allowFilter = true
+[gc]
+    auto = 0
+"""
 # Refuses what the lines of PUSH_RULES forbid who pushes, each ref by itself. A line has a code, a kind of move, the refs that it is
 # about, and the words for it.
 UPDATE = """\
@@ -83,12 +95,8 @@ class Bare:
             timeout=SECONDS, capture_output=True,
         )
         made = cls(path)
-        # As GitHub does: nobody pushes to the refs of pull requests, and each commit may be asked for by its name.
-        for key, value in (
-            ("http.receivepack", "true"), ("receive.hideRefs", "refs/pull"), ("uploadpack.allowAnySHA1InWant", "true"),
-            ("uploadpack.allowFilter", "true"), ("gc.auto", "0"), ("core.logAllRefUpdates", "false"),
-        ):
-            made.git("config", key, value)
+        with open(path / "config", "a", encoding="utf-8") as config:
+            config.write(SETTINGS)
         hook = path / "hooks/update"
         hook.parent.mkdir(exist_ok=True)
         hook.write_text(UPDATE, encoding="utf-8")

@@ -74,13 +74,13 @@ class People:
             repository.rulesets.append(ruleset)
             return ruleset
 
-    def install_app(self, owner: Who, slug: str, public_key: str, permissions: Optional[dict] = None) -> App:
-        """Installs the app for all repositories of an owner."""
+    def install_app(self, owner: Who, slug: str, public_key: str = "", permissions: Optional[dict] = None) -> App:
+        """Installs the app for all repositories of an owner. Without a key it can't sign tokens itself."""
         with self.world.lock:
             bot = self.world.user(f"{slug}[bot]", "Bot")
             # Nobody has a token of a bot but by the app.
             bot.token = ""
-            app = App(self.world.next_id(), slug, self.user(owner), bot, *numbers_in(public_key))
+            app = App(self.world.next_id(), slug, self.user(owner), bot, *(numbers_in(public_key) if public_key else ()))
             app.installation, app.created_at = self.world.next_id(), self.world.clock.now()
             if permissions is not None:
                 app.permissions = dict(permissions)

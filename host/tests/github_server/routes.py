@@ -146,6 +146,8 @@ class Routes:
             Route("GET", f"{commits}/statuses", "repos/list-commit-statuses-for-ref", statuses, self.list_statuses, "statuses"),
             Route("GET", f"{commits}/check-runs", "checks/list-for-ref", checks, self.list_check_runs, "checks"),
             Route("GET", f"{own}/check-runs/{{number}}", "checks/get", checks, self.get_check_run, "checks"),
+            # The same by its older address, which GitHub still serves.
+            Route("GET", f"{own}/statuses/{{ref}}", "repos/list-commit-statuses-for-ref", statuses, self.list_statuses, "statuses"),
             Route("POST", f"{own}/statuses/{{ref}}", "repos/create-commit-status", statuses, self.create_status, "statuses", "write",
                   "write"),
             Route("GET", commits, "repos/get-commit", "/commits/commits", self.get_commit, "contents"),

@@ -56,6 +56,13 @@ class GitHub:
         self.thread = threading.Thread(target=self.server.serve_forever, kwargs={"poll_interval": 0.05}, name="server", daemon=True)
         self.thread.start()
 
+    def installation_token(self) -> str:
+        """A new token of the installation, without asking for it over HTTP."""
+        app = self.world.app
+        if app is None:
+            raise LookupError("no app is installed")
+        return self.tokens.give(app, dict(app.permissions), None).text
+
     def __enter__(self) -> "GitHub":
         return self
 
