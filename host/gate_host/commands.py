@@ -12,6 +12,8 @@ from .audit.audit import audit
 from .bare import run_host
 from .doctor import checks_of, stray_named
 from .git import GitFailed
+from .github import starting
+from .github.settings import read_github
 from .hook import before_push
 from .core.commands import command_lines
 from .core.notes import (
@@ -68,12 +70,18 @@ def add_jobs_of_owner(jobs: "argparse._SubParsersAction[argparse.ArgumentParser]
     job.add_argument("--main", metavar="BRANCH", help="the branch to guard (usually that of HEAD)")
     job.add_argument("--staging", metavar="BRANCH", help="where the host puts what is tested for landings (usually staging)")
     job.add_argument("--trying", metavar="BRANCH", help="where the host puts what is tested for tries (usually trying)")
+    job.add_argument("--github", metavar="OWNER/REPOSITORY", help="the repository is on GitHub, and REPOSITORY a new folder for its host")
     job.add_argument("--take", action="store_true", help="take the branches staging and trying, and give those that are there other names")
 
     job = jobs.add_parser("run", help="guard a repository until a signal ends it", description=(
         "Starts the bot and guards the repository. SIGTERM ends it in order; killed in any other way, it goes on at the next start."))
     job.add_argument("repository", metavar="REPOSITORY")
     job.add_argument("--again", action="store_true", help="hand the whole journal in again, whatever the bot's file has")
+
+    job = jobs.add_parser("receive", help="take the webhooks of GitHub", description=(
+        "Takes webhooks at an address of this machine, and leaves them for the host. It is a process of its own, with nothing but the "
+        "secret of the webhook."))
+    job.add_argument("repository", metavar="REPOSITORY")
 
     job = jobs.add_parser("doctor", help="say what is right with a repository and its host, and what to do", description=(
         "Looks at all that the promise of the host rests on: the hook, the branches, what git reads, the records, the sandbox. The status "
@@ -157,7 +165,10 @@ def main(words: List[str]) -> int:
 def init(arguments: argparse.Namespace) -> int:
     os.umask(0o022)
     must_read_tables()
-    set_up(Path(arguments.repository).resolve(), arguments)
+    if arguments.github:
+        starting.set_up_github(Path(arguments.repository).resolve(), arguments)
+    else:
+        set_up(Path(arguments.repository).resolve(), arguments)
     return 0
 
 
@@ -175,7 +186,22 @@ def run(arguments: argparse.Namespace) -> int:
     must_read_tables()
     if os.geteuid() == 0:
         complain("this runs as root, and so does each check; better let a user of its own own the repository")
-    run_host(places, arguments.again)
+    github = read_github(places.settings, os.geteuid())
+    if github:
+        starting.run(places, github, arguments.again)
+    else:
+        run_host(places, arguments.again)
+    return 0
+
+
+def receive(arguments: argparse.Namespace) -> int:
+    places = Places(Path(arguments.repository).resolve())
+    must_be_own(places.repository)
+    must_be_safe(places)
+    github = read_github(places.settings, os.geteuid())
+    if github is None:
+        raise Trouble(f"{places.settings} says nothing of GitHub; gate-host init --github begins with that")
+    starting.receive(places, github)
     return 0
 
 
@@ -342,4 +368,5 @@ def plain_lines(text: str) -> str:
 JOBS = {
     "init": init, "run": run, "doctor": look_after, "say": say, "queue": show_queue, "change": show_change, "log": show_log,
     "hook": look_at_push, "ssh": serve_by_ssh, "status": report_status, "audit": audit,
+    "receive": receive,
 }

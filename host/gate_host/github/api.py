@@ -129,7 +129,7 @@ class Api:
                 break
             self.credentials.refused()
         if response.status_code >= 300 and response.status_code != 304:
-            raise Refused(response.status_code, words_of(response))
+            raise Refused(response.status_code, f"{words_of(response)} ({method} {httpx.URL(place).path})")
         return response
 
     def tried(self, method: str, place: str, headers: Mapping[str, str], body: Optional[Mapping[str, Json]]) -> httpx.Response:

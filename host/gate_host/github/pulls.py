@@ -89,8 +89,8 @@ class PullRequests:
     # What is there
 
     def look(self) -> Look:
-        found = table_in(self.asked(lambda: self.api.get(f"{self.path}/git/ref/heads/{self.main}")))
-        main = commit_in(table_in(found.get("object")), "sha")
+        found = self.asked(lambda: table_in(self.api.get(f"{self.path}/branches/{self.main}")))
+        main = self.asked(lambda: commit_in(table_in(found.get("commit")), "sha"))
         pulls = self.asked(lambda: [pull_request_in(it) for it in self.api.all(f"{self.path}/pulls", state="open", base=self.main)])
         changes = {it.number: it for it in pulls if it.is_open and not it.is_draft and it.base == self.main}
         details = {number: self.detail_of(it) for number, it in changes.items()}

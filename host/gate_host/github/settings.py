@@ -66,7 +66,8 @@ def github_in(text: str) -> Optional[GitHubSettings]:
     found = GitHubSettings(
         table.get("repository", ""), table.get("api", "https://api.github.com").rstrip("/"),
         table.get("web", "https://github.com").rstrip("/"), path_of(table.get("token")), table.get("app", ""),
-        table.get("installation", ""), path_of(table.get("key")), path_of(table.get("webhook_secret")), table.get("listen", "127.0.0.1:8097"),
+        table.get("installation", ""), path_of(table.get("key")), path_of(table.get("webhook_secret")),
+        table.get("listen", "127.0.0.1:8097"),
     )
     must_be_right(found)
     return found
