@@ -49,7 +49,8 @@ class WithHost(WithGitHub):
 
     def host_once(self, *words):
         ran = subprocess.run(
-            [sys.executable, HOST, *map(str, words)], env=self.environment(), capture_output=True, encoding="utf-8", timeout=60, check=False,
+            [sys.executable, HOST, *map(str, words)], env=self.environment(), capture_output=True, encoding="utf-8", timeout=60,
+            check=False,
         )
         self.assertEqual(ran.returncode, 0, ran.stderr)
         return ran.stdout

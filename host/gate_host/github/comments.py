@@ -27,8 +27,10 @@ class Comments:
 
     def __init__(self, reports: Reports, journal: Journal, api: Api, path: str, key: str):
         self.reports, self.journal, self.api, self.path, self.key = reports, journal, api, path, key.encode()
-        before = journal.mark(POSTED)
-        self.posted = int(before) if before else journal.count_told()
+        if not journal.mark(POSTED):
+            # What was told before the first start isn't posted any more.
+            journal.put_mark(POSTED, str(journal.count_told()))
+        self.posted = int(journal.mark(POSTED))
         # Whether the next comment may be there already: its request wasn't answered, or a host of before may have died after it.
         self.is_doubtful = True
         self.lost = ""
