@@ -28,7 +28,8 @@ def upgraded(known: "Known") -> Upgraded:
         "results": known.results,
         "waiting": [[it.line, table_of(it.order) if it.order else None, it.changes] for it in known.waiting],
         "settings": known.settings, "taken": known.taken, "queued": list(known.queued.items()),
-        "people": [[change, it.author, it.approvers, it.last and list_of(it.last)] for change, it in known.people.items()],
+        "over": sorted(known.over),
+        "people": [[change, it.author, it.approvers, it.said_by, it.last and list_of(it.last)] for change, it in known.people.items()],
         "members": [[branch, [astuple(it) for it in batch.members]] for branch, batch in known.batches.items()],
         "landings": [[it.batch, it.base, it.commit, [astuple(member) for member in it.members]] for it in known.landings.values()],
         "landed_by": list(known.landed_by.items()),
@@ -74,11 +75,15 @@ def restore_people(known: "Known", table: Mapping[str, Any]) -> None:
     from .known import Landing, Member, People
 
     def members_in(found: List[List[Any]]) -> Tuple[Member, ...]:
-        return tuple(Member(change, head, author, tuple(approvers)) for change, head, author, approvers in found)
+        return tuple(Member(change, head, author, tuple(approvers), by) for change, head, author, approvers, by in found)
     known.settings, known.taken = table.get("settings"), table.get("taken", "")
+    if "taken" not in table:
+        # They are told again, which does nothing, and are known then.
+        known.settings_of = ""
     known.queued = dict(table.get("queued", []))
-    for change, author, approvers, last in table.get("people", []):
-        known.people[change] = People(author, tuple(approvers), last and Command(Kind[last[0]], tuple(last[1]), last[2]))
+    known.over = set(table.get("over", []))
+    for change, author, approvers, said_by, last in table.get("people", []):
+        known.people[change] = People(author, tuple(approvers), said_by, last and Command(Kind[last[0]], tuple(last[1]), last[2]))
     for branch, members in table.get("members", []):
         known.batches[branch] = replace(known.batches[branch], members=members_in(members))
     for batch, base, commit, members in table.get("landings", []):
