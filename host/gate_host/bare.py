@@ -49,6 +49,8 @@ class OwnerFiles:
         self.reporters: Mapping[str, FrozenSet[str]] = read_reporters(places.reporters, owner)
         self.main = self.settings.main
         self.first = places.first_commit()
+        # Nobody can review a branch.
+        self.has_reviews = False
 
     def read(self) -> List[Tuple[str, str]]:
         must_be_safe(self.places)

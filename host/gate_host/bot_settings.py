@@ -7,11 +7,12 @@ strange texts. Nothing is decided by them.
 import difflib
 import importlib
 import re
-from typing import Dict, List, Tuple
+from pathlib import Path
+from typing import Dict, List, Optional, Tuple
 
 from .core.words import plain
 from .ports import Reading
-from .required import required_statuses
+from .required import Wanted, wanted_of
 
 # The keys of the bot, and what each takes.
 KEYS = {
@@ -31,16 +32,16 @@ MOST_SHOWN = 100
 NO_TOML, NO_STATUS = 1, 2
 
 
-def read_settings(program: str, text: str) -> Reading:
-    """What the bot reads in a text. `Unable` says that the program can't tell."""
-    found = required_statuses(program, text)
+def read_settings(program: str, text: str, room: Optional[Path] = None) -> Reading:
+    """What the bot reads in a text, by runs of the program in a room. `Unable` says that it can't tell."""
+    found = wanted_of(program, text, room)
     remarks = tuple(map(remark_on, unknown_keys(text)))
-    if isinstance(found, list):
-        return Reading(tuple(found), "", remarks)
-    return Reading((), refusal_in_words(program, text, found), remarks)
+    if isinstance(found, Wanted):
+        return Reading(tuple(found.statuses), tuple(found.pr_statuses), found.approvals, "", remarks)
+    return Reading(refusal=refusal_in_words(program, text, found, room), remarks=remarks)
 
 
-def refusal_in_words(program: str, text: str, number: int) -> str:
+def refusal_in_words(program: str, text: str, number: int, room: Optional[Path]) -> str:
     """Why a text is refused."""
     if number == NO_TOML:
         return f"it is no TOML{fault_in(text)}"
@@ -48,7 +49,7 @@ def refusal_in_words(program: str, text: str, number: int) -> str:
         return "it has no key status, which names what has to succeed"
     for key, part in parts_of(text).items():
         alone = part if key == "status" else f'status = ["x"]\n{part}'
-        if key in KEYS and not isinstance(required_statuses(program, alone), list):
+        if key in KEYS and not isinstance(wanted_of(program, alone, room), Wanted):
             value = " ".join(part.partition("=")[2].split())[:MOST_SHOWN]
             return f"{key} = {plain(value)} isn't taken; it has to be {KEYS[key]}"
     return "a key of it has a value that isn't taken"

@@ -17,7 +17,8 @@ from .github.settings import read_github
 from .hook import before_push
 from .core.commands import command_lines
 from .core.notes import (
-    MOST_IN_COMMENT, MOST_IN_DESCRIPTION, STATES, AcceptanceLeft, CommentLeft, ReportLeft, is_commit, is_name_of_status,
+    MOST_IN_COMMENT, MOST_IN_DESCRIPTION, STATES, AcceptanceLeft, CommentLeft, ReportLeft, is_commit, is_description,
+    is_name_of_status,
 )
 from .core.words import plain
 from .locks import is_locked
@@ -268,8 +269,8 @@ def report_status(arguments: argparse.Namespace) -> int:
     commit, name, more = arguments.commit.lower(), arguments.name, arguments.description
     if not is_commit(commit):
         raise Trouble("a commit has 40 digits here")
-    if not is_name_of_status(name) or len(more) > MOST_IN_DESCRIPTION:
-        raise Trouble(f"the bot takes no such name of a status, or the description has more than {MOST_IN_DESCRIPTION} characters")
+    if not is_name_of_status(name) or not is_description(more):
+        raise Trouble(f"the bot takes no such name of a status, or the description isn't a line of {MOST_IN_DESCRIPTION} characters")
     if who is None or who not in read_reporters(places.reporters, places.owner).get(name, ()):
         raise Trouble(f"{who or 'your user'} isn't named as a reporter of {name}; the owner adds a line to {places.reporters}")
     if name in read_settings(places.settings, places.owner).checks:

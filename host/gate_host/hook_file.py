@@ -18,8 +18,9 @@ FORM = f"""\
 python={{python}}
 host={{host}}
 [ -x "$python" ] || python=$(command -v python3)
-[ -r "$host" ] || host=$(command -v gate-host)
-[ -x "$python" ] && [ -r "$host" ] && exec "$python" "$host" hook --repository .
+[ -r "$host" ] && [ -x "$python" ] && exec "$python" "$host" hook --repository .
+# One that was installed knows its own Python.
+host=$(command -v gate-host) && exec "$host" hook --repository .
 echo "gate: this push can't be looked at: its Python or gate-host has moved. The owner runs gate-host init here again." >&2
 exit 1
 """

@@ -1,5 +1,6 @@
 """The bot, kept running: it is started anew if it has ended, and gets what it lacks of the journal."""
 import os
+import shutil
 import time
 from typing import Callable, Dict, Optional, Tuple
 
@@ -10,6 +11,7 @@ from .faults import Trouble
 from .journal import Journal
 from .places import Places
 from .ports import Reading
+from .required import FOLDER
 from .troubles import complain
 
 # How often the bot is started again before the host gives up. The pauses grow up to ten seconds.
@@ -28,6 +30,8 @@ class KeptBot:
         self.bot: Optional[Bot] = None
         # What it reads in texts of settings, by the program and the text.
         self.readings: Dict[Tuple[str, str], Reading] = {}
+        for left in places.records.glob(f"{FOLDER}*"):
+            shutil.rmtree(left, ignore_errors=True)
 
     def must_belong_to_journal(self) -> None:
         """The journal and the file of the bot are of one history."""
@@ -60,7 +64,7 @@ class KeptBot:
         if (program, settings) not in self.readings:
             # Few texts count at one time: that of the main branch, the one before it, and those of batches that alter it.
             self.readings = dict(list(self.readings.items())[-MOST_READINGS:])
-            self.readings[(program, settings)] = read_settings(program, settings)
+            self.readings[(program, settings)] = read_settings(program, settings, self.places.records)
         return self.readings[(program, settings)]
 
     def start(self) -> Bot:

@@ -19,7 +19,7 @@ from .core.watching import Watch
 from .core.words import MOST_IN_SETTINGS, listed
 from .faults import Unable
 from .journal import Heard
-from .ports import Detail, Fault, Ports, Result
+from .ports import Detail, Fault, Ports, Reading, Result
 from .troubles import Troubles, complain
 
 PAUSE_SECONDS = 0.1
@@ -30,6 +30,10 @@ RETRY_SECONDS = 2
 SECONDS_TO_TIDY = 86400
 # So long after a hook has told of a push to the main branch git has moved it, or refused.
 SECONDS_OF_PUSH = 600
+# If it can't be told what settings mean, it is asked again after so long.
+SECONDS_TO_READ_AGAIN = 10
+# So many branches of landed changes are deleted in a look, and one that can't be is tried again after so long.
+MOST_DROPPED, SECONDS_TO_TIDY_AGAIN = 20, 300
 
 
 class Host:
@@ -55,6 +59,9 @@ class Host:
         # Of what is tested, by its batch, as which check and why it fails before it is tested, or none; and what is to be said of the bot's
         # settings.
         self.objections: Dict[int, Optional[Tuple[str, str]]] = {}
+        # When what settings mean is asked again after that failed, and when branches that couldn't be deleted are tried again.
+        self.next_reading = 0.0
+        self.next_drops: Dict[int, float] = {}
         self.said_of_settings: List[str] = []
 
     # The loop
@@ -222,35 +229,52 @@ class Host:
     def look_at_settings(self) -> None:
         """Says why the bot refuses its settings, which keys of them mean nothing to it, and which required statuses nobody ever reports."""
         known, owner = self.known, self.ports.owner
-        said, missing = [], ""
+        said = []
+        if time.monotonic() < self.next_reading:
+            return
         try:
             last = self.ports.bot.read(known.settings) if known.settings is not None else None
-            required = self.ports.bot.read(known.taken).required if known.taken else ()
+            taken = self.ports.bot.read(known.taken) if known.taken else Reading()
         except Unable as fault:
+            self.next_reading = time.monotonic() + SECONDS_TO_READ_AGAIN
             self.troubles.put("required", f"what bors.toml requires can't be told: {fault}")
             return
         if known.refusal:
             said.append(f"the settings of {owner.main} aren't taken: {last.refusal if last and last.refusal else known.refusal}")
         said += [f"bors.toml: {it}" for it in last.remarks] if last else []
-        never = watching.never_reported(required, owner.settings.checks, owner.reporters)
-        if never:
-            missing = f"bors.toml requires {words.without_reporter(never)}, so nothing can land or pass a try"
-        self.troubles.put("required", missing)
+        why = self.lock_in(taken)
+        self.troubles.put("required", f"bors.toml requires {why}, so nothing can land" if why else "")
         for text in (it for it in said if it not in self.said_of_settings):
             complain(text)
         self.is_report_due = self.is_report_due or said != self.said_of_settings
         self.said_of_settings = said
 
+    def lock_in(self, read: Reading) -> str:
+        """What settings require that never comes, so that nothing could be approved or land by them; or nothing."""
+        owner = self.ports.owner
+        if read.reviews and not owner.has_reviews:
+            return f"reviews ({read.reviews} of a change), which nobody can give here"
+        never = watching.never_reported(read.required, owner.settings.checks, owner.reporters)
+        of_heads = watching.never_reported(read.of_heads, (), owner.reporters)
+        if never:
+            return words.without_reporter(never)
+        return words.without_reporter_of_heads(of_heads) if of_heads else ""
+
     def drop_branches(self) -> None:
-        """Deletes the branches of what has landed, if the owner wants that."""
-        if self.ports.owner.settings.delete_branches:
-            for change, head in watching.left_by_landings(self.known, self.heads).items():
-                try:
-                    self.ports.repository.drop(change, head)
-                except Unable as fault:
-                    self.troubles.say(f"branch of change {change}", str(fault))
-                else:
-                    self.troubles.end(f"branch of change {change}")
+        """Deletes branches of what has landed, if the owner wants that: some in a look, so that many hold nobody up. One that can't be
+        deleted is tried again later."""
+        wanted = self.ports.owner.settings.delete_branches
+        left = watching.left_by_landings(self.known, self.heads) if wanted else {}
+        for change in [it for it in self.next_drops if it not in left]:
+            del self.next_drops[change]
+            self.troubles.end(f"branch of change {change}")
+        due = [it for it in left if time.monotonic() >= self.next_drops.get(it, 0.0)]
+        for change in due[:MOST_DROPPED]:
+            try:
+                self.ports.repository.drop(change, left[change])
+            except Unable as fault:
+                self.next_drops[change] = time.monotonic() + SECONDS_TO_TIDY_AGAIN
+                self.troubles.say(f"branch of change {change}", str(fault))
 
     def look_at_changes(self, heads: Dict[int, str]) -> None:
         """Writes down which changes are new, have moved, or are gone."""
@@ -377,7 +401,10 @@ class Host:
             self.take_end(ended)
         for test in list(self.known.tests.values()):
             if not self.fails_at_once(test):
-                self.ports.runner.begin(test, self.ports.owner.settings, self.known.results.get(test.branch, {}))
+                results = self.known.results.get(test.branch, {})
+                # What is only pending elsewhere is no result: a command may have taken the place of that.
+                done = {name: state for name, state in results.items() if state != "pending"}
+                self.ports.runner.begin(test, self.ports.owner.settings, done)
         self.show_faults()
         self.troubles.put("after landing", self.ports.after.go_on(self.ports.owner.settings, self.known.landings))
 
@@ -387,15 +414,20 @@ class Host:
         if test.batch not in self.objections:
             batches = [it.batch for it in self.known.tests.values()]
             self.objections = {batch: found for batch, found in self.objections.items() if batch in batches}
-            self.objections[test.batch] = None
+            if time.monotonic() < self.next_reading:
+                return True
             try:
-                why, required = self.objection_to(test), self.ports.bot.read(self.known.taken).required
-                self.objections[test.batch] = (required[0], why) if why and required else None
+                why = self.objection_to(test)
+                required = self.ports.bot.read(self.known.taken).required if why else ()
+                self.objections[test.batch] = (required[0], why) if required else None
+                self.troubles.end("objection")
             except Unable as fault:
-                # It is tested all the same.
-                complain(f"the settings of batch {test.batch} can't be looked at: {fault}")
+                # It waits, since what it brings may be what locks the queue.
+                self.next_reading = time.monotonic() + SECONDS_TO_READ_AGAIN
+                self.troubles.say("objection", f"the settings of batch {test.batch} can't be looked at, so it isn't tested: {fault}")
+                return True
         found = self.objections[test.batch]
-        if found and not self.known.results.get(test.branch):
+        if found and self.known.results.get(test.branch, {}).get(found[0]) != "failure":
             self.record(Ended(test.batch, found[0], "failure", found[1], ""))
         return found is not None
 
@@ -407,11 +439,11 @@ class Host:
             return ""
         if after is None:
             return words.NO_SETTINGS_LEFT
-        read, owner = self.ports.bot.read(after), self.ports.owner
-        never = watching.never_reported(read.required, owner.settings.checks, owner.reporters)
+        read = self.ports.bot.read(after)
         if read.refusal:
             return f"its bors.toml would be refused: {read.refusal}"
-        return f"its bors.toml requires {words.without_reporter(never)}" if never else ""
+        why = self.lock_in(read)
+        return f"its bors.toml requires {why}" if why else ""
 
     def take_end(self, ended: Union[Result, Fault]) -> None:
         """Writes down how a check has ended. People are told once of each that it has to be tried again."""

@@ -123,10 +123,12 @@ class Runner(Protocol):
 
 @dataclass(frozen=True)
 class Reading:
-    """What the bot reads in a text of settings: the statuses that it requires, unless it refuses the text. And what its writer should know:
-    why it is refused, and which keys mean nothing to the bot."""
+    """What the bot reads in a text of settings, unless it refuses the text: which statuses of what is staged it requires, which of heads of
+    changes, and how many reviews. And what its writer should know: why it is refused, and which keys mean nothing to the bot."""
 
-    required: Tuple[str, ...]
+    required: Tuple[str, ...] = ()
+    of_heads: Tuple[str, ...] = ()
+    reviews: int = 0
     refusal: str = ""
     remarks: Tuple[str, ...] = ()
 
@@ -209,8 +211,9 @@ class Owner(Protocol):
 
     settings: Settings
     roles: Mapping[str, str]
-    # Who reports each status that no command of the host's does, by its name.
+    # Who reports each status that no command of the host's does, by its name; and whether anybody can review changes.
     reporters: Mapping[str, FrozenSet[str]]
+    has_reviews: bool
     # The branch that is guarded, and the commit with which it was made for the owner, if it was; since the host was started.
     main: str
     first: str

@@ -12,22 +12,26 @@ import tempfile
 from contextlib import closing, suppress
 from dataclasses import dataclass
 from pathlib import Path
-from typing import List, Union
+from typing import List, Optional, Union
 
 from .faults import Unable
 
 # A start of a program takes some seconds at the most, if nothing else keeps the machine busy.
 SECONDS = 120
+# How the folder of a run is called.
+FOLDER = "required-"
 # What the lists in the table `wanted` are.
 STATUS, PR_STATUS = 1, 3
 
 
 @dataclass(frozen=True)
 class Wanted:
-    """The statuses that a text of settings names, each list in its order: those of a staging commit, and those of the head of a change."""
+    """What a text of settings asks for: the statuses of a staging commit and those of the head of a change, each list in its order, and how
+    many reviews."""
 
     statuses: List[str]
     pr_statuses: List[str]
+    approvals: int
 
 
 def required_statuses(program: str, text: str) -> Union[List[str], int]:
@@ -37,20 +41,17 @@ def required_statuses(program: str, text: str) -> Union[List[str], int]:
     return found.statuses if isinstance(found, Wanted) else found
 
 
-def pr_statuses(program: str, text: str) -> Union[List[str], int]:
-    """The statuses that the head of a change needs before it can be approved, or the number of the refusal."""
-    found = wanted_of(program, text)
-    return found.pr_statuses if isinstance(found, Wanted) else found
-
-
-def wanted_of(program: str, text: str) -> Union[Wanted, int]:
-    """What a text of settings names, or the number of the refusal if the text is refused."""
+def wanted_of(program: str, text: str, room: Optional[Path] = None) -> Union[Wanted, int]:
+    """What a text of settings asks for, or the number of the refusal if the text is refused. The folder of the run is made in a room, or
+    else where all have their temporary files."""
     line = json.dumps({"id": "settings", "event": "settings", "text": text}, ensure_ascii=False)
-    with tempfile.TemporaryDirectory(prefix="gate-required-") as folder:
-        file = Path(folder, "settings.db")
-        said = answer_to(program, file, line.encode("utf-8", "replace"))
-        number = refusal_in(said)
-        return wanted_in(file) if number == 0 else number
+    try:
+        with tempfile.TemporaryDirectory(prefix=FOLDER, dir=room) as folder:
+            file = Path(folder, "settings.db")
+            number = refusal_in(answer_to(program, file, line.encode("utf-8", "replace")))
+            return wanted_in(file) if number == 0 else number
+    except OSError as fault:
+        raise Unable(f"the program can't be asked what settings mean: {fault}") from fault
 
 
 def answer_to(program: str, file: Path, line: bytes) -> str:
@@ -92,6 +93,7 @@ def wanted_in(file: Path) -> Wanted:
     try:
         with closing(sqlite3.connect(file)) as records:
             rows = records.execute("SELECT kind, word FROM wanted ORDER BY kind, place").fetchall()
+            approvals, = records.execute("SELECT required_approvals FROM desk").fetchone()
     except sqlite3.Error as fault:
         raise Unable(f"the records that the program has left can't be read: {fault}") from fault
-    return Wanted([word for kind, word in rows if kind == STATUS], [word for kind, word in rows if kind == PR_STATUS])
+    return Wanted([word for kind, word in rows if kind == STATUS], [word for kind, word in rows if kind == PR_STATUS], int(approvals))

@@ -217,13 +217,13 @@ def reporters_in(text: str) -> Dict[str, FrozenSet[str]]:
     """Who reports each status, by the text of a file of reporters."""
     found: Dict[str, List[str]] = {}
     for number, line in enumerate(text.splitlines(), 1):
-        name, _, status = line.strip().partition(" ")
+        name, *status = line.split(None, 1)[:2] or [""]
         if not name or name.startswith("#"):
             continue
         who = person(name.lstrip("@"))
-        if who is None or not is_name_of_status(status.strip()):
+        if who is None or not status or not is_name_of_status(status[0].strip()):
             raise Trouble(f"reporters: line {number} isn't the name of a person and that of a status")
-        found.setdefault(status.strip(), []).append(who)
+        found.setdefault(status[0].strip(), []).append(who)
     return {status: frozenset(people) for status, people in found.items()}
 
 

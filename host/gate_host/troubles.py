@@ -2,9 +2,11 @@
 import sys
 from typing import Dict, List
 
+from .core.words import plain
+
 
 def complain(text: str) -> None:
-    print(f"gate-host: {text}", file=sys.stderr, flush=True)
+    print(f"gate-host: {plain(text)}", file=sys.stderr, flush=True)
 
 
 class Troubles:

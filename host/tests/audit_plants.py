@@ -45,6 +45,10 @@ class Copy:
         for table, column in (("facts", "body"), ("deliveries", "line"), ("deliveries", "answer")):
             self.write(f"UPDATE {table} SET {column} = replace({column}, ?, ?)", before, after)
 
+    def exchange_line(self, before, after):
+        """Puts a text in the place of another one in what was handed in."""
+        self.write("UPDATE deliveries SET line = replace(line, ?, ?)", before, after)
+
     def commit(self, tree, *parents):
         """A commit as the host makes them."""
         given = [it for parent in parents for it in ("-p", parent)]
@@ -286,12 +290,30 @@ def the_branch_is_set_back(copy):
     return {"lost", "past the queue"}
 
 
+def the_message_names_somebody_else(copy):
+    """A host that writes down another approver than the one who was."""
+    message = copy.git("log", "-1", "--format=%B", copy.landed).replace("Approved-by: rosa", "Approved-by: linus")
+    parents = [it for parent in (copy.base, *copy.heads) for it in ("-p", parent)]
+    copy.land(copy.git("-c", "user.name=gate", "-c", "user.email=gate@localhost", "commit-tree", copy.tree, *parents, "-m", message))
+    return {"other message"}
+
+
+def the_host_told_other_settings(copy):
+    """Those that were handed in ask for less than those of the main branch do."""
+    text = copy.git("show", f"{copy.base}:bors.toml") + "\n"
+    lighter = text.replace(', "lint"', "")
+    want("whether that is less", lighter != text, True)
+    copy.exchange_line(json.dumps(text), json.dumps(lighter))
+    return {"other settings", "answer"}
+
+
 PLANTS = [
-    nothing, other_files, files_of_a_replaced_head, other_parents, other_base, a_status_is_taken_out, a_status_has_another_name,
-    a_status_had_failed, the_settings_require_more, a_comment_is_taken_out, a_comment_is_taken_out_without_a_gap, a_comment_says_nothing,
-    a_head_is_replaced, a_graft, an_object_is_altered, an_answer_is_altered, an_answer_is_no_answer, a_line_has_another_name,
-    a_delivery_is_taken_out, an_answer_is_taken_out, a_fact_is_taken_out, a_push_past_the_hook, a_push_past_the_hook_that_was_seen,
-    a_push_past_the_queue, a_landing_without_order, a_landing_that_was_refused, a_landing_is_lost, the_branch_is_set_back,
+    nothing, the_message_names_somebody_else, the_host_told_other_settings, other_files, files_of_a_replaced_head, other_parents,
+    other_base, a_status_is_taken_out, a_status_has_another_name, a_status_had_failed, the_settings_require_more, a_comment_is_taken_out,
+    a_comment_is_taken_out_without_a_gap, a_comment_says_nothing, a_head_is_replaced, a_graft, an_object_is_altered, an_answer_is_altered,
+    an_answer_is_no_answer, a_line_has_another_name, a_delivery_is_taken_out, an_answer_is_taken_out, a_fact_is_taken_out,
+    a_push_past_the_hook, a_push_past_the_hook_that_was_seen, a_push_past_the_queue, a_landing_without_order, a_landing_that_was_refused,
+    a_landing_is_lost, the_branch_is_set_back,
 ]
 
 

@@ -73,7 +73,7 @@ class FirstHours(Story):
     def a_push_past_the_queue_locks_it(self):
         """The report of the queue says so at once, and of what is wrong with settings."""
         locked = ("trouble: bors.toml requires the status deploy, for which there is neither a command in the settings of the host nor a "
-                  "reporter, so nothing can land or pass a try")
+                  "reporter, so nothing can land")
         for text, due in (
             ('status = ["build", "deploy"]\nmax_batchsize = 8\n', (
                 locked, "bors.toml: max_batchsize is no key of the bot's, which passes it over; did you mean max_batch_size?",

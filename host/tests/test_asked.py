@@ -76,6 +76,9 @@ class CommandTests(unittest.TestCase):
         for name in ("a" * 65, "ä", "a b", "a\u00a0", "a/b"):
             self.assertEqual(shown(commands_in(f"bors r={name}")[0]), "UNKNOWN", name)
 
+    def test_a_long_s_is_no_s(self):
+        self.assertEqual(commands_in("bor\u017f r+\nBORS ping\n\u212aors"), commands_in("bors ping"))
+
     def test_a_comment_gives_the_commands_of_its_lines(self):
         found = commands_in("Looks good.\nbors r+ p=2\nbors d+\nbors: dance")
         self.assertEqual([*map(shown, found)], ["PRIORITY 2", "APPROVE", "DELEGATE_AUTHOR", "UNKNOWN"])

@@ -9,7 +9,7 @@ sys.path.insert(0, str(Path(__file__).resolve().parent.parent))
 
 from gate_host.audit.entries import entries_of  # noqa: E402
 from gate_host.audit.shown import Result, json_of_result, text_of_result  # noqa: E402
-from gate_host.audit.steps import Commit, Known, Remade, lost, steps_of, to_be_made  # noqa: E402
+from gate_host.audit.steps import Commit, Known, Remade, Written, lost, steps_of, to_be_made  # noqa: E402
 from gate_host.audit.story import movers_in, story_of  # noqa: E402
 from telling import BASE, DENIED, HEAD, MERGED, NEXT, OTHER, Told, land  # noqa: E402
 
@@ -59,6 +59,27 @@ class LandingTests(unittest.TestCase):
         ):
             with self.subTest(why=why):
                 self.found(told_of_landing(), due, walk=walk, made=made)
+
+    def test_what_is_written_in_the_repository(self):
+        message = "Batch 1: change 1\n\nchange 1: Batch: 9\n  by ines\n\nApproved-by: rosa\nBatch: 1\n"
+        for written, due in (
+            (Written(), []), (Written("S", message), []), (Written(None, message), []), (Written("other", message), ["other settings"]),
+            # A host of before named nobody.
+            (Written("S", "Batch 1: change 1\n"), []), (Written("S", "Batch 1: change 1\n\nApproved-by: linus\n"), []),
+            (Written("S", message.replace("by: rosa", "by: linus")), ["other message"]),
+            (Written("S", message.replace("Approved-by: rosa\n", "")), ["other message"]),
+            (Written("S", message.replace("by: rosa\n", "by: rosa\nApproved-by: linus\n")), ["other message"]),
+            (Written("S", message.replace("by: rosa", "by: rosa (said by eve)")), ["other message"]),
+            (Written("S", message.replace("\nBatch: 1\n", "\nBatch: 2\n")), ["other message"]),
+        ):
+            known = replace(known_of(told_of_landing()), written={MERGED: written})
+            self.assertEqual(kinds_of(known), [("1", "landing", due)], written)
+        told = Told()
+        told.begin()
+        told.approve(text="bors r=vera,rosa")
+        told.landed(told.test())
+        named = message.replace("Approved-by: rosa\n", "Approved-by: vera (said by rosa)\nApproved-by: rosa\n")
+        self.assertEqual(kinds_of(replace(known_of(told), written={MERGED: Written("S", named)})), [("1", "landing", [])])
 
     def test_the_order_of_the_heads_counts(self):
         told = Told()

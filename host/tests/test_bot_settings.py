@@ -9,21 +9,22 @@ sys.path.insert(0, str(Path(__file__).resolve().parent.parent))
 from gate_host import bot_settings  # noqa: E402
 from gate_host.bot_settings import read_settings, unknown_keys  # noqa: E402
 from gate_host.ports import Reading  # noqa: E402
+from gate_host.required import Wanted  # noqa: E402
 
 
-def said_by_program(program, text):
-    """As the program says it of the texts below: the statuses, or the number of the refusal."""
+def said_by_program(program, text, room):
+    """As the program says it of the texts below: what is asked for, or the number of the refusal."""
     if "[unclosed" in text:
         return 1
     if "status =" not in text.replace("pr_status", ""):
         return 2
     is_bad = any(it in text for it in ('max_batch_size = "8"', "timeout_sec = 60.0", 'status = ["a", "a"]'))
-    return 3 if is_bad else ["build"]
+    return 3 if is_bad else Wanted(["build"], ["format"], 2)
 
 
 class ReadingTests(unittest.TestCase):
     def setUp(self):
-        patched = mock.patch.object(bot_settings, "required_statuses", said_by_program)
+        patched = mock.patch.object(bot_settings, "wanted_of", said_by_program)
         patched.start()
         self.addCleanup(patched.stop)
 
@@ -31,7 +32,7 @@ class ReadingTests(unittest.TestCase):
         return read_settings("gate", text).refusal
 
     def test_a_text_that_is_taken(self):
-        self.assertEqual(read_settings("gate", 'status = ["build"]\n'), Reading(("build",)))
+        self.assertEqual(read_settings("gate", 'status = ["build"]\n'), Reading(("build",), ("format",), 2))
 
     def test_a_refusal_names_the_key_with_its_value(self):
         size = 'max_batch_size = "8" isn\'t taken; it has to be a whole number from 1 to 1000'

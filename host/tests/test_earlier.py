@@ -26,6 +26,7 @@ class EarlierTests(unittest.TestCase):
             known = Play(*steps).known
             # A delivery that has no answer yet, of each kind.
             known.learn(98, 0, RoleGiven("otto", "member"))
+            known.over = {it.stage.batch for it in known.batches.values()}
             for name in list(known.orders)[1:]:
                 known.learn(99, 0, Staged(name))
             fact = upgraded(known)

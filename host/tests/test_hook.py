@@ -84,6 +84,20 @@ class HookTests(InRepository):
             self.assertEqual(hook.before_push(self.places), 1)
         self.assertIn("by a fault of the host; tell its owner: ValueError: x", said.getvalue())
 
+    def test_a_host_that_is_found_by_its_name_knows_its_own_python(self):
+        """As one that was installed, which isn't for the Python of the hook."""
+        self.set_up()
+        path = self.path / "hooks/pre-receive"
+        path.write_text(path.read_text(encoding="utf-8").replace(f"host={SCRIPT}", "host=/none/gate-host"), encoding="utf-8")
+        (self.room / "bin").mkdir()
+        wrapper = self.room / "bin/gate-host"
+        wrapper.write_text(f'#!/bin/sh\nexec {sys.executable} {SCRIPT} "$@"\n', encoding="utf-8")
+        wrapper.chmod(0o755)
+        environment = {**os.environ, "PATH": f"{self.room}/bin:{os.environ['PATH']}"}
+        update = f"{NOTHING} {COMMIT} refs/heads/staging\n"
+        ran = subprocess.run([path], cwd=self.path, input=update, env=environment, capture_output=True, encoding="utf-8", timeout=60)
+        self.assertEqual((ran.returncode, ran.stderr.count("\n"), "is moved by the host alone" in ran.stderr), (1, 1, True), ran.stderr)
+
     def test_a_host_that_has_moved_is_found_by_its_name(self):
         self.set_up()
         path = self.path / "hooks/pre-receive"

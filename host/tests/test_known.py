@@ -56,19 +56,21 @@ class KnownTests(unittest.TestCase):
         approve, for_two = Command(Kind.APPROVE), Command(Kind.APPROVE_FOR, ("vera", "milo"))
         approved = [*opened, said(1, "rosa", "bors r+ p=2", DONE, DONE)]
         for steps, due in (
-            (opened, People("ines")), (approved, People("ines", ("rosa",), approve)),
-            ([*opened, said(1, "rosa", "bors r=vera,@Milo", DONE)], People("ines", ("vera", "milo"), for_two)),
-            ([*approved, said(2, "otto", "bors r-", DONE)], People("ines", (), approve)),
-            ([*approved, said(2, "otto", "bors r-", DENIED)], People("ines", ("rosa",), approve)),
+            (opened, People("ines")), (approved, People("ines", ("rosa",), "rosa", approve)),
+            ([*opened, said(1, "rosa", "bors r=vera,@Milo", DONE)], People("ines", ("vera", "milo"), "rosa", for_two)),
+            ([*approved, said(2, "otto", "bors r-", DONE)], People("ines", (), "", approve)),
+            ([*approved, said(2, "otto", "bors r-", DENIED)], People("ines", ("rosa",), "rosa", approve)),
             ([*opened, said(1, "rosa", "bors r+", DENIED)], People("ines")),
-            ([*approved, (Pushed(7, C), DONE)], People("ines", (), approve)),
+            ([*approved, (Pushed(7, C), DONE)], People("ines", (), "", approve)),
             # Who says retry approves, but for the people who were named then.
-            ([*approved, (Pushed(7, C), DONE), said(2, "otto", "bors retry", DONE)], People("ines", ("otto",), approve)),
+            ([*approved, (Pushed(7, C), DONE), said(2, "otto", "bors retry", DONE)], People("ines", ("otto",), "otto", approve)),
             ([*opened, said(1, "rosa", "bors r=vera,milo", DONE), said(2, "otto", "bors r-\nbors retry", DONE, DONE)],
-             People("ines", ("vera", "milo"), for_two)),
+             People("ines", ("vera", "milo"), "otto", for_two)),
             ([*opened, said(1, "rosa", "bors ping\nbors r+", DONE, DENIED)], People("ines")),
-            ([*opened, said(1, "milo", "bors try", DONE)], People("ines", (), Command(Kind.TRY))),
-            ([*approved, (Closed(7), DONE), (Opened(7, "vera", C), DONE)], People("vera", (), approve)),
+            ([*opened, said(1, "milo", "bors try", DONE)], People("ines", (), "", Command(Kind.TRY))),
+            # Nobody is named if it can't be told who approved.
+            ([*approved, said(2, "otto", "bors ping", DONE, DONE)], People("ines", (), "", approve)),
+            ([*approved, (Closed(7), DONE), (Opened(7, "vera", C), DONE)], People("vera", (), "", approve)),
         ):
             self.assertEqual(Play(*steps).known.people[7], due)
 
@@ -85,7 +87,7 @@ class KnownTests(unittest.TestCase):
 
     def test_what_has_landed(self):
         known = Play(*LANDED).known
-        landing = Landing(1, A, C, (Member(7, B, "ines", ("rosa",)),))
+        landing = Landing(1, A, C, (Member(7, B, "ines", ("rosa",), "rosa"),))
         self.assertEqual((known.landings, known.landing_of(7), known.landing_of(8)), ({C: landing}, landing, None))
         self.assertEqual(Play(*LANDING).known.landings, {})
 
@@ -101,6 +103,24 @@ class KnownTests(unittest.TestCase):
         self.assertEqual(len(play.told), len(Play(*STAGED).told) + 1)
         play = Play(*BEFORE, (Reported("n3", "ci", B, "format", "success", ""), DONE))
         self.assertEqual((play.known.results, len(play.told)), ({}, len(Play(*BEFORE).told)))
+
+    def test_a_batch_that_is_over_hears_no_more_reports(self):
+        late = Reported("n9", "ci", C, "lint", "failure", "late")
+        denied = '[{"number":19,"rule":"NoSuchBatch","verdict":"denied"}]'
+        for steps, is_over in (
+            (STAGED, False), (LANDING, False), (LANDED, True), ([*LANDING, (NotMoved("status-8.0"), DONE)], True),
+            ([*STAGED, (Ticked(90), with_orders({**NOTICE, "why": "TimedOut"}))], True),
+            ([*STAGED, (Ended(1, "build", "failure", "it ended", "x"), with_orders(NOTICE))], True),
+            # It may have failed a check that isn't required.
+            ([*STAGED, (Ended(1, "other", "failure", "it ended", "x"), DONE)], False),
+            ([*STAGED, (Ticked(90), with_orders({**NOTICE, "why": "TimedOut", "change": 9}))], False),
+            ([*STAGED, (Ticked(90), with_orders({**NOTICE, "why": "TryFailed"}))], False),
+        ):
+            play = Play(*steps)
+            self.assertEqual(play.known.changes_at(C), [] if is_over else [7], steps[-1])
+            told = len(play.told)
+            play.add(late, *([] if is_over else [denied]))
+            self.assertEqual(len(play.told) - told, int(not is_over))
 
     def test_how_many_batches_have_ended(self):
         for steps, due in (

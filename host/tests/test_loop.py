@@ -12,6 +12,7 @@ sys.path.insert(0, str(Path(__file__).resolve().parent.parent))
 
 from gate_host import loop, ports, troubles  # noqa: E402
 from gate_host.core.facts import Conflicted, Merged  # noqa: E402
+from gate_host.core.known import Landing, Member  # noqa: E402
 from gate_host.core.notes import note_in  # noqa: E402
 from gate_host.faults import Unable  # noqa: E402
 from gate_host.journal import Journal  # noqa: E402
@@ -79,8 +80,11 @@ class Bot:
 
     def read(self, settings):
         if settings == REFUSED:
-            return ports.Reading((), "max_batch_size = 0 isn't taken")
-        return ports.Reading(tuple(re.findall(r'"([a-z]+)"', settings)), remarks=("team is no key",) if "team" in settings else ())
+            return ports.Reading(refusal="max_batch_size = 0 isn't taken")
+        wanted, _, heads = settings.partition("pr_status")
+        reviews = int((re.findall(r"required_approvals = ([0-9])", settings) or [0])[0])
+        names = (tuple(re.findall(r'"([a-z]+)"', it)) for it in (wanted, heads))
+        return ports.Reading(*names, reviews, remarks=("team is no key",) if "team" in settings else ())
 
     def answer(self, line):
         delivery = json.loads(line)
@@ -278,7 +282,7 @@ class Owner:
             look_seconds=0.0, tick_seconds=0.0, may_push=frozenset(), checks={"build": "b", "lint": "l"}, program="gate",
             delete_branches=False,
         )
-        self.roles, self.main, self.first, self.reporters = {"rosa": "reviewer"}, "main", "", {}
+        self.roles, self.main, self.first, self.reporters, self.has_reviews = {"rosa": "reviewer"}, "main", "", {}, False
 
     def read(self):
         return [("settings", ""), ("roles", ""), ("reporters", "")]
@@ -478,6 +482,9 @@ class CheckTests(InWorld):
             ("missing", 'status = ["build", "tests"]', "its bors.toml requires the status tests, for which there is neither a command"),
             ("refused", REFUSED, "its bors.toml would be refused: max_batch_size = 0 isn't taken"),
             ("gone", None, "with this there would be no bors.toml"),
+            ("reviews", f"{SETTINGS}\nrequired_approvals = 2",
+             "its bors.toml requires reviews (2 of a change), which nobody can give here"),
+            ("heads", f'{SETTINGS}\npr_status = ["build"]', "the status build of heads of changes, for which there is no reporter"),
         ):
             world = self.world(name)
             world.settings_of_batches = {"trying": settings}
@@ -514,7 +521,7 @@ class CheckTests(InWorld):
         host.ports.owner.settings.checks = {"build": "b"}
         host.round()
         said = ("bors.toml requires the status lint, for which there is neither a command in the settings of the host nor a reporter, so "
-                "nothing can land or pass a try")
+                "nothing can land")
         self.assertEqual(host.troubles.texts(), [said])
         host.ports.owner.reporters = {"lint": frozenset({"ci"})}
         host.round()
@@ -557,8 +564,91 @@ class CheckTests(InWorld):
         self.assertIn("The check lint of batch 2 (change 4) succeeded: as ci reports: at 7.", told)
         host.ports.journal.close()
 
+    def test_a_report_keeps_no_batch_from_failing_at_once(self):
+        """It may come between the move of the branch and the next look at the checks."""
+        world = self.world("early")
+        world.settings_of_batches = {"trying": 'status = ["build", "nobody"]'}
+        host = host_in(world)
+        host.ports.owner.reporters = {"other": frozenset({"ci"})}
+        with mock.patch.object(host, "check"):
+            test = self.until_tested(world, host, "trying")
+        report = {"kind": "status", "commit": test.commit, "name": "other", "state": "pending", "description": ""}
+        world.notes["r"] = ("ci", report)
+        for _ in range(3):
+            host.round()
+        told = [text for _, text in host.ports.journal.told(4)]
+        self.assertEqual(len([it for it in told if "requires the status nobody" in it]), 1, told)
+        host.ports.journal.close()
+
+    def test_a_batch_waits_until_its_settings_can_be_read(self):
+        """Such as while the disk is full. The host goes on, and asks again after a while."""
+        world = self.world("unread")
+        world.settings_of_batches = {"trying": 'status = ["build"]'}
+        host = host_in(world)
+        began, read, asked = [], host.ports.bot.read, []
+
+        def cannot(settings):
+            asked.append(settings)
+            raise Unable("no room")
+        host.ports.runner.begin = lambda test, settings, done: began.append(test.branch)
+        with mock.patch.object(host, "fails_at_once", lambda test: True):
+            self.until_tested(world, host, "trying")
+        host.ports.bot.read = cannot
+        for _ in range(3):
+            host.round()
+        self.assertEqual((began, len(asked)), ([], 1))
+        self.assertTrue(any("no room" in it for it in host.troubles.texts()), host.troubles.texts())
+        host.ports.bot.read, host.next_reading = read, 0.0
+        host.round()
+        self.assertEqual(("trying" in began, host.troubles.texts()), (True, []))
+        host.ports.journal.close()
+
+    def test_a_command_runs_in_the_place_of_what_is_only_pending_elsewhere(self):
+        world = self.world("pending")
+        host = host_in(world)
+        host.ports.owner.settings.checks = {"build": "b"}
+        host.ports.owner.reporters = {"lint": frozenset({"ci"})}
+        test = self.until_tested(world, host, "trying")
+        world.notes["r"] = ("ci", {"kind": "status", "commit": test.commit, "name": "lint", "state": "pending", "description": ""})
+        host.round()
+        host.ports.owner.settings.checks = {"build": "b", "lint": "l"}
+        for _ in range(5):
+            host.round()
+        states = [(it["name"], it["state"]) for it in world.said if it["event"] == "status" and it["commit"] == test.commit]
+        self.assertIn(("lint", "success"), states)
+        host.ports.journal.close()
+
 
 class LandingTests(InWorld):
+    def test_many_branches_of_landed_changes_hold_nobody_up(self):
+        """Some go in a look. One that can't go is tried again later, and no trouble any more when somebody has moved it."""
+        host = host_in(self.world("many"))
+        host.ports.owner.settings.delete_branches = True
+        dropped = []
+
+        def drop(change, head):
+            if change == 3:
+                raise Unable("it can't be deleted")
+            dropped.append(change)
+        host.ports.repository.drop = drop
+        for change in range(1, 101):
+            commit = f"{change:040}"
+            host.known.landings[commit] = Landing(change, A, commit, (Member(change, C, ""),))
+            host.known.landed_by[change] = commit
+        host.heads = {change: C for change in range(1, 101)}
+        while host.heads:
+            before = len(dropped)
+            host.drop_branches()
+            host.heads = {change: head for change, head in host.heads.items() if change not in dropped}
+            self.assertLessEqual(len(dropped) - before, 20)
+            if host.heads == {3: C}:
+                self.assertEqual(host.troubles.texts(), ["it can't be deleted"])
+                host.heads = {3: D}
+                host.drop_branches()
+                break
+        self.assertEqual((sorted(dropped), host.troubles.texts()), ([*range(1, 3), *range(4, 101)], []))
+        host.ports.journal.close()
+
     def test_branches_of_what_has_landed_go_if_the_owner_wants_that(self):
         world = self.world("branches")
         host = self.play(world)

@@ -27,6 +27,7 @@ class NoteTests(unittest.TestCase):
         for name, value in (
             ("commit", A[1:]), ("commit", 7), ("name", ""), ("name", "a\nb"), ("name", "x" * 256), ("name", 7), ("name", "\ud800"),
             ("state", "fine"), ("state", []), ("description", None), ("description", "x" * 301),
+            ("description", "a\nb"), ("description", "a\x7fb"),
         ):
             self.assertEqual(note_in("n", "eve", {**good, name: value}), Strange("n", "eve"), (name, value))
         self.assertEqual(note_in("n", "eve", {**good, "description": "\ud800"}).description, "?")

@@ -12,7 +12,7 @@ sys.path.insert(0, str(Path(__file__).resolve().parent.parent))
 from folders import InFolder  # noqa: E402
 from gate_host import required  # noqa: E402
 from gate_host.faults import Unable  # noqa: E402
-from gate_host.required import pr_statuses, required_statuses  # noqa: E402
+from gate_host.required import Wanted, required_statuses, wanted_of  # noqa: E402
 
 DONE = '[{"orders":[],"verdict":"done"}]'
 
@@ -24,6 +24,7 @@ class RequiredTests(InFolder):
         with closing(sqlite3.connect(records)) as database:
             database.execute("CREATE TABLE wanted (kind INTEGER, place INTEGER, word TEXT)")
             database.executemany("INSERT INTO wanted VALUES (?, ?, ?)", rows)
+            database.execute("CREATE TABLE desk AS SELECT 2 AS required_approvals")
             database.commit()
         path = self.room / "program"
         path.write_text(f"#!/bin/sh\nread -r line\nprintf '%s\\n' '{answer}'\ncp {records} \"$3\"\n{ending}\n", encoding="utf-8")
@@ -33,12 +34,12 @@ class RequiredTests(InFolder):
     def test_the_lists_come_in_the_order_of_their_places(self):
         program = self.program(DONE, [(1, 1, "b"), (2, 0, "wip"), (1, 0, "z"), (3, 0, "format")])
         self.assertEqual(required_statuses(program, "x"), ["z", "b"])
-        self.assertEqual(pr_statuses(program, "x"), ["format"])
+        self.assertEqual(wanted_of(program, "x", self.room), Wanted(["z", "b"], ["format"], 2))
 
     def test_a_text_that_is_refused_has_the_number(self):
         refused = '[{"detail":2,"number":17,"rule":"BadSettings","verdict":"denied"}]'
         self.assertEqual(required_statuses(self.program(refused), "x"), 2)
-        self.assertEqual(pr_statuses(str(self.room / "program"), "x"), 2)
+        self.assertEqual(wanted_of(str(self.room / "program"), "x"), 2)
 
     def test_what_a_program_may_do_otherwise(self):
         for why, answer, ending in (
@@ -54,6 +55,10 @@ class RequiredTests(InFolder):
                 with self.assertRaisesRegex(Unable, why):
                     required_statuses(program, "x")
                 (self.room / "records").unlink()
+        for room in (self.room / "none", None):
+            full = mock.patch.object(required.tempfile, "TemporaryDirectory", side_effect=OSError(28, "No space left on device"))
+            with full, self.assertRaisesRegex(Unable, "can't be asked what settings mean"):
+                wanted_of(program, "x", room)
         with self.assertRaisesRegex(Unable, "can't be started"):
             required_statuses(str(self.room / "none"), "x")
 
@@ -62,7 +67,8 @@ class RequiredTests(InFolder):
         program = os.environ["GATE_PROGRAM"]
         text = '# \u00e4 "x"\nstatus = ["b", \'a\', "\u00e9"]\npr_status = ["z"]\nblock_labels = ["wip"]\n'
         self.assertEqual(required_statuses(program, text), ["b", "a", "\u00e9"])
-        self.assertEqual(pr_statuses(program, text), ["z"])
+        self.assertEqual(wanted_of(program, f"{text}required_approvals = 3\n", self.room), Wanted(["b", "a", "\u00e9"], ["z"], 3))
+        self.assertEqual([it.name for it in self.room.iterdir()], [])
         for number, text in ((1, "status = ["), (2, "timeout_sec = 60"), (3, "status = []")):
             self.assertEqual(required_statuses(program, text), number)
 

@@ -47,12 +47,13 @@ class WordTests(unittest.TestCase):
             self.assertEqual(Play(*BEFORE[:3], said_by(1, "rosa", text, *answers)).told[-1].text, due)
 
     def test_the_message_of_a_merge(self):
-        members = (Member(7, B, "ines", ("rosa", "vera")), Member(8, C, "", ("rosa",)))
+        members = (Member(7, B, "ines", ("rosa", "vera"), "vera"), Member(8, C, "", ("rosa",), "rosa"))
         batch = Batch("tick-1.0", TWO, 5, members=members)
         titles = {7: "Batch: 9\x1b", 8: "Approved-by: eve"}
         self.assertEqual(words.merge_message(batch, titles).split("\n"), [
-            "Batch 2: change 7, change 8", "", "change 7: Batch: 9?", f"  {B}, by ines, approved by rosa, vera",
-            "change 8: Approved-by: eve", f"  {C}, approved by rosa", "", "Approved-by: rosa", "Approved-by: vera", "Batch: 2", "",
+            "Batch 2: change 7, change 8", "", "change 7: Batch: 9?", f"  {B}, by ines, approved by rosa (said by vera), vera",
+            "change 8: Approved-by: eve", f"  {C}, approved by rosa", "", "Approved-by: rosa (said by vera)", "Approved-by: vera",
+            "Approved-by: rosa", "Batch: 2", "",
         ])
         self.assertEqual(words.merge_message(Batch("tick-1.0", ONE, 5), {}), "Batch 1: change 7\n\nBatch: 1\n")
         self.assertEqual(words.merge_message(batch, {7: "x" * 999}).split("\n")[2], f"change 7: {'x' * 200}")
@@ -76,10 +77,11 @@ class WordTests(unittest.TestCase):
             (words.landed(TWO, "main", C), f"Landed on main as {C}, with changes 7, 8."),
             (words.staged(TWO, B), "Batch 2 (changes 7, 8) is merged onto ccccccc as bbbbbbb, which is tested now."),
             (words.landing_of(None, 7), ""), (words.landing_of(Landing(2, C, B, ()), 7), f"\nlanded as {B} with batch 2\n"),
-            (words.landing_of(Landing(2, C, B, (Member(7, B, "ines", ("rosa",)),)), 7),
+            (words.landing_of(Landing(2, C, B, (Member(7, B, "ines", ("rosa",), "rosa"),)), 7),
              f"\nlanded as {B} with batch 2, approved by rosa\n"),
-            (words.approved_by([]), ""), (words.approved_by(["rosa", "vera"]), " Approved by rosa, vera."),
-            (words.reported("ci", ""), "as ci reports"), (words.reported("ci", "a\x1bb"), "as ci reports: a?b"),
+            (words.approved_by(""), ""), (words.approved_by("rosa, vera"), " Approved by rosa, vera."),
+            (words.reported("ci", ""), "as ci reports"), (words.reported("ci", "a\x1bb\ngate: x"), "as ci reports: a?b gate: x"),
+            (words.without_reporter_of_heads(["a", "b"]), "the statuses a, b of heads of changes, for which there is no reporter"),
             (words.without_reporter(["a"]),
              "the status a, for which there is neither a command in the settings of the host nor a reporter"),
             (words.listed([7]), "change 7"), (words.listed([7, 9]), "changes 7, 9"),

@@ -1,5 +1,7 @@
-ghost use Rattle.std.specs.Prelude.{◌≡◌, ◌<◌, ◌≤◌, ◌+◌, ◌-◌, ◌*◌, ◌++◌, ◌↔◌, ℕ, List, [], IfOk, IfSome, IsNone, IsTrue, drop, length, min, take};
+ghost use Rattle.std.specs.Prelude.{◌≡◌, ◌≢◌, ◌⊎◌, ◌<◌, ◌≤◌, ◌+◌, ◌-◌, ◌*◌, ◌++◌, ◌↔◌, ℕ, List, [], false, IfOk, IfSome, IsNone, IsTrue, drop, length, min, option_copied, take};
 ghost use Rattle.std.specs.Duration.{as_nanos};
+ghost use Rattle.std.specs.Time.{instant_nanos};
+ghost use Rattle.gate_hook.specs.Receiving.{IsEnough};
 
 use crate::accepting::Acceptor;
 use crate::closing::drop_part;
@@ -56,10 +58,13 @@ impl Limits {
         }
     }
 
-    // Whether a connection is waited for no longer, if nothing has come since then.
-    fn are_over(&self, clock: &impl Clock, since: Instant) -> io::Result<bool> {
-        let silence = since.elapsed(clock)?;
-        Ok(self.next(clock).is_err() || silence.as_secs() >= u64::from(self.patience))
+    // Whether a connection is waited for no longer at this time, if nothing has come since that one.
+    fn are_over(&self, time: Instant, since: Instant) -> bool
+        ensures { IsTrue result ↔ ((self.now.patience * 10_000_000_000 ≤ instant_nanos time - instant_nanos self.now.start)
+            ⊎ (self.now.patience * 1_000_000_000 ≤ instant_nanos time - instant_nanos since)) }
+    {
+        next_wait(self.patience, time.duration_since(self.start)).is_none()
+            || time.duration_since(since).as_secs() >= u64::from(self.patience)
     }
 }
 
@@ -127,6 +132,7 @@ impl Guest {
     // Takes some bytes that have come, and tells whether there were any, and there is room for more.
     fn hear(&mut self) -> bool
         ensures bytes { (more : List ℕ) × (self.new.bytes.items ≡ self.old.bytes.items ++ more) × (IsTrue result → 0 < length more) }
+        ensures none { result ≡ false → self.new.bytes.items ≡ self.old.bytes.items }
         ensures limits { self.new.limits ≡ self.old.limits }
     {
         let mut piece = [0; PIECE];
@@ -142,24 +148,44 @@ impl Guest {
         false
     }
 
-    // Takes all that has come.
-    fn turn(&mut self, alloc: Global, clock: &impl Clock, token: Option<&Token>) -> io::Result<Turn>
+    // Takes all that has come, and tells whether it is enough. If nothing has come, nothing new is told.
+    fn hear_all(
+        &mut self,
+        alloc: Global,
+        clock: &impl Clock,
+        token: Option<&Token>,
+    ) -> io::Result<bool>
+        ensures enough { IfOk result (λ enough. enough ≡ false
+            → (self.new.bytes.items ≡ self.old.bytes.items) ⊎ IsEnough (option_copied token.entry) false self.new.bytes.items) }
         ensures bytes { (more : List ℕ) × (self.new.bytes.items ≡ self.old.bytes.items ++ more) }
         ensures limits { self.new.limits ≡ self.old.limits }
     {
         for _ in 0..u64::MAX {
             if !self.hear() {
-                break;
+                return Ok(false);
             }
             self.since = Instant::now(clock)?;
             if is_enough(alloc, token, &self.bytes).unwrap_or(true) {
-                return Ok(Turn::Comes);
+                return Ok(true);
             }
+        }
+        Ok(false)
+    }
+
+    // Takes all that has come. More is waited for only if more may come, and what has come isn't enough.
+    fn turn(&mut self, alloc: Global, clock: &impl Clock, token: Option<&Token>) -> io::Result<Turn>
+        ensures waits { IfOk result (λ turn. turn ≢ Turn.Comes → (self.new.rest ≡ Rest.Open)
+            × ((self.new.bytes.items ≡ self.old.bytes.items) ⊎ IsEnough (option_copied token.entry) false self.new.bytes.items)) }
+        ensures bytes { (more : List ℕ) × (self.new.bytes.items ≡ self.old.bytes.items ++ more) }
+        ensures limits { self.new.limits ≡ self.old.limits }
+    {
+        if self.hear_all(alloc, clock, token)? {
+            return Ok(Turn::Comes);
         }
         if self.rest != Rest::Open || self.bytes.reserve(PIECE).is_err() {
             return Ok(Turn::Comes);
         }
-        if self.limits.are_over(clock, self.since)? {
+        if self.limits.are_over(Instant::now(clock)?, self.since) {
             return Ok(Turn::IsLate);
         }
         Ok(Turn::Waits)
@@ -204,7 +230,7 @@ impl Leaver {
             Err(error) if error.kind() == ErrorKind::WouldBlock => {}
             Ok(_) | Err(_) => return Ok(false),
         }
-        Ok(!self.limits.are_over(clock, self.since)?)
+        Ok(!self.limits.are_over(Instant::now(clock)?, self.since))
     }
 }
 

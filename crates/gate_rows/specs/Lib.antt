@@ -6,11 +6,12 @@
 --     Parts       the same between a state and one of which parts were noted before
 --     FirstRows   the rows of schema version 1
 -- For the code: Same, that `==` of rows is equality; InOrder, in which order rows are read; Words, how the
--- numbers in them are.
+-- numbers in them are; Guess, small steps of the guess of a gate.
 pub mod Changed
 pub mod Decoding
 pub mod Encoding
 pub mod FirstRows
+pub mod Guess
 pub mod InOrder
 pub mod Parts
 pub mod Same

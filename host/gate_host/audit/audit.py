@@ -4,7 +4,7 @@ import re
 import sys
 import tempfile
 from pathlib import Path
-from typing import Dict, List, Mapping, Optional, Tuple, Union
+from typing import Dict, List, Mapping, Optional, Sequence, Tuple, Union
 
 from ..faults import Trouble, Unable
 from ..places import text_of_reference
@@ -14,9 +14,11 @@ from .journal_file import read_journal
 from .objects import Objects, full_name, head_of
 from .replay import replayed
 from .shown import Result, json_of_result, text_of_result
-from .steps import Known, Step, landings_by_commit, lost, steps_of, to_be_made
+from .steps import Commit, Known, Step, Written, landings_by_commit, lost, steps_of, to_be_made
 from .story import Story, movers_in, story_of
 
+# The file with the bot's settings, and up to how many bytes a host reads it.
+SETTINGS, MOST_IN_SETTINGS = "bors.toml", 10000
 # How often a branch may move while the journal is read.
 ATTEMPTS = 10
 
@@ -64,7 +66,9 @@ def result_of(journal: Journal, objects: Objects, program: str, start: Optional[
         walk = objects.walk()
         beginning = full_name(walk, start) if start else None
         made = objects.remake_all(to_be_made(walk, story, beginning))
-        known = Known(objects.branch, walk, story, movers_in(journal.facts), made, required_by_text(program, story), allowed)
+        required = required_by_text(program, story)
+        written = written_of(program, walk, story, objects, required)
+        known = Known(objects.branch, walk, story, movers_in(journal.facts), made, required, allowed, written)
         steps = steps_of(known, beginning)
         others += [*without_beginning(known), *lost(known, beginning)]
     answers = sum(row.answer is not None for row in journal.rows)
@@ -82,6 +86,23 @@ def required_by_text(program: str, story: Story) -> Mapping[str, Union[List[str]
     for landing in landings_by_commit(story).values():
         if landing.settings is not None and landing.settings not in found:
             found[landing.settings] = required_statuses(program, landing.settings)
+    return found
+
+
+def written_of(
+    program: str, walk: Sequence[Commit], story: Story, objects: Objects, required: Mapping[str, Union[List[str], int]],
+) -> Dict[str, Written]:
+    """What stands in the repository about each landing of the branch. A text of settings counts only if the program takes it: else those of
+    before stay."""
+    landings, taken = landings_by_commit(story), {text: isinstance(found, list) for text, found in required.items()}
+    found = {}
+    for before, commit in zip(walk, walk[1:]):
+        landing = landings.get(commit.name)
+        if landing and landing.land.base == before.name:
+            text = objects.text_at(before.name, SETTINGS, MOST_IN_SETTINGS)
+            if text is not None and text not in taken:
+                taken[text] = isinstance(required_statuses(program, text), list)
+            found[commit.name] = Written(text if text is not None and taken[text] else None, objects.message_of(commit.name))
     return found
 
 

@@ -83,6 +83,16 @@ class Objects:
         written = ask_git(self.mirror, "log", "--first-parent", "--reverse", "--format=%H %T %P", NAME, seconds=SECONDS_FOR_OBJECTS)
         return [Commit(name, tree, tuple(parents)) for name, tree, *parents in map(str.split, written.splitlines())]
 
+    def text_at(self, commit: str, name: str, most: int) -> Optional[str]:
+        """The text of a file of a commit, or none if it has no such file, or one with more bytes."""
+        found = ask_git(self.mirror, "ls-tree", "--long", commit, "--", name).split()
+        if found[1:2] != ["blob"] or int(found[3]) > most:
+            return None
+        return ask_git(self.mirror, "cat-file", "blob", found[2])
+
+    def message_of(self, commit: str) -> str:
+        return ask_git(self.mirror, "log", "-1", "--no-show-signature", "--format=%B", commit)
+
     def remake_all(self, stages: Mapping[str, Stage]) -> Dict[str, Remade]:
         return {commit: self.remake(stage) for commit, stage in stages.items()}
 

@@ -1,9 +1,9 @@
 """Each step of the main branch, and what isn't right with it, as a function of the history of the branch and of what was said."""
 from dataclasses import dataclass, field
-from typing import Collection, Dict, Iterator, List, Mapping, NamedTuple, Optional, Sequence, Tuple, Union
+from typing import Collection, Dict, Iterator, List, Mapping, NamedTuple, Optional, Sequence, Set, Tuple, Union
 
 from .entries import Finding, Stage
-from .story import Base, Landing, Story
+from .story import Approval, Base, Landing, Story
 
 
 class Commit(NamedTuple):
@@ -22,10 +22,19 @@ class Remade(NamedTuple):
 
 
 @dataclass(frozen=True)
+class Written:
+    """What stands in the repository about a landing: the text of the bot's settings in its base, or none if there is none that the bot
+    takes; and the message of its commit."""
+
+    settings: Optional[str] = None
+    message: str = ""
+
+
+@dataclass(frozen=True)
 class Known:
     """All that the steps are held against: the branch from its beginning, each commit the first parent of the next; what was said; who
-    moved it; the merges, made again, by their commits; the required statuses by the texts of settings, or the number of the refusal; and
-    whose pushes past the queue are no findings."""
+    moved it; the merges, made again, by their commits; the required statuses by the texts of settings, or the number of the refusal; whose
+    pushes past the queue are no findings; and what is written about landings, by their commits."""
 
     branch: str
     walk: Sequence[Commit]
@@ -34,6 +43,7 @@ class Known:
     remade: Mapping[str, Remade]
     required: Mapping[str, Union[List[str], int]]
     allowed: Collection[str] = ()
+    written: Mapping[str, Written] = field(default_factory=dict)
 
 
 @dataclass(frozen=True)
@@ -181,6 +191,7 @@ def step_of_landing(known: Known, before: Commit, commit: Commit, landing: Landi
     findings = [
         *wrong_report(known.story, commit.name, landing), *wrong_merge(known, before, commit, landing),
         *not_tested(commit.name, landing, found), *not_approved(commit.name, landing),
+        *wrong_words(known.written.get(commit.name, Written()), commit.name, landing),
     ]
     return Step(commit.name, "landing", landing.at, landing=landing, required=required, findings=findings)
 
@@ -239,6 +250,41 @@ def not_approved(commit: str, landing: Landing) -> Iterator[Finding]:
         if approval is None or approval.head != head:
             said = f"change {change} landed with {commit} at the head {head}, and no approval of this head stood at {landing.name}"
             yield Finding("not approved", said, commit)
+
+
+# What is written in the repository
+
+
+def wrong_words(written: Written, commit: str, landing: Landing) -> Iterator[Finding]:
+    """Whether a landing went by the settings of its base, and whether its message names who approved it. The message of a host of before
+    names nobody."""
+    if written.settings is not None and written.settings != landing.settings:
+        said = f"{commit} landed by other settings than those that bors.toml has in its base {landing.land.base}"
+        yield Finding("other settings", said, commit)
+    told = trailers_in(written.message)
+    if "Batch" not in told:
+        return
+    due = {"Batch": {str(landing.land.batch)}, "Approved-by": {it for approval in landing.approvals.values() for it in words_of(approval)}}
+    for name, texts in due.items():
+        if told.get(name, set()) != texts:
+            found = ", ".join(sorted(told.get(name, set()))) or "nothing"
+            said = f"the message of {commit} says {name}: {found}, and it has to be {', '.join(sorted(texts)) or 'nothing'}"
+            yield Finding("other message", said, commit)
+
+
+def words_of(approval: Approval) -> List[str]:
+    """Each who approved, as a message names them: with who said it, if that was somebody else."""
+    return [name if name == approval.person else f"{name} (said by {approval.person})" for name in approval.approvers]
+
+
+def trailers_in(message: str) -> Dict[str, Set[str]]:
+    """The trailers of a message: the lines of its last part."""
+    last = message.strip("\n").split("\n\n")[-1]
+    found: Dict[str, Set[str]] = {}
+    for name, colon, text in (line.partition(": ") for line in last.split("\n")):
+        if colon:
+            found.setdefault(name, set()).add(text)
+    return found
 
 
 # What was lost

@@ -7,7 +7,8 @@ from dataclasses import dataclass
 from enum import Enum, auto
 from typing import Dict, List, Optional, Tuple
 
-COMMAND_LINE = re.compile(r"bors[ :]", re.IGNORECASE)
+# Without ASCII a long s would be one as well.
+COMMAND_LINE = re.compile(r"bors[ :]", re.IGNORECASE | re.ASCII)
 NUMBER = r"p=(-?[0-9]{1,4})"
 PRIORITY = re.compile(NUMBER)
 APPROVAL = re.compile(rf"(?:r\+|merge)(?: +{NUMBER})?")

@@ -31,7 +31,8 @@ def upgraded(known: "Known") -> Upgraded:
         "dated": [[change, *it] for change, it in known.dated.items()], "reported": known.reported,
         "labels": [[change, sorted(it)] for change, it in known.labels.items()],
         "reviews": [[change, it] for change, it in known.reviews.items()],
-        "people": [[change, it.author, it.approvers, it.last and list_of(it.last)] for change, it in known.people.items()],
+        "over": sorted(known.over),
+        "people": [[change, it.author, it.approvers, it.said_by, it.last and list_of(it.last)] for change, it in known.people.items()],
         "members": [[branch, [astuple(it) for it in batch.members]] for branch, batch in known.batches.items()],
         "landings": [[it.batch, it.base, it.commit, [astuple(member) for member in it.members]] for it in known.landings.values()],
         "landed_by": list(known.landed_by.items()),
@@ -77,15 +78,19 @@ def restore_people(known: "Known", table: Mapping[str, Any]) -> None:
     from .known import Landing, Member, People
 
     def members_in(found: List[List[Any]]) -> Tuple[Member, ...]:
-        return tuple(Member(change, head, author, tuple(approvers)) for change, head, author, approvers in found)
+        return tuple(Member(change, head, author, tuple(approvers), by) for change, head, author, approvers, by in found)
     known.settings, known.taken = table.get("settings"), table.get("taken", "")
+    if "taken" not in table:
+        # They are told again, which does nothing, and are known then.
+        known.settings_of = ""
     known.queued = dict(table.get("queued", []))
     known.dated = {change: (head, at) for change, head, at in table.get("dated", [])}
     known.reported = {commit: dict(states) for commit, states in table.get("reported", {}).items()}
     known.labels = {change: set(it) for change, it in table.get("labels", [])}
     known.reviews = {change: dict(it) for change, it in table.get("reviews", [])}
-    for change, author, approvers, last in table.get("people", []):
-        known.people[change] = People(author, tuple(approvers), last and Command(Kind[last[0]], tuple(last[1]), last[2]))
+    known.over = set(table.get("over", []))
+    for change, author, approvers, said_by, last in table.get("people", []):
+        known.people[change] = People(author, tuple(approvers), said_by, last and Command(Kind[last[0]], tuple(last[1]), last[2]))
     for branch, members in table.get("members", []):
         known.batches[branch] = replace(known.batches[branch], members=members_in(members))
     for batch, base, commit, members in table.get("landings", []):

@@ -42,22 +42,25 @@ class Change:
 
 @dataclass(frozen=True)
 class People:
-    """The people of a change: its author, and who has approved it last, if anybody has since its head came. And which command `retry`
-    repeats: the last approval or try that has acted."""
+    """The people of a change: its author, and who has approved it last, if anybody has since its head came, by whose word. And which
+    command `retry` repeats: the last approval or try that has acted."""
 
     author: str = ""
     approvers: Tuple[str, ...] = ()
+    said_by: str = ""
     last: Optional[Command] = None
 
 
 @dataclass(frozen=True)
 class Member:
-    """A change of a batch as it was ordered to be staged: its head, its author, and who approved it. A try needs no approval."""
+    """A change of a batch as it was ordered to be staged: its head, its author, and who approved it, by whose word. A try needs no
+    approval."""
 
     change: int
     head: str
     author: str
     approvers: Tuple[str, ...] = ()
+    said_by: str = ""
 
 
 @dataclass(frozen=True)
@@ -146,7 +149,8 @@ class Known:
     # The last batch of each branch, and the orders that are open, by their names, in the order in which they were given.
     batches: Dict[str, Batch] = field(default_factory=dict)
     orders: Dict[str, Union[Stage, Land]] = field(default_factory=dict)
-    # What is to be tested on each branch, and how the checks of it have ended.
+    # What is to be tested on each branch, which batches of these are surely over, and how the checks of each have ended.
+    over: Set[int] = field(default_factory=set)
     tests: Dict[str, Test] = field(default_factory=dict)
     results: Dict[str, Dict[str, str]] = field(default_factory=dict)
     # Which faults of a check people were told of already.
@@ -192,8 +196,8 @@ class Known:
         return self.landings.get(self.landed_by.get(change, ""))
 
     def tests_of(self, commit: str) -> List[Test]:
-        """What is tested by a commit."""
-        return [test for test in self.tests.values() if test.commit == commit]
+        """What is tested by a commit, and isn't over."""
+        return [test for test in self.tests.values() if test.commit == commit and test.batch not in self.over]
 
     def changes_at(self, commit: str) -> List[int]:
         """The changes of the batches that are tested by a commit, and the open changes of which it is the head."""
@@ -260,7 +264,8 @@ class Known:
     def take_change(self, fact: Union[Opened, Pushed, Closed]) -> List[Told]:
         before = self.changes.get(fact.change)
         people = self.people_of(fact.change)
-        self.people[fact.change] = replace(people, approvers=(), author=fact.author if isinstance(fact, Opened) else people.author)
+        author = fact.author if isinstance(fact, Opened) else people.author
+        self.people[fact.change] = replace(people, approvers=(), said_by="", author=author)
         # A head that moves ends all reviews, also if it comes back.
         self.reviews.pop(fact.change, None)
         if isinstance(fact, Closed):
@@ -391,7 +396,11 @@ class Known:
         """Tells what became of each command of a comment. If there aren't as many as there are replies, it tells the replies alone."""
         change, text = delivery.changes[0], []
         commands: List[Optional[Command]] = [*commands_in(delivery.text)]
-        for command, reply in zip(commands if len(commands) == len(answer) else [None] * len(answer), answer):
+        if len(commands) != len(answer):
+            # Who approved can't be told then, and nobody is named.
+            commands = [None] * len(answer)
+            self.people[change] = replace(self.people_of(change), approvers=(), said_by="")
+        for command, reply in zip(commands, answer):
             people = self.people_of(change)
             if isinstance(reply, Denied) or command is None:
                 text.append(words.reply_in_words(reply))
@@ -418,9 +427,9 @@ class Known:
             self.changes[change] = Change("landed", head)
             self.landed_by[change] = land.commit
         self.landings[land.commit] = Landing(land.batch, land.base, land.commit, batch.members)
-        approvers = {member.change: member.approvers for member in batch.members}
+        approvals = {member.change: words.approval(member) for member in batch.members}
         text = words.landed(batch.stage, self.landed_on, land.commit)
-        return [Told(change, f"{text}{words.approved_by(approvers.get(change, ()))}") for change in batch.stage.changes]
+        return [Told(change, f"{text}{words.approved_by(approvals.get(change, ''))}") for change in batch.stage.changes]
 
     def take_order(self, name: str, delivery: Delivery, order: Order) -> List[Told]:
         """Takes in an order. A batch on a branch replaces the one before it there, with its order and its test."""
@@ -443,15 +452,24 @@ class Known:
         """The changes of a batch with their people, as they are now."""
         people = {change: self.people_of(change) for change in stage.changes}
         is_try = stage.branch == "trying"
-        return tuple(Member(it, head, people[it].author, () if is_try else people[it].approvers) for it, head in stage.heads)
+        if is_try:
+            return tuple(Member(it, head, people[it].author) for it, head in stage.heads)
+        return tuple(Member(it, head, people[it].author, people[it].approvers, people[it].said_by) for it, head in stage.heads)
 
     def note_end(self, delivery: Delivery, answer: Answer) -> None:
         """Notes whether a batch has ended by this, so that the next one needn't wait for its reading of the clock: it has landed, was
         refused, can't be merged, has failed or took too long, or was a try that has passed."""
         is_end = delivery.order is not None and delivery.event in ("base", "refused", "conflict")
         has_failed = delivery.event == "status" and delivery.state in ("failure", "error")
-        is_told = any(isinstance(order, Notice) and order.why in ENDS for order in orders_of(answer))
-        self.ended += is_end or has_failed or is_told
+        notices = [order for order in orders_of(answer) if isinstance(order, Notice)]
+        self.ended += is_end or has_failed or any(notice.why in ENDS for notice in notices)
+        self.over = {batch for batch in self.over if self.batch_of(batch)}
+        if is_end and isinstance(delivery.order, (Stage, Land)):
+            self.over.add(delivery.order.batch)
+        for notice in notices:
+            batch = self.batches.get("trying" if notice.why in words.TRIES else "staging")
+            if batch and batch.commit and notice.change in batch.stage.changes and notice.why in (*ENDS, "Failed"):
+                self.over.add(batch.stage.batch)
 
 
 def after_command(people: People, command: Command, person: str) -> People:
@@ -459,7 +477,7 @@ def after_command(people: People, command: Command, person: str) -> People:
     meant = people.last if command.kind is Kind.RETRY and people.last else command
     last = meant if meant.kind in REPEATED else people.last
     if meant.kind is Kind.APPROVE:
-        return replace(people, approvers=(person,), last=last)
+        return replace(people, approvers=(person,), said_by=person, last=last)
     if meant.kind is Kind.APPROVE_FOR:
-        return replace(people, approvers=meant.people, last=last)
-    return replace(people, approvers=() if meant.kind is Kind.WITHDRAW else people.approvers, last=last)
+        return replace(people, approvers=meant.people, said_by=person, last=last)
+    return replace(people, approvers=(), said_by="", last=last) if meant.kind is Kind.WITHDRAW else replace(people, last=last)

@@ -148,9 +148,14 @@ def report_in(note: str, person: str, body: Mapping[str, Json]) -> Union[Report,
     more = body.get("description")
     if not (isinstance(commit, str) and is_commit(commit) and isinstance(name, str) and is_name_of_status(name)):
         return Strange(note, person)
-    if not isinstance(state, str) or state not in STATES or not isinstance(more, str) or len(more) > MOST_IN_DESCRIPTION:
+    if not isinstance(state, str) or state not in STATES or not isinstance(more, str) or not is_description(more):
         return Strange(note, person)
     return Report(note, person, commit, name, state, more.encode("utf-8", "replace").decode("utf-8"))
+
+
+def is_description(text: str) -> bool:
+    """Whether this describes a status: a short text on one line."""
+    return len(text) <= MOST_IN_DESCRIPTION and not CONTROL.search(text)
 
 
 def is_name_of_status(name: str) -> bool:

@@ -5,7 +5,7 @@ from .commands import Command, Kind
 from .orders import Answer, Denied, Notice, Reply, Stage
 
 if TYPE_CHECKING:
-    from .known import Batch, Landing
+    from .known import Batch, Landing, Member
 
 # The first digits of a commit, by which people know it, and how much of a title they are shown.
 DIGITS = 7
@@ -102,9 +102,20 @@ def staged(stage: Stage, commit: str) -> str:
     return f"Batch {stage.batch} ({listed(stage.changes)}) is merged onto {stage.base[:DIGITS]} as {commit[:DIGITS]}, which is tested now."
 
 
-def approved_by(people: Sequence[str]) -> str:
+def approval(member: "Member") -> str:
+    """Who approved a change, by whose word if that was somebody else's; or nothing."""
+    return ", ".join(approvals(member))
+
+
+def approvals(member: "Member") -> Sequence[str]:
+    """Each who approved a change. An `r=` asks nothing of those whom it names, so who said it stands there too."""
+    said = f" (said by {member.said_by})" if member.said_by else ""
+    return [name if name == member.said_by else f"{name}{said}" for name in member.approvers]
+
+
+def approved_by(people: str) -> str:
     """Who approved something, as a sentence more, or nothing."""
-    return f" Approved by {', '.join(people)}." if people else ""
+    return f" Approved by {people}." if people else ""
 
 
 def landing_of(landing: "Optional[Landing]", change: int) -> str:
@@ -112,13 +123,13 @@ def landing_of(landing: "Optional[Landing]", change: int) -> str:
     if landing is None:
         return ""
     member = next((it for it in landing.members if it.change == change), None)
-    by = f", approved by {', '.join(member.approvers)}" if member and member.approvers else ""
+    by = f", approved by {approval(member)}" if member and member.approvers else ""
     return f"\nlanded as {landing.commit} with batch {landing.batch}{by}\n"
 
 
 def reported(person: str, description: str) -> str:
     """How a check has ended, as somebody reports it."""
-    return f"as {person} reports{': ' if description else ''}{plain(description)}"
+    return f"as {person} reports{': ' if description else ''}{' '.join(plain(description).split())}"
 
 
 def merge_message(batch: "Batch", titles: Mapping[int, str]) -> str:
@@ -127,17 +138,25 @@ def merge_message(batch: "Batch", titles: Mapping[int, str]) -> str:
     lines = [f"Batch {stage.batch}: " + ", ".join(f"change {change}" for change in stage.changes), ""]
     for it in batch.members:
         lines.append(f"change {it.change}: {plain(titles.get(it.change, ''))[:MOST_IN_TITLE]}".rstrip())
-        by = [f"by {it.author}"] * bool(it.author) + [f"approved by {', '.join(it.approvers)}"] * bool(it.approvers)
+        by = [f"by {it.author}"] * bool(it.author) + [f"approved by {approval(it)}"] * bool(it.approvers)
         lines.append(f"  {', '.join([it.head, *by])}")
-    people = dict.fromkeys(person for it in batch.members for person in it.approvers)
+    people = dict.fromkeys(person for it in batch.members for person in approvals(it))
     trailers = [*(f"Approved-by: {person}" for person in people), f"Batch: {stage.batch}"]
     return "\n".join([*lines, *([""] if batch.members else []), *trailers]) + "\n"
 
 
 def without_reporter(names: Sequence[str]) -> str:
     """That some required statuses never come."""
-    said = "the status " if len(names) == 1 else "the statuses "
-    return f"{said}{', '.join(map(plain, names))}, for which there is neither a command in the settings of the host nor a reporter"
+    return f"{statuses(names)}, for which there is neither a command in the settings of the host nor a reporter"
+
+
+def without_reporter_of_heads(names: Sequence[str]) -> str:
+    """That some statuses never come which the heads of changes have to have."""
+    return f"{statuses(names)} of heads of changes, for which there is no reporter"
+
+
+def statuses(names: Sequence[str]) -> str:
+    return ("the status " if len(names) == 1 else "the statuses ") + ", ".join(map(plain, names))
 
 
 def conflict(stage: Stage, which: int, why: str) -> str:

@@ -55,6 +55,7 @@ class OwnerOnGitHub(OwnerFiles):
         self.by_permission = roles
         super().__init__(places, owner)
         self.reporters: Mapping[str, FrozenSet[str]] = AnyStatus()
+        self.has_reviews = True
         self.with_permissions()
 
     def with_permissions(self) -> None:

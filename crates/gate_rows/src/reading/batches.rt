@@ -1,6 +1,9 @@
-ghost use Rattle.std.specs.Prelude.{◌≡◌, IfOk};
+ghost use Rattle.std.specs.Prelude.{◌≡◌, ◌⊎◌, IfErr, IfOk, IsTrue, OnErr, OnOk};
 ghost use Rattle.gate_rows.specs.Encoding as encoding;
+ghost use Rattle.gate_rows.specs.Guess.{HasMore};
 ghost use Rattle.gate_rows.specs.Words.{IsReadBy};
+ghost use Rattle.gate_state.specs.Checks.{is_waiting};
+ghost use Rattle.gate_state.specs.declared.lane.Lane.{Lane as LaneOf};
 
 use crate::reading::words::{change_no, commit, context, natural, priority};
 use gate_rules::Desk;
@@ -154,8 +157,13 @@ fn stage_in(row: &BatchRow, reports: Reports) -> Result<Stage, TablesFault>
     }
 }
 
-// A batch that doesn't wait runs, and a branch runs one.
-fn put_batch(lane: &mut Lane, batch: Batch) -> Result<(), TablesFault> {
+// A batch that doesn't wait runs, and a branch runs one. So `Store` if there is no such branch with this batch as well.
+fn put_batch(lane: &mut Lane, batch: Batch) -> Result<(), TablesFault>
+    ensures ok { OnOk result (HasMore batch lane.old lane.new) }
+    ensures same { OnErr result (lane.new ≡ lane.old) }
+    ensures cause { IfErr result (λ fault. ((fault ≡ TablesFault.Memory) × IsTrue (is_waiting batch.stage))
+        ⊎ ((fault ≡ TablesFault.Store) × ((other : LaneOf) → ¬ HasMore batch lane.old other))) }
+{
     if let Stage::Waiting = &batch.stage {
         lane.waiting.push(batch)?;
         return Ok(());

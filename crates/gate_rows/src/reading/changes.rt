@@ -1,7 +1,9 @@
-ghost use Rattle.std.specs.Prelude.{◌≡◌, [], None, Some, pos, if◌then◌else◌};
+ghost use Rattle.std.specs.Prelude.{◌≡◌, ◌≢◌, ℕ, List, [], None, Some, pos, if◌then◌else◌, IfSome, IsNone};
+ghost use Rattle.std.specs.Borrow.{sem};
 ghost use Rattle.std.specs.Ordering.{int_eq};
 ghost use Rattle.gate_rows.specs.Decoding.{last_in};
 ghost use Rattle.gate_rows.specs.Encoding as encoding;
+ghost use Rattle.gate_rows.specs.Guess.{LendsNames};
 ghost use Rattle.gate_rows.specs.Words.{IsReadBy};
 
 use crate::reading::words::{change_no, commit, context, label, name, priority};
@@ -91,16 +93,25 @@ fn put_word(alloc: Global, change: &mut Change, kind: i64, word: &Text) -> Resul
         2 => change.reviews.insert(name(alloc, word)?)?,
         3 => change.delegates.insert(name(alloc, word)?)?,
         4 => put_name(alloc, change.approved.as_mut(), word)?,
-        5 => put_name(alloc, names_of(&mut change.last), word)?,
+        5 => put_name(
+            alloc,
+            names_of(change.last.as_mut().ok_or(TablesFault::Store)?),
+            word,
+        )?,
         8 => change.passed.insert(context(alloc, word)?)?,
         _ => return Err(TablesFault::Store),
     }
     Ok(())
 }
 
-fn names_of(last: &mut Option<Repeat>) -> Option<&mut Names> {
-    match last {
-        Some(Repeat::ApproveFor(names)) => Some(names),
+// The names of an `r=`. Any other command has none.
+fn names_of(repeat: &mut Repeat) -> Option<&mut Names>
+    ensures* writes_back { sem 𝓛 (LendsNames repeat.entry result) }
+    ensures some { IfSome result (λ names. repeat.old ≡ Repeat.ApproveFor names.now) }
+    ensures none { IsNone result → (names : List (List ℕ)) → repeat.old ≢ Repeat.ApproveFor names }
+{
+    match repeat {
+        Repeat::ApproveFor(names) => Some(names),
         _ => None,
     }
 }
