@@ -247,6 +247,13 @@ class ShownTests(WithGitHub):
         self.assertEqual((shown["head"]["repo"]["full_name"], shown["head"]["repo"]["fork"]), ("otto/project", True))
         self.assertEqual(self.look("/repos/otto/project")["parent"]["full_name"], "team/project")
 
+    def test_the_ref_of_a_change(self):
+        change = self.people.propose(self.project, "ines", "topic", {"one": "1\n"})
+        self.assertEqual(self.look(f"{HERE}/git/ref/pull/1/head")["object"]["sha"], change.head_sha)
+        self.assertEqual(self.look(f"{HERE}/commits/{change.head_sha[:9]}")["sha"], change.head_sha)
+        self.assertEqual(self.look(f"{HERE}/commits/heads/topic/status")["sha"], change.head_sha)
+        self.assertEqual([it["sha"] for it in self.look(f"{HERE}/pulls/1/commits")], [change.head_sha])
+
     def test_a_change_that_conflicts(self):
         self.people.propose(self.project, "ines", "topic", {"README": "one\n"})
         self.people.push_files(self.project, "vera", "main", {"README": "two\n"})

@@ -98,7 +98,7 @@ class GitHub:
 
     def act(self, call: Call, operation: str, found: tuple) -> Reply:
         asker, refused = self.asker(call)
-        if operation.startswith("git/"):
+        if found[0] is None and operation.startswith("git/"):
             return self.git.answer(call, asker)
         if refused:
             return self.rest.refusal(refused, None)
