@@ -97,13 +97,14 @@ class TokenTests(WithKeys):
         other, _ = make_keys()
         for signed, words in (
             (self.signed(other), "could not be decoded"), (self.signed("a secret", "HS256"), "could not be decoded"),
-            (self.signed(iss="7"), "'iss'"), (self.signed(iss=None), "'iss'"), (self.signed(iat=now + 120), "'iat'"),
+            (self.signed(iss=None), "'iss'"), (self.signed(iat=now + 120), "'iat'"),
             (self.signed(iat=None), "'iat'"), (self.signed(exp=now - 5), "'exp'"), (self.signed(exp=None), "'exp'"),
             (self.signed(exp=now + 700), "too far in the future"), (self.signed()[:-4] + "AAAA", "could not be decoded"),
             ("a.b.c", "could not be decoded"),
         ):
             got = self.ask("/app", token=signed)
             self.assertEqual((got.status, words in got.json["message"]), (401, True), got.json)
+        self.refused(404, "Integration not found", "/app", token=self.signed(iss="7"))
         # Without a signature at all.
         bare = jwt.encode({"iss": str(self.app.id), "iat": now, "exp": now + 60}, None, algorithm="none")
         self.assertEqual(self.ask("/app", token=bare).status, 401)

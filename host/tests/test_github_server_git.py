@@ -179,6 +179,28 @@ class ProtectedTests(WithGitHub):
         self.people.add_ruleset(self.project, "the queue", ["~DEFAULT_BRANCH"], ("update", "deletion"), apps=[self.app.id])
         self.only_the_app_pushes("GH013", "Cannot update this protected ref.")
 
+    def test_a_commit_without_the_checks_that_are_required(self):
+        self.people.protect(self.project, "main", apps=["gate"], checks=["build", "lint"])
+        self.people.push(self.project, "ines", "staging", self.project.bare.sha("main"))
+        self.assertEqual(self.tried("gate", "HEAD:refs/heads/staging").returncode, 0)
+        self.people.status(self.project, "ines", self.made, "build", "success")
+        ran = self.tried("gate", "HEAD:refs/heads/main")
+        self.assertIn("2 of 2 required status checks are expected.", ran.stderr)
+        self.people.check_run(self.project, self.made, "lint", conclusion="failure")
+        self.assertNotEqual(self.tried("gate", "HEAD:refs/heads/main").returncode, 0)
+        self.people.check_run(self.project, self.made, "lint", conclusion="skipped")
+        ran = self.tried("gate", "HEAD:refs/heads/main")
+        self.assertEqual(ran.returncode, 0, ran.stderr)
+
+    def test_a_ruleset_that_requires_checks(self):
+        ruleset = self.people.add_ruleset(self.project, "checks", ["~ALL"], ())
+        ruleset.rules.append({"type": "required_status_checks", "parameters": {
+            "strict_required_status_checks_policy": False, "required_status_checks": [{"context": "build"}]}})
+        ran = self.tried("gate", "HEAD:refs/heads/main")
+        self.assertIn('- Required status check "build" is expected.', ran.stderr)
+        self.people.status(self.project, "ines", self.made, "build", "success")
+        self.assertEqual(self.tried("gate", "HEAD:refs/heads/main").returncode, 0)
+
     def test_a_ruleset_that_isnt_at_work(self):
         self.people.add_ruleset(self.project, "later", ["refs/heads/main"], apps=[self.app.id], enforcement="disabled")
         self.assertEqual(self.tried("ines", "HEAD:refs/heads/main").returncode, 0)

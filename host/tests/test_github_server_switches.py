@@ -223,6 +223,22 @@ class WebhookTests(WithGitHub):
         self.say("g")
         self.assertEqual(self.bodies()[3:], ["e", "d", "f", "g"])
 
+    def test_held_and_sent_while_others_speak(self):
+        """What sends and what tells wait for each other nowhere."""
+        def speak():
+            for number in range(20):
+                self.people.comment(self.change, "vera", str(number))
+        threads = [threading.Thread(target=speak, daemon=True) for _ in range(3)]
+        for thread in threads:
+            thread.start()
+        for _ in range(50):
+            self.hub.webhooks.held = True
+            self.hub.webhooks.release()
+        for thread in threads:
+            thread.join(60)
+        self.hub.webhooks.release()
+        self.assertEqual(sorted(self.bodies()), sorted([str(it) for it in range(20)] * 3))
+
     def test_what_a_late_one_says_is_old(self):
         self.hub.webhooks.held = True
         head = self.change.head_sha

@@ -36,6 +36,11 @@ printf '%s\\n' "$PUSH_RULES" | while read -r code kind pattern words; do
     creation) [ "$old" = $none ] || continue ;;
     deletion) [ "$new" = $none ] || continue ;;
     update) ;;
+    checks)
+        [ "$new" != $none ] || continue
+        # The first word has the commits on which all checks succeeded.
+        case ,${words%% *}, in *,"$new",*) continue ;; esac
+        words=${words#* } ;;
     non_fast_forward)
         [ "$old" != $none ] && [ "$new" != $none ] || continue
         ! git merge-base --is-ancestor "$old" "$new" || continue ;;

@@ -218,6 +218,14 @@ class CheckRun:
     summary: Optional[str] = None
 
 
+def has_succeeded(repository: "Repository", sha: str, name: str) -> bool:
+    """Whether GitHub counts a check of this name as successful: the newest status, or the newest check run, where skipped is good too."""
+    statuses = [it.state == "success" for it in repository.statuses if it.sha == sha and it.context == name]
+    good = ("success", "neutral", "skipped")
+    runs = [it.conclusion in good for it in repository.check_runs if it.sha == sha and it.name == name]
+    return bool(statuses or runs) and all(them[-1] for them in (statuses, runs) if them)
+
+
 @dataclass(eq=False)
 class Repository:
     id: int

@@ -2,7 +2,7 @@
 from typing import Optional
 from urllib.parse import quote
 
-from .model import FLAGS, OLDER, ROLES, Comment, Hook, Label, Pull, Repository, Review, User, World, node, stamp
+from .model import FLAGS, OLDER, ROLES, App, Comment, Hook, Label, Pull, Repository, Review, User, World, node, stamp
 
 # The addresses that each repository has, below its own.
 ADDRESSES = {
@@ -82,6 +82,14 @@ class Shapes:
         if user is repository.owner:
             return "OWNER"
         return "COLLABORATOR" if user.login.lower() in repository.roles else "NONE"
+
+    def app(self, app: App) -> dict:
+        since = stamp(app.created_at)
+        return {
+            "id": app.id, "slug": app.slug, "node_id": node("App", app.id), "owner": self.user(app.owner), "name": app.slug,
+            "description": "", "external_url": f"{self.site}/{app.slug}", "html_url": f"{self.site}/apps/{app.slug}", "created_at": since,
+            "updated_at": since, "permissions": dict(app.permissions), "events": list(app.events),
+        }
 
     # Repositories
 
@@ -201,7 +209,7 @@ class Shapes:
     def pull(self, pull: Pull) -> dict:
         """A pull request by itself."""
         bare = pull.repository.bare
-        commits = bare.between(pull.base_sha, pull.head_sha) if pull.state == "open" else [pull.head_sha]
+        commits = bare.between(pull.base_sha, pull.head_sha)
         lines = [it for sha in commits for it in bare.changed(sha).items()]
         is_open = pull.state == "open"
         states = {True: "clean", False: "dirty", None: "unknown"}
@@ -241,13 +249,14 @@ class Shapes:
         return {"url": f"{address}/reactions", "total_count": 0, **dict.fromkeys(KINDS, 0)}
 
     def comment(self, comment: Comment) -> dict:
-        repository, urls = comment.pull.repository, self.addresses_of(comment.pull)
+        repository, urls, app = comment.pull.repository, self.addresses_of(comment.pull), self.world.app
         own = f"{self.url_of(repository)}/issues/comments/{comment.id}"
         return {
             "url": own, "html_url": f"{urls['html_url']}#issuecomment-{comment.id}", "issue_url": urls["issue_url"], "id": comment.id,
             "node_id": node("IssueComment", comment.id), "user": self.user(comment.user), "created_at": stamp(comment.created_at),
             "updated_at": stamp(comment.updated_at), "author_association": self.association(repository, comment.user),
-            "body": comment.body, "reactions": self.reactions(own), "performed_via_github_app": None,
+            "body": comment.body, "reactions": self.reactions(own),
+            "performed_via_github_app": self.app(app) if app and comment.user is app.user else None,
         }
 
     def review(self, review: Review) -> dict:

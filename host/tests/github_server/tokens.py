@@ -150,10 +150,12 @@ class Tokens:
             signed = decoded(signature)
         except ValueError:
             raise Refused(401, "A JSON web token could not be decoded", page) from None
-        if app is None or algorithm.get("alg") != "RS256" or not is_signed(app, f"{head}.{claims}".encode(), signed):
-            raise Refused(401, "A JSON web token could not be decoded", page)
-        if str(said.get("iss")) != str(app.id):
+        if "iss" not in said:
             raise Refused(401, "'Issuer' claim ('iss') must be an Integer", page)
+        if app is None or str(said["iss"]) != str(app.id):
+            raise Refused(404, "Integration not found", page)
+        if algorithm.get("alg") != "RS256" or not is_signed(app, f"{head}.{claims}".encode(), signed):
+            raise Refused(401, "A JSON web token could not be decoded", page)
         begun, ends = said.get("iat"), said.get("exp")
         if not isinstance(begun, (int, float)) or begun > now + 1:
             issued = "must be an Integer representing the time that the assertion was issued"
