@@ -24,7 +24,16 @@ class RefusalTests(WithGitHub):
         self.assertEqual(self.ask(HERE, headers={"Authorization": None}).status, 200)
         self.assertEqual([it.token for it in self.switches.asked()], ["unknown"] * 4 + ["expired", "none"])
 
+    def test_who_is_nobody_writes_nothing(self):
+        self.people.propose(self.project, "ines", "topic", {"one": "1\n"})
+        self.refused(
+            401, "Requires authentication", f"{HERE}/issues/1/comments", method="POST", given={"body": "hello"},
+            headers={"Authorization": None})
+        self.refused(401, "Requires authentication", "/user", headers={"Authorization": None})
+        self.assertEqual(self.look("/user", token=self.token_of("ines"))["login"], "ines")
+
     def test_a_token_is_good_for_an_hour(self):
+        self.hub.world.clock.stop()
         self.hub.world.clock.advance(3590)
         self.look(HERE)
         self.hub.world.clock.advance(20)
@@ -178,6 +187,26 @@ class ListTests(WithGitHub):
         self.assertEqual([it["body"] for it in self.look(path)], ["two", "three"])
 
 
+class IssueTests(WithGitHub):
+    """Issues that are no changes have numbers and comments of the same rows."""
+
+    def test_an_issue_between_changes(self):
+        self.people.propose(self.project, "ines", "topic", {"one": "1\n"})
+        issue = self.people.open_issue(self.project, "otto", "It doesn't work")
+        self.people.propose(self.project, "ines", "other", {"two": "2\n"})
+        receiver = self.receive()
+        self.people.comment(issue, "vera", "bors r+")
+        self.assertEqual([it["number"] for it in self.look(f"{HERE}/pulls")], [3, 1])
+        self.refused(404, "Not Found", f"{HERE}/pulls/2")
+        self.assertEqual([it["issue_url"][-2:] for it in self.look(f"{HERE}/issues/comments")], ["/2"])
+        self.assertEqual([it["body"] for it in self.look(f"{HERE}/issues/2/comments")], ["bors r+"])
+        found = ["pull_request" in self.look(f"{HERE}/issues/{number}") for number in (1, 2, 3)]
+        self.assertEqual(found, [True, False, True])
+        self.assertEqual(self.names(receiver), ["ping", "issue_comment.created"])
+        self.assertNotIn("pull_request", receiver.received[1].json["issue"])
+        self.assertEqual(self.ask(f"{HERE}/issues/2/comments", method="POST", given={"body": "no change"}).status, 201)
+
+
 class TagTests(WithGitHub):
     """What hasn't changed isn't sent again, and doesn't count."""
 
@@ -208,11 +237,12 @@ class LimitTests(WithGitHub):
         self.assertEqual((first["X-RateLimit-Limit"], first["X-RateLimit-Resource"]), ("5000", "core"))
 
     def test_a_limit_that_is_reached(self):
+        self.hub.world.clock.stop()
         self.hub.rest.exhaust(30)
         got = self.refused(403, "API rate limit exceeded for installation:1.", HERE)
         self.assertEqual(got.headers["X-RateLimit-Remaining"], "0")
         self.assertNotIn("Retry-After", got.headers)
-        self.assertAlmostEqual(int(got.headers["X-RateLimit-Reset"]), self.hub.world.clock.now() + 30, delta=3)
+        self.assertEqual(int(got.headers["X-RateLimit-Reset"]), self.hub.world.clock.now() + 30)
         self.assertEqual(self.look("/rate_limit")["rate"]["remaining"], 0)
         # Other tokens of the installation have the same limit, and people have theirs.
         self.assertEqual(self.ask(HERE, token=self.hub.installation_token()).status, 403)

@@ -205,11 +205,11 @@ class WebhookTests(WithGitHub):
         self.assertEqual(len({it.headers["X-GitHub-Delivery"] for it in self.receiver.received}), 2)
 
     def test_late(self):
-        self.hub.webhooks.late = lambda event, payload: 0.5 if payload["comment"]["body"] == "a" else 0
+        self.hub.webhooks.late = lambda event, payload: 1.5 if payload["comment"]["body"] == "a" else 0
         before = time.monotonic()
         self.say("a", "b", "c")
         self.assertEqual(self.bodies(), ["b", "c", "a"])
-        self.assertGreaterEqual(time.monotonic() - before, 0.5)
+        self.assertGreaterEqual(time.monotonic() - before, 1.5)
 
     def test_held_and_out_of_order(self):
         self.hub.webhooks.held = True
