@@ -5,6 +5,7 @@
 import re
 import sys
 import unittest
+from email.utils import parsedate_to_datetime
 from pathlib import Path
 
 sys.path[:0] = [str(Path(__file__).resolve().parent)]
@@ -276,6 +277,23 @@ class ShownTests(WithGitHub):
         shown = self.look(f"{HERE}/pulls/1")
         self.assertEqual((shown["head"]["repo"]["full_name"], shown["head"]["repo"]["fork"]), ("otto/project", True))
         self.assertEqual(self.look("/repos/otto/project")["parent"]["full_name"], "team/project")
+
+    def test_a_change_from_a_fork_that_is_gone(self):
+        fork = self.people.fork("otto", self.project)
+        change = self.people.propose(self.project, "otto", "topic", {"one": "1\n"}, fork=fork)
+        self.people.delete_fork(fork)
+        shown = self.look(f"{HERE}/pulls/1")
+        self.assertEqual((shown["state"], shown["head"]["repo"], shown["head"]["label"]), ("open", None, "otto:topic"))
+        self.assertEqual(shown["head"]["sha"], self.project.bare.sha("refs/pull/1/head"))
+        self.refused(404, "Not Found", "/repos/otto/project")
+        self.assertRaises(NotPossible, self.people.reopen, change, "otto")
+        self.people.push(self.project, "vera", "main", change.head_sha)
+        self.assertEqual(self.look(f"{HERE}/pulls/1")["merged"], True)
+
+    def test_the_clock_of_the_server(self):
+        self.hub.world.clock.advance(3 * 24 * 3600)
+        said = parsedate_to_datetime(self.ask("/rate_limit", token=self.token_of("ines")).headers["Date"])
+        self.assertAlmostEqual(said.timestamp(), self.hub.world.clock.now(), delta=60)
 
     def test_the_ref_of_a_change(self):
         change = self.people.propose(self.project, "ines", "topic", {"one": "1\n"})

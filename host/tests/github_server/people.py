@@ -52,6 +52,14 @@ class People:
         made.bare.git("fetch", "--quiet", "--no-write-fetch-head", str(repository.bare.path), "+refs/heads/*:refs/heads/*")
         return made
 
+    def delete_fork(self, fork: Repository) -> None:
+        """Deletes a fork. Its pull requests stay, with no repository for their heads, and so do their refs."""
+        with self.world.lock:
+            del self.world.repositories[fork.full_name.lower()]
+            for pull in (it for repository in self.world.repositories.values() for it in repository.pulls.values()):
+                if pull.head_repository is fork:
+                    pull.head_repository = None
+
     def set_role(self, repository: Repository, who: Who, role: str) -> User:
         """Gives a person a role: read, triage, write, maintain or admin; or none."""
         with self.world.lock:
@@ -244,7 +252,7 @@ class People:
             return issue
 
     def comment(self, issue: Union[Pull, Issue], who: Who, body: str) -> Comment:
-        """Comments on a pull request, or on an issue."""
+        """Comments on a pull request, or on an issue. Of what is typed on GitHub's page lines end with CR and LF."""
         with self.world.lock:
             now, user = self.world.clock.now(), self.user(who)
             comment = Comment(self.world.next_id(), issue, user, body, now, now)

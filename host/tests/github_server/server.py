@@ -202,5 +202,9 @@ class Handler(BaseHTTPRequestHandler):
             except OSError:
                 pass
 
+    def date_time_string(self, timestamp: Optional[float] = None) -> str:
+        """The header Date, by the clock of the server."""
+        return super().date_time_string(self.hub.world.clock.now() if timestamp is None else timestamp)
+
     def version_string(self) -> str:
         return "GitHub.com"
