@@ -59,6 +59,15 @@ class RefusalTests(WithGitHub):
         self.refused(403, "Resource not accessible by integration", "/user", token=token)
         self.refused(401, "A JSON web token could not be decoded", "/app", token=token)
 
+    def test_what_the_app_may_not_elsewhere(self):
+        """A fork is somebody else's."""
+        fork = self.people.fork("otto", self.project)
+        self.people.propose(fork, "otto", "topic", {"one": "1\n"})
+        self.assertEqual(len(self.look("/repos/otto/project/pulls")), 1)
+        for path, given in (("issues/1/comments", {"body": "hello"}), (f"statuses/{fork.bare.sha('main')}", {"state": "success"})):
+            self.refused(403, "Resource not accessible by integration", f"/repos/otto/project/{path}", method="POST", given=given)
+        self.refused(403, "Resource not accessible by integration", "/repos/otto/project/hooks")
+
     def test_what_people_may_not(self):
         sha = self.project.bare.sha("main")
         self.refused(404, "Not Found", f"{HERE}/branches/main/protection", token=self.token_of("vera"))

@@ -102,6 +102,14 @@ class PushTests(WithGitHub):
         ran = self.push(self.hub.installation_token(), "HEAD:refs/heads/topic")
         self.assertIn("Write access to repository not granted", ran.stderr)
 
+    def test_the_app_pushes_to_no_fork_and_to_no_repository_that_its_token_isnt_for(self):
+        fork = self.people.fork("otto", self.project)
+        ran = self.git("push", self.address(self.token, "otto/project"), "HEAD:refs/heads/topic", at=self.place)
+        self.assertIn("Write access to repository not granted", ran.stderr)
+        self.assertIsNone(fork.bare.sha("refs/heads/topic"))
+        other = self.hub.tokens.give(self.app, dict(self.app.permissions), [self.project.id + 1]).text
+        self.assertIn("Write access to repository not granted", self.push(other, "HEAD:refs/heads/topic").stderr)
+
     def test_nobody_pushes_to_the_refs_of_changes(self):
         change = self.people.propose(self.project, "ines", "topic", {"one": "1\n"})
         for token in (self.token, self.token_of("root")):
