@@ -116,6 +116,12 @@ class PrivateTests(WithGitHub):
         self.assertEqual(self.ask(HERE, headers={"Authorization": None}).status, 404)
         self.assertEqual(self.ask(HERE).status, 200)
 
+    def test_what_is_private_elsewhere_the_app_doesnt_see(self):
+        self.people.make_repository("otto", "diary", True, {"README": "dear diary\n"})
+        for path in ("", "/pulls", "/branches/main", "/issues/comments"):
+            self.refused(404, "Not Found", f"/repos/otto/diary{path}")
+        self.assertEqual(self.ask("/repos/otto/diary", token=self.token_of("otto")).status, 200)
+
     def test_a_stranger_has_no_role(self):
         self.people.user("stranger")
         shown = self.look(f"{HERE}/collaborators/stranger/permission")

@@ -28,6 +28,17 @@ class FetchTests(WithGitHub):
         self.assertEqual(found, [one.head_sha, two.head_sha])
         self.assertEqual(self.must_git("show", "refs/pulls/2:two", at=clone), "2")
 
+    def test_fetches_what_was_pushed_to_a_fork_later(self):
+        fork = self.people.fork("otto", self.project)
+        self.people.propose(self.project, "otto", "topic", {"two": "2\n"}, fork=fork)
+        place = self.clone(self.token_of("otto"), "otto/project")
+        self.must_git("checkout", "--quiet", "topic", at=place)
+        made = self.commit(place, {"two": "3\n"})
+        self.must_git("push", "--quiet", "origin", "topic", at=place)
+        clone = self.clone()
+        self.must_git("fetch", "--quiet", "origin", "refs/pull/1/head", at=clone)
+        self.assertEqual(self.must_git("rev-parse", "FETCH_HEAD", at=clone), made)
+
     def test_fetches_a_commit_by_its_name(self):
         change = self.people.propose(self.project, "ines", "topic", {"one": "1\n"})
         clone = self.clone()
