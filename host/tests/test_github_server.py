@@ -5,6 +5,7 @@
 import re
 import sys
 import unittest
+from email.utils import parsedate_to_datetime
 from pathlib import Path
 
 sys.path[:0] = [str(Path(__file__).resolve().parent)]
@@ -24,7 +25,16 @@ class RefusalTests(WithGitHub):
         self.assertEqual(self.ask(HERE, headers={"Authorization": None}).status, 200)
         self.assertEqual([it.token for it in self.switches.asked()], ["unknown"] * 4 + ["expired", "none"])
 
+    def test_who_is_nobody_writes_nothing(self):
+        self.people.propose(self.project, "ines", "topic", {"one": "1\n"})
+        self.refused(
+            401, "Requires authentication", f"{HERE}/issues/1/comments", method="POST", given={"body": "hello"},
+            headers={"Authorization": None})
+        self.refused(401, "Requires authentication", "/user", headers={"Authorization": None})
+        self.assertEqual(self.look("/user", token=self.token_of("ines"))["login"], "ines")
+
     def test_a_token_is_good_for_an_hour(self):
+        self.hub.world.clock.stop()
         self.hub.world.clock.advance(3590)
         self.look(HERE)
         self.hub.world.clock.advance(20)
@@ -48,6 +58,15 @@ class RefusalTests(WithGitHub):
         self.refused(403, "Resource not accessible by integration", f"{HERE}/statuses/{sha}", method="POST", given={}, token=token)
         self.refused(403, "Resource not accessible by integration", "/user", token=token)
         self.refused(401, "A JSON web token could not be decoded", "/app", token=token)
+
+    def test_what_the_app_may_not_elsewhere(self):
+        """A fork is somebody else's."""
+        fork = self.people.fork("otto", self.project)
+        self.people.propose(fork, "otto", "topic", {"one": "1\n"})
+        self.assertEqual(len(self.look("/repos/otto/project/pulls")), 1)
+        for path, given in (("issues/1/comments", {"body": "hello"}), (f"statuses/{fork.bare.sha('main')}", {"state": "success"})):
+            self.refused(403, "Resource not accessible by integration", f"/repos/otto/project/{path}", method="POST", given=given)
+        self.refused(403, "Resource not accessible by integration", "/repos/otto/project/hooks")
 
     def test_what_people_may_not(self):
         sha = self.project.bare.sha("main")
@@ -96,6 +115,12 @@ class PrivateTests(WithGitHub):
             self.assertEqual(self.ask(HERE, token=self.token_of(login)).status, status)
         self.assertEqual(self.ask(HERE, headers={"Authorization": None}).status, 404)
         self.assertEqual(self.ask(HERE).status, 200)
+
+    def test_what_is_private_elsewhere_the_app_doesnt_see(self):
+        self.people.make_repository("otto", "diary", True, {"README": "dear diary\n"})
+        for path in ("", "/pulls", "/branches/main", "/issues/comments"):
+            self.refused(404, "Not Found", f"/repos/otto/diary{path}")
+        self.assertEqual(self.ask("/repos/otto/diary", token=self.token_of("otto")).status, 200)
 
     def test_a_stranger_has_no_role(self):
         self.people.user("stranger")
@@ -178,6 +203,26 @@ class ListTests(WithGitHub):
         self.assertEqual([it["body"] for it in self.look(path)], ["two", "three"])
 
 
+class IssueTests(WithGitHub):
+    """Issues that are no changes have numbers and comments of the same rows."""
+
+    def test_an_issue_between_changes(self):
+        self.people.propose(self.project, "ines", "topic", {"one": "1\n"})
+        issue = self.people.open_issue(self.project, "otto", "It doesn't work")
+        self.people.propose(self.project, "ines", "other", {"two": "2\n"})
+        receiver = self.receive()
+        self.people.comment(issue, "vera", "bors r+")
+        self.assertEqual([it["number"] for it in self.look(f"{HERE}/pulls")], [3, 1])
+        self.refused(404, "Not Found", f"{HERE}/pulls/2")
+        self.assertEqual([it["issue_url"][-2:] for it in self.look(f"{HERE}/issues/comments")], ["/2"])
+        self.assertEqual([it["body"] for it in self.look(f"{HERE}/issues/2/comments")], ["bors r+"])
+        found = ["pull_request" in self.look(f"{HERE}/issues/{number}") for number in (1, 2, 3)]
+        self.assertEqual(found, [True, False, True])
+        self.assertEqual(self.names(receiver), ["ping", "issue_comment.created"])
+        self.assertNotIn("pull_request", receiver.received[1].json["issue"])
+        self.assertEqual(self.ask(f"{HERE}/issues/2/comments", method="POST", given={"body": "no change"}).status, 201)
+
+
 class TagTests(WithGitHub):
     """What hasn't changed isn't sent again, and doesn't count."""
 
@@ -208,11 +253,12 @@ class LimitTests(WithGitHub):
         self.assertEqual((first["X-RateLimit-Limit"], first["X-RateLimit-Resource"]), ("5000", "core"))
 
     def test_a_limit_that_is_reached(self):
+        self.hub.world.clock.stop()
         self.hub.rest.exhaust(30)
         got = self.refused(403, "API rate limit exceeded for installation:1.", HERE)
         self.assertEqual(got.headers["X-RateLimit-Remaining"], "0")
         self.assertNotIn("Retry-After", got.headers)
-        self.assertAlmostEqual(int(got.headers["X-RateLimit-Reset"]), self.hub.world.clock.now() + 30, delta=3)
+        self.assertEqual(int(got.headers["X-RateLimit-Reset"]), self.hub.world.clock.now() + 30)
         self.assertEqual(self.look("/rate_limit")["rate"]["remaining"], 0)
         # Other tokens of the installation have the same limit, and people have theirs.
         self.assertEqual(self.ask(HERE, token=self.hub.installation_token()).status, 403)
@@ -246,6 +292,30 @@ class ShownTests(WithGitHub):
         shown = self.look(f"{HERE}/pulls/1")
         self.assertEqual((shown["head"]["repo"]["full_name"], shown["head"]["repo"]["fork"]), ("otto/project", True))
         self.assertEqual(self.look("/repos/otto/project")["parent"]["full_name"], "team/project")
+
+    def test_a_change_from_a_fork_that_is_gone(self):
+        fork = self.people.fork("otto", self.project)
+        change = self.people.propose(self.project, "otto", "topic", {"one": "1\n"}, fork=fork)
+        self.people.delete_fork(fork)
+        shown = self.look(f"{HERE}/pulls/1")
+        self.assertEqual((shown["state"], shown["head"]["repo"], shown["head"]["label"]), ("open", None, "otto:topic"))
+        self.assertEqual(shown["head"]["sha"], self.project.bare.sha("refs/pull/1/head"))
+        self.refused(404, "Not Found", "/repos/otto/project")
+        self.assertRaises(NotPossible, self.people.reopen, change, "otto")
+        self.people.push(self.project, "vera", "main", change.head_sha)
+        self.assertEqual(self.look(f"{HERE}/pulls/1")["merged"], True)
+
+    def test_the_clock_of_the_server(self):
+        self.hub.world.clock.advance(3 * 24 * 3600)
+        said = parsedate_to_datetime(self.ask("/rate_limit", token=self.token_of("ines")).headers["Date"])
+        self.assertAlmostEqual(said.timestamp(), self.hub.world.clock.now(), delta=60)
+
+    def test_the_ref_of_a_change(self):
+        change = self.people.propose(self.project, "ines", "topic", {"one": "1\n"})
+        self.assertEqual(self.look(f"{HERE}/git/ref/pull/1/head")["object"]["sha"], change.head_sha)
+        self.assertEqual(self.look(f"{HERE}/commits/{change.head_sha[:9]}")["sha"], change.head_sha)
+        self.assertEqual(self.look(f"{HERE}/commits/heads/topic/status")["sha"], change.head_sha)
+        self.assertEqual([it["sha"] for it in self.look(f"{HERE}/pulls/1/commits")], [change.head_sha])
 
     def test_a_change_that_conflicts(self):
         self.people.propose(self.project, "ines", "topic", {"README": "one\n"})

@@ -28,6 +28,17 @@ class FetchTests(WithGitHub):
         self.assertEqual(found, [one.head_sha, two.head_sha])
         self.assertEqual(self.must_git("show", "refs/pulls/2:two", at=clone), "2")
 
+    def test_fetches_what_was_pushed_to_a_fork_later(self):
+        fork = self.people.fork("otto", self.project)
+        self.people.propose(self.project, "otto", "topic", {"two": "2\n"}, fork=fork)
+        place = self.clone(self.token_of("otto"), "otto/project")
+        self.must_git("checkout", "--quiet", "topic", at=place)
+        made = self.commit(place, {"two": "3\n"})
+        self.must_git("push", "--quiet", "origin", "topic", at=place)
+        clone = self.clone()
+        self.must_git("fetch", "--quiet", "origin", "refs/pull/1/head", at=clone)
+        self.assertEqual(self.must_git("rev-parse", "FETCH_HEAD", at=clone), made)
+
     def test_fetches_a_commit_by_its_name(self):
         change = self.people.propose(self.project, "ines", "topic", {"one": "1\n"})
         clone = self.clone()
@@ -101,6 +112,14 @@ class PushTests(WithGitHub):
         self.app.permissions["contents"] = "read"
         ran = self.push(self.hub.installation_token(), "HEAD:refs/heads/topic")
         self.assertIn("Write access to repository not granted", ran.stderr)
+
+    def test_the_app_pushes_to_no_fork_and_to_no_repository_that_its_token_isnt_for(self):
+        fork = self.people.fork("otto", self.project)
+        ran = self.git("push", self.address(self.token, "otto/project"), "HEAD:refs/heads/topic", at=self.place)
+        self.assertIn("Write access to repository not granted", ran.stderr)
+        self.assertIsNone(fork.bare.sha("refs/heads/topic"))
+        other = self.hub.tokens.give(self.app, dict(self.app.permissions), [self.project.id + 1]).text
+        self.assertIn("Write access to repository not granted", self.push(other, "HEAD:refs/heads/topic").stderr)
 
     def test_nobody_pushes_to_the_refs_of_changes(self):
         change = self.people.propose(self.project, "ines", "topic", {"one": "1\n"})
@@ -178,6 +197,28 @@ class ProtectedTests(WithGitHub):
     def test_protected_by_a_ruleset(self):
         self.people.add_ruleset(self.project, "the queue", ["~DEFAULT_BRANCH"], ("update", "deletion"), apps=[self.app.id])
         self.only_the_app_pushes("GH013", "Cannot update this protected ref.")
+
+    def test_a_commit_without_the_checks_that_are_required(self):
+        self.people.protect(self.project, "main", apps=["gate"], checks=["build", "lint"])
+        self.people.push(self.project, "ines", "staging", self.project.bare.sha("main"))
+        self.assertEqual(self.tried("gate", "HEAD:refs/heads/staging").returncode, 0)
+        self.people.status(self.project, "ines", self.made, "build", "success")
+        ran = self.tried("gate", "HEAD:refs/heads/main")
+        self.assertIn("2 of 2 required status checks are expected.", ran.stderr)
+        self.people.check_run(self.project, self.made, "lint", conclusion="failure")
+        self.assertNotEqual(self.tried("gate", "HEAD:refs/heads/main").returncode, 0)
+        self.people.check_run(self.project, self.made, "lint", conclusion="skipped")
+        ran = self.tried("gate", "HEAD:refs/heads/main")
+        self.assertEqual(ran.returncode, 0, ran.stderr)
+
+    def test_a_ruleset_that_requires_checks(self):
+        ruleset = self.people.add_ruleset(self.project, "checks", ["~ALL"], ())
+        ruleset.rules.append({"type": "required_status_checks", "parameters": {
+            "strict_required_status_checks_policy": False, "required_status_checks": [{"context": "build"}]}})
+        ran = self.tried("gate", "HEAD:refs/heads/main")
+        self.assertIn('- Required status check "build" is expected.', ran.stderr)
+        self.people.status(self.project, "ines", self.made, "build", "success")
+        self.assertEqual(self.tried("gate", "HEAD:refs/heads/main").returncode, 0)
 
     def test_a_ruleset_that_isnt_at_work(self):
         self.people.add_ruleset(self.project, "later", ["refs/heads/main"], apps=[self.app.id], enforcement="disabled")

@@ -9,6 +9,10 @@
         hub.people.comment(pull, "vera", "bors r+")
 
 Then hub.api is the address of the API, and hub.url + "/team/project.git" the one of git.
+
+What it gives is what GitHub's documentation says, as known to its writers, who had no GitHub to look at. It leaves out GraphQL, search,
+threads of reviews, teams, editing by the API but for comments and statuses, If-Modified-Since, and events that no merge queue needs. What
+follows from a push follows at once, unless `pushes.held` is set; GitHub takes some seconds.
 """
 from .people import NotPossible
 from .server import GitHub

@@ -4,7 +4,7 @@ import subprocess
 import tempfile
 from dataclasses import dataclass
 from pathlib import Path
-from typing import Optional
+from typing import Any, Callable, Optional
 
 NONE = "0" * 40
 SECONDS = 60
@@ -36,6 +36,11 @@ printf '%s\\n' "$PUSH_RULES" | while read -r code kind pattern words; do
     creation) [ "$old" = $none ] || continue ;;
     deletion) [ "$new" = $none ] || continue ;;
     update) ;;
+    checks)
+        [ "$new" != $none ] || continue
+        # The first word has the commits on which all checks succeeded.
+        case ,${words%% *}, in *,"$new",*) continue ;; esac
+        words=${words#* } ;;
     non_fast_forward)
         [ "$old" != $none ] && [ "$new" != $none ] || continue
         ! git merge-base --is-ancestor "$old" "$new" || continue ;;
@@ -86,6 +91,13 @@ class Bare:
 
     def __init__(self, path: Path) -> None:
         self.path = path
+        # What git has said of commits, each by its whole name, which never changes.
+        self.said: dict = {}
+
+    def once(self, key: tuple, ask: Callable[[], Any]) -> Any:
+        if key not in self.said:
+            self.said[key] = ask()
+        return self.said[key]
 
     @classmethod
     def make(cls, path: Path, branch: str) -> "Bare":
@@ -159,6 +171,9 @@ class Bare:
         return self.git("commit-tree", tree, *before, given=message, more=people).strip()
 
     def read(self, sha: str) -> Commit:
+        return self.once(("read", sha), lambda: self.read_anew(sha))
+
+    def read_anew(self, sha: str) -> Commit:
         head, _, message = self.git("cat-file", "commit", sha).partition("\n\n")
         fields: dict = {"parent": []}
         for line in head.splitlines():
@@ -171,24 +186,42 @@ class Bare:
         return Commit(sha, fields["tree"], tuple(fields["parent"]), author, committer, message)
 
     def is_ancestor(self, before: str, after: str) -> bool:
-        return self.run("merge-base", "--is-ancestor", before, after).returncode == 0
+        """Whether a commit, by its name, is another one or before it."""
+        key = ("before", before, after)
+        if before == after or key in self.said:
+            return before == after or self.said[key]
+        status = self.run("merge-base", "--is-ancestor", before, after).returncode
+        if status in (0, 1):
+            # Of commits that aren't there yet nothing is known.
+            self.said[key] = status == 0
+        return status == 0
 
     def between(self, before: Optional[str], after: str, *words: str) -> list:
         """The commits up to `after` that aren't before, the oldest first."""
-        return self.git("rev-list", "--reverse", *words, after, *([f"^{before}"] if before else [])).split()
+        asked = ("rev-list", "--reverse", *words, after, *([f"^{before}"] if before else []))
+        return self.once(asked, lambda: self.git(*asked).split())
 
     def changed(self, sha: str) -> dict:
         """The files that a commit changes against its first parent, each with A, D or M and the numbers of lines that come and go."""
-        words = ("--root", "--no-commit-id", "-r", "-m", "--first-parent", "--no-renames", sha)
-        kinds = dict(reversed(line.split("\t", 1)) for line in self.git("diff-tree", "--name-status", *words).splitlines())
-        found = {}
-        for line in self.git("diff-tree", "--numstat", *words).splitlines():
-            come, go, path = line.split("\t", 2)
-            found[path] = (kinds.get(path, "M"), int(come) if come != "-" else 0, int(go) if go != "-" else 0)
+        return self.once(("changed", sha), lambda: self.changed_anew(sha))
+
+    def changed_anew(self, sha: str) -> dict:
+        words = ("--raw", "--numstat", "--root", "--no-commit-id", "-r", "-m", "--first-parent", "--no-renames", sha)
+        kinds, found = {}, {}
+        for line in self.git("diff-tree", *words).splitlines():
+            if line.startswith(":"):
+                told, path = line.split("\t", 1)
+                kinds[path] = told[-1]
+            else:
+                come, go, path = line.split("\t", 2)
+                found[path] = (kinds.get(path, "M"), int(come) if come != "-" else 0, int(go) if go != "-" else 0)
         return found
 
     def merge(self, base: str, head: str, who: tuple) -> Optional[str]:
         """A commit that merges two others, or none if they conflict. No ref has it."""
+        return self.once(("merge", base, head, who), lambda: self.merge_anew(base, head, who))
+
+    def merge_anew(self, base: str, head: str, who: tuple) -> Optional[str]:
         ran = self.run("merge-tree", "--write-tree", base, head)
         if ran.returncode != 0:
             return None

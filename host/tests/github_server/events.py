@@ -49,10 +49,10 @@ class Events:
 
     def comment(self, action: str, comment: Comment, sender: User, changes: Optional[dict] = None) -> None:
         payload = {
-            "action": action, **({"changes": changes} if changes is not None else {}), "issue": self.shapes.issue(comment.pull),
+            "action": action, **({"changes": changes} if changes is not None else {}), "issue": self.shapes.issue(comment.issue),
             "comment": self.shapes.comment(comment),
         }
-        self.tell("issue_comment", comment.pull.repository, sender, payload)
+        self.tell("issue_comment", comment.issue.repository, sender, payload)
 
     def review(self, action: str, review: Review, sender: User) -> None:
         """Here a state is in lower case, and in the API in upper case. The pull request is as in lists."""

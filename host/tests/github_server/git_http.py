@@ -78,7 +78,7 @@ class GitHttp:
             return Reply(404, PLAIN, b"Repository not found.")
         if asker.token and LEVELS[asker.token.permissions.get("contents", "")] < LEVELS["write" if is_push else "read"]:
             return Reply(403, PLAIN, b"Write access to repository not granted.")
-        if asker.token and is_push and (asker.app is None or repository.owner is not asker.app.owner):
+        if asker.token and is_push and not asker.reaches(repository):
             return Reply(403, PLAIN, b"Write access to repository not granted.")
         if asker.token is None and is_push and ROLES[repository.role_of(asker.user)] < ROLES["write"]:
             name = asker.user.login if asker.user else ""

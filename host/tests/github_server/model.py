@@ -5,7 +5,7 @@ import threading
 import time
 from dataclasses import dataclass, field
 from datetime import datetime, timezone
-from typing import Optional
+from typing import Optional, Union
 
 from .bare import Bare
 
@@ -170,9 +170,26 @@ class Pull:
 
 
 @dataclass(eq=False)
+class Issue:
+    """An issue that is no pull request. The numbers of both are one row, and the comments on both one list."""
+
+    repository: "Repository"
+    number: int
+    issue_id: int
+    user: User
+    title: str
+    body: Optional[str]
+    created_at: float
+    updated_at: float
+    state: str = "open"
+    labels: list = field(default_factory=list)
+    closed_at: Optional[float] = None
+
+
+@dataclass(eq=False)
 class Comment:
     id: int
-    pull: Pull
+    issue: Union[Pull, Issue]
     user: User
     body: str
     created_at: float
@@ -218,6 +235,14 @@ class CheckRun:
     summary: Optional[str] = None
 
 
+def has_succeeded(repository: "Repository", sha: str, name: str) -> bool:
+    """Whether GitHub counts a check of this name as successful: the newest status, or the newest check run, where skipped is good too."""
+    statuses = [it.state == "success" for it in repository.statuses if it.sha == sha and it.context == name]
+    good = ("success", "neutral", "skipped")
+    runs = [it.conclusion in good for it in repository.check_runs if it.sha == sha and it.name == name]
+    return bool(statuses or runs) and all(them[-1] for them in (statuses, runs) if them)
+
+
 @dataclass(eq=False)
 class Repository:
     id: int
@@ -233,6 +258,7 @@ class Repository:
     rulesets: list = field(default_factory=list)
     labels: dict = field(default_factory=dict)
     pulls: dict = field(default_factory=dict)
+    issues: dict = field(default_factory=dict)
     comments: dict = field(default_factory=dict)
     reviews: dict = field(default_factory=dict)
     statuses: list = field(default_factory=list)
@@ -245,6 +271,11 @@ class Repository:
     @property
     def full_name(self) -> str:
         return f"{self.owner.login}/{self.name}"
+
+    @property
+    def next_number(self) -> int:
+        """The number of the next pull request or issue."""
+        return len(self.pulls) + len(self.issues) + 1
 
     def role_of(self, user: Optional[User]) -> str:
         """The role of a person. Everybody reads a public repository."""

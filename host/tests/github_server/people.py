@@ -7,7 +7,7 @@ from typing import Callable, Optional, Union
 
 from .bare import Bare
 from .events import Events, changed_from
-from .model import App, CheckRun, Comment, Hook, Label, Protection, Pull, Repository, Review, Ruleset, Status, User, World
+from .model import App, CheckRun, Comment, Hook, Issue, Label, Protection, Pull, Repository, Review, Ruleset, Status, User, World
 from .pushes import HEADS, Pushes
 from .tokens import numbers_in
 
@@ -51,6 +51,14 @@ class People:
         made = self.make_repository(who, repository.name, repository.private, None, repository.default_branch, repository)
         made.bare.git("fetch", "--quiet", "--no-write-fetch-head", str(repository.bare.path), "+refs/heads/*:refs/heads/*")
         return made
+
+    def delete_fork(self, fork: Repository) -> None:
+        """Deletes a fork. Its pull requests stay, with no repository for their heads, and so do their refs."""
+        with self.world.lock:
+            del self.world.repositories[fork.full_name.lower()]
+            for pull in (it for repository in self.world.repositories.values() for it in repository.pulls.values()):
+                if pull.head_repository is fork:
+                    pull.head_repository = None
 
     def set_role(self, repository: Repository, who: Who, role: str) -> User:
         """Gives a person a role: read, triage, write, maintain or admin; or none."""
@@ -138,7 +146,7 @@ class People:
             if any(it.head_repository is where and it.head_ref == branch and it.base_ref == base and it.state == "open"
                    for it in repository.pulls.values()):
                 raise NotPossible(f"A pull request already exists for {where.owner.login}:{branch}.")
-            number = len(repository.pulls) + 1
+            number = repository.next_number
             pull = Pull(
                 repository, number, self.world.next_id(), self.world.next_id(), user, title, body, where, where.owner, branch, head, base,
                 tip, now, now, draft,
@@ -235,12 +243,21 @@ class People:
 
     # What is said
 
-    def comment(self, pull: Pull, who: Who, body: str) -> Comment:
+    def open_issue(self, repository: Repository, who: Who, title: str = "An issue", body: Optional[str] = None) -> Issue:
+        """Opens an issue that is no pull request. It isn't told, since the app doesn't ask for that event; comments on it are."""
+        with self.world.lock:
+            number, now = repository.next_number, self.world.clock.now()
+            issue = Issue(repository, number, self.world.next_id(), self.user(who), title, body, now, now)
+            repository.issues[number] = issue
+            return issue
+
+    def comment(self, issue: Union[Pull, Issue], who: Who, body: str) -> Comment:
+        """Comments on a pull request, or on an issue. Of what is typed on GitHub's page lines end with CR and LF."""
         with self.world.lock:
             now, user = self.world.clock.now(), self.user(who)
-            comment = Comment(self.world.next_id(), pull, user, body, now, now)
-            pull.repository.comments[comment.id] = comment
-            pull.updated_at = now
+            comment = Comment(self.world.next_id(), issue, user, body, now, now)
+            issue.repository.comments[comment.id] = comment
+            issue.updated_at = now
             self.events.comment("created", comment, user)
             return comment
 
@@ -252,7 +269,7 @@ class People:
 
     def delete_comment(self, comment: Comment, who: Who) -> None:
         with self.world.lock:
-            del comment.pull.repository.comments[comment.id]
+            del comment.issue.repository.comments[comment.id]
             self.events.comment("deleted", comment, self.user(who))
 
     def review(self, pull: Pull, who: Who, state: str, body: str = "", commit: Optional[str] = None) -> Review:

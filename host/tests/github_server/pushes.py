@@ -3,11 +3,12 @@ from collections import deque
 from typing import Optional
 
 from .events import Events
-from .model import ROLES, Pull, Repository, Ruleset, User, World
+from .model import ROLES, Protection, Pull, Repository, Ruleset, User, World, has_succeeded
 from .shapes_of_checks import FORBIDDEN, ShapesOfChecks
 from .tokens import Asker
 
 HEADS = "refs/heads/"
+NOT_NAMED = "You're not authorized to push to this branch."
 # GitHub's numbers of the roles that may pass rulesets by.
 NUMBERED = {2: "maintain", 4: "write", 5: "admin"}
 # Whose name the merges have that GitHub makes by itself.
@@ -40,31 +41,51 @@ class Pushes:
 
     def rules_for(self, repository: Repository, asker: Asker) -> str:
         """What the hook of the repository refuses to who asks, as lines."""
-        lines = []
         with self.world.lock:
-            for guard in repository.protections:
-                pattern, is_admin = HEADS + guard.pattern, repository.role_of(asker.user) == "admin"
-                if asker.token is None and is_admin and not guard.enforce_admins:
-                    continue
-                if not guard.deletions:
-                    lines.append(f"GH006 deletion {pattern} Cannot delete a protected branch")
-                if not guard.force_pushes:
-                    lines.append(f"GH006 non_fast_forward {pattern} Cannot force-push to this branch")
-                if guard.users is not None or guard.apps is not None:
-                    is_named = asker.app and asker.app.slug in (guard.apps or []) if asker.token else (
-                        asker.user and asker.user.login.lower() in [it.lower() for it in guard.users or []])
-                    if not is_named:
-                        lines.append(f"GH006 update {pattern} You're not authorized to push to this branch.")
-                elif guard.reviews:
-                    lines.append(f"GH006 update {pattern} Changes must be made through a pull request.")
+            lines = [line for guard in repository.protections for line in self.lines_of_guard(repository, guard, asker)]
             for ruleset in repository.rulesets:
                 if ruleset.enforcement == "active" and not passes(repository, ruleset, asker):
-                    lines += [
-                        f"GH013 {'update' if rule['type'] == 'pull_request' else rule['type']} {pattern_of(name, repository)} "
-                        f"{FORBIDDEN[rule['type']]}"
-                        for rule in ruleset.rules if rule["type"] in FORBIDDEN for name in ruleset.include
-                    ]
-        return "\n".join(lines)
+                    lines += [line for name in ruleset.include for line in self.lines_of_ruleset(repository, ruleset, name)]
+            return "\n".join(lines)
+
+    def lines_of_guard(self, repository: Repository, guard: Protection, asker: Asker) -> list:
+        """What the older protection refuses. Apps have no role, so it is the same for each that isn't named."""
+        pattern, is_admin = HEADS + guard.pattern, asker.token is None and repository.role_of(asker.user) == "admin"
+        if is_admin and not guard.enforce_admins:
+            return []
+        lines = [] if guard.deletions else [f"GH006 deletion {pattern} Cannot delete a protected branch"]
+        if not guard.force_pushes:
+            lines.append(f"GH006 non_fast_forward {pattern} Cannot force-push to this branch")
+        if guard.users is None and guard.apps is None:
+            lines += [f"GH006 update {pattern} {FORBIDDEN['pull_request']}"] if guard.reviews else []
+        elif asker.token:
+            is_named = asker.app is not None and asker.app.slug in (guard.apps or [])
+            lines += [] if is_named else [f"GH006 update {pattern} {NOT_NAMED}"]
+        else:
+            is_named = asker.user is not None and asker.user.login.lower() in [it.lower() for it in guard.users or []]
+            lines += [] if is_named else [f"GH006 update {pattern} {NOT_NAMED}"]
+        return lines + self.checks_due(repository, f"GH006 checks {pattern}", guard.checks or [])
+
+    def lines_of_ruleset(self, repository: Repository, ruleset: Ruleset, name: str) -> list:
+        """What a ruleset refuses for one of its patterns."""
+        pattern, lines = pattern_of(name, repository), []
+        for rule in ruleset.rules:
+            kind = rule["type"]
+            if kind == "required_status_checks":
+                names = [it["context"] for it in rule["parameters"]["required_status_checks"]]
+                lines += self.checks_due(repository, f"GH013 checks {pattern}", names)
+            elif kind in FORBIDDEN:
+                lines.append(f"GH013 {'update' if kind == 'pull_request' else kind} {pattern} {FORBIDDEN[kind]}")
+        return lines
+
+    @staticmethod
+    def checks_due(repository: Repository, before: str, names: list) -> list:
+        """The line that lets no commit pass but those on which all of these checks succeeded."""
+        shas = {it.sha for it in (*repository.statuses, *repository.check_runs)}
+        good = [sha for sha in sorted(shas) if all(has_succeeded(repository, sha, name) for name in names)]
+        words = f'Required status check "{names[0]}" is expected.' if len(names) == 1 else (
+            f"{len(names)} of {len(names)} required status checks are expected.")
+        return [f"{before} {','.join(good) or '-'} {words}"] if names else []
 
     # What follows
 

@@ -90,7 +90,8 @@ class Rest:
         except Refused as refused:
             reply = self.refusal(refused, route)
         if reply.status != 304 and not (route and route.operation == "rate-limit/get"):
-            limit.used += 1
+            with self.world.lock:
+                limit.used += 1
         return Reply(reply.status, {**self.headers_of(asker), **reply.headers}, reply.body)
 
     @staticmethod

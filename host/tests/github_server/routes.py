@@ -1,9 +1,9 @@
 """The routes of the API that a merge queue needs, and what each answers."""
 import re
 from dataclasses import dataclass, field
-from typing import Callable, Optional
+from typing import Callable, Optional, Union
 
-from .model import FLAGS, ROLES, Pull, Repository, World, seconds_of, stamp
+from .model import FLAGS, ROLES, Issue, Pull, Repository, World, seconds_of, stamp
 from .people import People
 from .pushes import HEADS, passes
 from .shapes_of_checks import ShapesOfChecks
@@ -132,7 +132,7 @@ class Routes:
             Route("GET", f"{own}/pulls/{{number}}/reviews", "pulls/list-reviews", "/pulls/reviews", self.list_reviews, "pull_requests"),
             Route("GET", f"{own}/issues/comments", "issues/list-comments-for-repo", comments, self.list_all_comments, either),
             Route("GET", f"{own}/issues/comments/{{number}}", "issues/get-comment", comments, self.get_comment, either),
-            Route("GET", f"{own}/issues/{{number}}", "issues/get", "/issues/issues", lambda it: self.shapes.issue(self.pull(it)), either),
+            Route("GET", f"{own}/issues/{{number}}", "issues/get", "/issues/issues", lambda it: self.shapes.issue(self.issue(it)), either),
             Route("GET", f"{own}/issues/{{number}}/comments", "issues/list-comments", comments, self.list_comments, either),
             Route("POST", f"{own}/issues/{{number}}/comments", "issues/create-comment", comments, self.create_comment, either, "write"),
             Route("GET", f"{own}/issues/{{number}}/labels", "issues/list-labels-on-issue", "/issues/labels", self.list_labels, either),
@@ -301,6 +301,10 @@ class Routes:
             raise Refused(404, "Not Found")
         return found
 
+    def issue(self, asked: Asked) -> Union[Pull, Issue]:
+        """A pull request, or an issue that is none."""
+        return asked.repo.issues.get(int(asked.names["number"])) or self.pull(asked)
+
     def list_pulls(self, asked: Asked) -> Listed:
         """Pull requests, the newest first if nothing else is asked for."""
         state = one_of(asked, "state", ("open", "closed", "all"), "open")
@@ -326,10 +330,10 @@ class Routes:
         return Listed([it for it in asked.repo.reviews.values() if it.pull is pull], self.shapes.review)
 
     def list_labels(self, asked: Asked) -> Listed:
-        return Listed(list(self.pull(asked).labels), lambda it: self.shapes.label(asked.repo, it))
+        return Listed(list(self.issue(asked).labels), lambda it: self.shapes.label(asked.repo, it))
 
     def list_all_comments(self, asked: Asked) -> Listed:
-        """The comments of all changes. Without `sort` a direction doesn't count."""
+        """The comments of all changes, and of issues that are none. Without `sort` a direction doesn't count."""
         since, sort = time_in(asked, "since"), one_of(asked, "sort", ("created", "updated"), "created")
         direction = one_of(asked, "direction", ("asc", "desc"), "desc") if "sort" in asked.query else "asc"
         found = [it for it in asked.repo.comments.values() if int(it.updated_at) >= since]
@@ -337,8 +341,8 @@ class Routes:
         return Listed(found, self.shapes.comment)
 
     def list_comments(self, asked: Asked) -> Listed:
-        pull, since = self.pull(asked), time_in(asked, "since")
-        found = [it for it in asked.repo.comments.values() if it.pull is pull and int(it.updated_at) >= since]
+        issue, since = self.issue(asked), time_in(asked, "since")
+        found = [it for it in asked.repo.comments.values() if it.issue is issue and int(it.updated_at) >= since]
         return Listed(sorted(found, key=lambda it: it.id), self.shapes.comment)
 
     def get_comment(self, asked: Asked) -> dict:
@@ -348,12 +352,12 @@ class Routes:
         return self.shapes.comment(found)
 
     def create_comment(self, asked: Asked) -> Made:
-        pull, body = self.pull(asked), asked.body.get("body")
+        issue, body = self.issue(asked), asked.body.get("body")
         if not isinstance(body, str) or not body.strip():
             raise invalid("IssueComment", "data", "Body cannot be blank", "unprocessable")
         if len(body) > MOST_IN_BODY:
             raise invalid("IssueComment", "data", f"Body is too long (maximum is {MOST_IN_BODY} characters)", "unprocessable")
-        return Made(self.shapes.comment(self.people.comment(pull, asked.asker.user, body)))
+        return Made(self.shapes.comment(self.people.comment(issue, asked.asker.user, body)))
 
     # Commits
 

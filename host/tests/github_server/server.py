@@ -98,7 +98,7 @@ class GitHub:
 
     def act(self, call: Call, operation: str, found: tuple) -> Reply:
         asker, refused = self.asker(call)
-        if operation.startswith("git/"):
+        if found[0] is None and operation.startswith("git/"):
             return self.git.answer(call, asker)
         if refused:
             return self.rest.refusal(refused, None)
@@ -201,6 +201,10 @@ class Handler(BaseHTTPRequestHandler):
                 self.connection.shutdown(socket.SHUT_RDWR)
             except OSError:
                 pass
+
+    def date_time_string(self, timestamp: Optional[float] = None) -> str:
+        """The header Date, by the clock of the server."""
+        return super().date_time_string(self.hub.world.clock.now() if timestamp is None else timestamp)
 
     def version_string(self) -> str:
         return "GitHub.com"

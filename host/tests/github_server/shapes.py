@@ -1,8 +1,8 @@
 """The objects of GitHub's API, as its documentation has them: those of people, of repositories, of changes and of what is said."""
-from typing import Optional
+from typing import Optional, Union
 from urllib.parse import quote
 
-from .model import FLAGS, OLDER, ROLES, Comment, Hook, Label, Pull, Repository, Review, User, World, node, stamp
+from .model import FLAGS, OLDER, ROLES, App, Comment, Hook, Issue, Label, Pull, Repository, Review, User, World, node, stamp
 
 # The addresses that each repository has, below its own.
 ADDRESSES = {
@@ -82,6 +82,14 @@ class Shapes:
         if user is repository.owner:
             return "OWNER"
         return "COLLABORATOR" if user.login.lower() in repository.roles else "NONE"
+
+    def app(self, app: App) -> dict:
+        since = stamp(app.created_at)
+        return {
+            "id": app.id, "slug": app.slug, "node_id": node("App", app.id), "owner": self.user(app.owner), "name": app.slug,
+            "description": "", "external_url": f"{self.site}/{app.slug}", "html_url": f"{self.site}/apps/{app.slug}", "created_at": since,
+            "updated_at": since, "permissions": dict(app.permissions), "events": list(app.events),
+        }
 
     # Repositories
 
@@ -168,7 +176,10 @@ class Shapes:
         shown = self.repository(repository) if repository else None
         return {"label": f"{owner.login}:{ref}", "ref": ref, "sha": sha, "user": self.user(owner), "repo": shown}
 
-    def addresses_of(self, pull: Pull) -> dict:
+    def addresses_of(self, pull: Union[Pull, Issue]) -> dict:
+        if isinstance(pull, Issue):
+            part = f"/issues/{pull.number}"
+            return {"html_url": self.page_of(pull.repository) + part, "issue_url": self.url_of(pull.repository) + part}
         own = f"{self.url_of(pull.repository)}/pulls/{pull.number}"
         issue = f"{self.url_of(pull.repository)}/issues/{pull.number}"
         page = f"{self.page_of(pull.repository)}/pull/{pull.number}"
@@ -201,7 +212,7 @@ class Shapes:
     def pull(self, pull: Pull) -> dict:
         """A pull request by itself."""
         bare = pull.repository.bare
-        commits = bare.between(pull.base_sha, pull.head_sha) if pull.state == "open" else [pull.head_sha]
+        commits = bare.between(pull.base_sha, pull.head_sha)
         lines = [it for sha in commits for it in bare.changed(sha).items()]
         is_open = pull.state == "open"
         states = {True: "clean", False: "dirty", None: "unknown"}
@@ -214,24 +225,26 @@ class Shapes:
             "changed_files": len({it[0] for it in lines}),
         }
 
-    def comments_on(self, pull: Pull) -> int:
-        return sum(1 for it in pull.repository.comments.values() if it.pull is pull)
+    @staticmethod
+    def comments_on(issue: Union[Pull, Issue]) -> int:
+        return sum(1 for it in issue.repository.comments.values() if it.issue is issue)
 
-    def issue(self, pull: Pull) -> dict:
-        """A pull request as the issue that it is too."""
+    def issue(self, pull: Union[Pull, Issue]) -> dict:
+        """An issue, or a pull request as the issue that it is too; that one has an object `pull_request`."""
         repository, urls = pull.repository, self.addresses_of(pull)
+        of_pull = {}
+        if isinstance(pull, Pull):
+            places = {key: urls[key] for key in ("url", "html_url", "diff_url", "patch_url")}
+            of_pull = {"draft": pull.draft, "pull_request": {**places, "merged_at": stamp(pull.merged_at)}}
         own = urls["issue_url"]
         return {
             "url": own, "repository_url": self.url_of(repository), "labels_url": f"{own}/labels{{/name}}",
             "comments_url": f"{own}/comments", "events_url": f"{own}/events", "html_url": urls["html_url"], "id": pull.issue_id,
-            "node_id": node("PullRequest", pull.id), "number": pull.number, "title": pull.title, "user": self.user(pull.user),
+            "node_id": node("Issue", pull.issue_id), "number": pull.number, "title": pull.title, "user": self.user(pull.user),
             "labels": [self.label(repository, it) for it in pull.labels], "state": pull.state, "locked": False, "assignee": None,
             "assignees": [], "milestone": None, "comments": self.comments_on(pull), "created_at": stamp(pull.created_at),
             "updated_at": stamp(pull.updated_at), "closed_at": stamp(pull.closed_at),
-            "author_association": self.association(repository, pull.user), "active_lock_reason": None, "draft": pull.draft,
-            "pull_request": {
-                **{key: urls[key] for key in ("url", "html_url", "diff_url", "patch_url")}, "merged_at": stamp(pull.merged_at),
-            },
+            "author_association": self.association(repository, pull.user), "active_lock_reason": None, **of_pull,
             "body": pull.body, "reactions": self.reactions(own), "timeline_url": f"{own}/timeline", "performed_via_github_app": None,
             "state_reason": None,
         }
@@ -241,13 +254,14 @@ class Shapes:
         return {"url": f"{address}/reactions", "total_count": 0, **dict.fromkeys(KINDS, 0)}
 
     def comment(self, comment: Comment) -> dict:
-        repository, urls = comment.pull.repository, self.addresses_of(comment.pull)
+        repository, urls, app = comment.issue.repository, self.addresses_of(comment.issue), self.world.app
         own = f"{self.url_of(repository)}/issues/comments/{comment.id}"
         return {
             "url": own, "html_url": f"{urls['html_url']}#issuecomment-{comment.id}", "issue_url": urls["issue_url"], "id": comment.id,
             "node_id": node("IssueComment", comment.id), "user": self.user(comment.user), "created_at": stamp(comment.created_at),
             "updated_at": stamp(comment.updated_at), "author_association": self.association(repository, comment.user),
-            "body": comment.body, "reactions": self.reactions(own), "performed_via_github_app": None,
+            "body": comment.body, "reactions": self.reactions(own),
+            "performed_via_github_app": self.app(app) if app and comment.user is app.user else None,
         }
 
     def review(self, review: Review) -> dict:

@@ -125,14 +125,6 @@ class ShapesOfChecks(Shapes):
 
     # The app
 
-    def app(self, app: App) -> dict:
-        since = stamp(app.created_at)
-        return {
-            "id": app.id, "slug": app.slug, "node_id": node("App", app.id), "owner": self.user(app.owner), "name": app.slug,
-            "description": "", "external_url": f"{self.site}/{app.slug}", "html_url": f"{self.site}/apps/{app.slug}", "created_at": since,
-            "updated_at": since, "permissions": dict(app.permissions), "events": list(app.events),
-        }
-
     def installation(self, app: App) -> dict:
         since = stamp(app.created_at)
         return {

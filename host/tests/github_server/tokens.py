@@ -14,6 +14,8 @@ MINUTE = 60
 GOOD_SECONDS, MOST_AHEAD = 60 * MINUTE, 10 * MINUTE
 # What comes before the hash in a signature of RS256.
 OF_SHA256 = bytes.fromhex("3031300d060960864801650304020105000420")
+# What everybody may read of a public repository.
+OF_PUBLIC = ("checks", "contents", "issues", "metadata", "pull_requests", "statuses")
 LEVELS = {"": 0, "read": 1, "write": 2, "admin": 3}
 
 
@@ -46,16 +48,22 @@ class Asker:
     app: Optional[App] = None
     token: Optional[Token] = None
 
+    def reaches(self, repository: Repository) -> bool:
+        """Whether the token of an installation is for a repository. What is public it reads anyway."""
+        is_named = self.token is not None and (self.token.repositories is None or repository.id in self.token.repositories)
+        return is_named and self.app is not None and repository.owner is self.app.owner
+
     def may(self, permission: str, level: str, role: str, repository: Repository) -> bool:
         """Whether a permission of the app is enough, or the role of a person."""
+        if self.token and not self.reaches(repository):
+            return level == "read" and permission in OF_PUBLIC
         if self.token:
             return LEVELS[self.token.permissions.get(permission, "")] >= LEVELS[level]
         return ROLES[repository.role_of(self.user)] >= ROLES[role]
 
     def sees(self, repository: Repository) -> bool:
         if self.token:
-            is_named = self.token.repositories is None or repository.id in self.token.repositories
-            return not repository.private or (is_named and self.app is not None and repository.owner is self.app.owner)
+            return not repository.private or self.reaches(repository)
         return ROLES[repository.role_of(self.user)] > 0
 
 
@@ -150,10 +158,12 @@ class Tokens:
             signed = decoded(signature)
         except ValueError:
             raise Refused(401, "A JSON web token could not be decoded", page) from None
-        if app is None or algorithm.get("alg") != "RS256" or not is_signed(app, f"{head}.{claims}".encode(), signed):
-            raise Refused(401, "A JSON web token could not be decoded", page)
-        if str(said.get("iss")) != str(app.id):
+        if "iss" not in said:
             raise Refused(401, "'Issuer' claim ('iss') must be an Integer", page)
+        if app is None or str(said["iss"]) != str(app.id):
+            raise Refused(404, "Integration not found", page)
+        if algorithm.get("alg") != "RS256" or not is_signed(app, f"{head}.{claims}".encode(), signed):
+            raise Refused(401, "A JSON web token could not be decoded", page)
         begun, ends = said.get("iat"), said.get("exp")
         if not isinstance(begun, (int, float)) or begun > now + 1:
             issued = "must be an Integer representing the time that the assertion was issued"

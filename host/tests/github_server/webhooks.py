@@ -2,6 +2,7 @@
 import heapq
 import hmac
 import http.client
+import itertools
 import json
 import threading
 import time
@@ -77,6 +78,8 @@ class Webhooks:
         self.gathered: list = []
         self.waiting: list = []
         self.busy = 0
+        # Its own numbers: who holds its lock never waits for the one of the world.
+        self.turns = itertools.count()
         self.changed = threading.Condition()
         self.is_open = True
         self.thread = threading.Thread(target=self.work, name="webhooks", daemon=True)
@@ -129,7 +132,7 @@ class Webhooks:
             self.line_up(delivery, 0.0)
 
     def line_up(self, delivery: Delivery, late: float) -> None:
-        heapq.heappush(self.waiting, (time.monotonic() + late, self.world.next_id(), delivery))
+        heapq.heappush(self.waiting, (time.monotonic() + late, next(self.turns), delivery))
         self.changed.notify_all()
 
     def work(self) -> None:
