@@ -211,6 +211,8 @@ def look_after(arguments: argparse.Namespace) -> int:
     places = Places(Path(arguments.repository).resolve())
     must_be_own(places.repository)
     must_be_safe(places)
+    if read_github(places.settings, os.geteuid()):
+        raise Trouble("the doctor doesn't look at GitHub yet")
     if arguments.accept:
         commit = stray_named(places, arguments.accept)
         leave(places, AcceptanceLeft(name_of_user(os.geteuid()), commit))

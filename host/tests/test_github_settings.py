@@ -1,0 +1,61 @@
+"""Tests of the settings of a host of GitHub, and of its folder."""
+import subprocess
+import sys
+import tempfile
+import unittest
+from pathlib import Path
+
+sys.path.insert(0, str(Path(__file__).resolve().parent.parent))
+
+from gate_host.faults import Trouble  # noqa: E402
+from gate_host.github.settings import github_in  # noqa: E402
+
+HOST = Path(__file__).resolve().parent.parent / "gate-host"
+START = "[host]\nmain = main\n[github]\nrepository = o/r.x\n"
+APP = "app = 12\ninstallation = 34\nkey = /k\n"
+
+
+class SettingsTests(unittest.TestCase):
+    def test_what_is_read(self):
+        self.assertIsNone(github_in("[host]\nmain = main\n"))
+        found = github_in(f"{START}token = /t\n")
+        self.assertEqual((found.path, found.git, found.api), ("/repos/o/r.x", "https://github.com/o/r.x.git", "https://api.github.com"))
+        self.assertEqual((found.token, found.key, found.webhook_secret, found.listen), (Path("/t"), None, None, "127.0.0.1:8097"))
+        found = github_in(f"{START}{APP}api = http://127.0.0.1:7/api/v3/\nweb = http://127.0.0.1:7\nwebhook_secret = /s\n")
+        self.assertEqual((found.api, found.git), ("http://127.0.0.1:7/api/v3", "http://127.0.0.1:7/o/r.x.git"))
+        self.assertEqual((found.app, found.installation, found.key), ("12", "34", Path("/k")))
+
+    def test_what_is_refused(self):
+        for text in (
+            START, f"{START}token = t\n", f"{START}{APP}token = /t\n", f"{START}app = 12\nkey = /k\n", f"{START}token = /t\ntokens = /t\n",
+            f"{START}{APP.replace('34', 'x')}", "[github]\nrepository = o\ntoken = /t\n", "[github]\nrepository = o/r/x\ntoken = /t\n",
+            "[github]\nrepository = ../r\ntoken = /t\n", f"{START}token = /t\napi = ftp://x\n", f"{START}token = /t\nweb = https://a b\n",
+            f"{START}token = /t\n[github]\n",
+        ):
+            with self.assertRaises(Trouble, msg=text):
+                github_in(text)
+
+
+class FolderTests(unittest.TestCase):
+    def run_host(self, *words):
+        ran = subprocess.run([sys.executable, HOST, *map(str, words)], capture_output=True, encoding="utf-8", timeout=60, check=False)
+        return ran.returncode, ran.stderr
+
+    def test_a_folder_is_made_once(self):
+        with tempfile.TemporaryDirectory() as room:
+            folder = Path(room) / "host"
+            status, said = self.run_host("init", folder, "--github", "o/r", "--reviewer", "rosa")
+            self.assertEqual(status, 0, said)
+            self.assertEqual(github_in((folder / "gate/settings").read_text(encoding="utf-8")).repository, "o/r")
+            self.assertIn("rosa reviewer", (folder / "gate/roles").read_text(encoding="utf-8"))
+            for words, why in (
+                (("init", folder, "--github", "o/r"), "is set up already"),
+                (("init", Path(room) / "x", "--github", "o"), "OWNER/REPOSITORY"),
+                (("receive", folder), "webhook-secret can't be read"), (("doctor", folder), "doesn't look at GitHub yet"),
+            ):
+                status, said = self.run_host(*words)
+                self.assertEqual((status, why in said), (1, True), (words, said))
+
+
+if __name__ == "__main__":
+    unittest.main()
