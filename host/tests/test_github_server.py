@@ -255,7 +255,7 @@ class LimitTests(WithGitHub):
     def test_a_limit_that_is_reached(self):
         self.hub.world.clock.stop()
         self.hub.rest.exhaust(30)
-        got = self.refused(403, "API rate limit exceeded for installation:1.", HERE)
+        got = self.refused(403, f"API rate limit exceeded for installation ID {self.app.installation}.", HERE)
         self.assertEqual(got.headers["X-RateLimit-Remaining"], "0")
         self.assertNotIn("Retry-After", got.headers)
         self.assertEqual(int(got.headers["X-RateLimit-Reset"]), self.hub.world.clock.now() + 30)

@@ -12,6 +12,7 @@ import time
 import unittest
 import warnings
 from pathlib import Path
+from unittest import mock
 
 TESTS = Path(__file__).resolve().parent
 sys.path[:0] = [str(TESTS)]
@@ -160,6 +161,10 @@ class ReadTests(WithKeys):
         super().setUp()
         # The client keeps its connections until it is gone.
         warnings.simplefilter("ignore", ResourceWarning)
+        # It would ask a proxy that the environment names.
+        direct = mock.patch.dict(os.environ, {"NO_PROXY": "127.0.0.1", "no_proxy": "127.0.0.1"})
+        direct.start()
+        self.addCleanup(direct.stop)
         integration = github.GithubIntegration(self.app.id, self.private_key, base_url=self.hub.api)
         self.given = integration.get_access_token(self.app.installation)
         self.integration = integration

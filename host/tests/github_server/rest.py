@@ -40,6 +40,13 @@ class Limit:
         return {"limit": self.limit, "used": self.used, "remaining": self.remaining, "reset": math.ceil(self.reset)}
 
 
+def account_of(asker: Asker) -> str:
+    """Whose limit it is, in GitHub's words."""
+    if asker.app:
+        return f"installation ID {asker.app.installation}"
+    return f"user ID {asker.user.id}" if asker.user else "127.0.0.1"
+
+
 class Rest:
     """The API."""
 
@@ -83,7 +90,7 @@ class Rest:
             if asker.label in ("unknown", "expired"):
                 raise Refused(401, "Bad credentials", DOCS)
             if limit.remaining == 0 and not (route and route.operation == "rate-limit/get"):
-                raise Refused(403, f"API rate limit exceeded for {asker.label}.", f"{DOCS}/overview/rate-limits-for-the-rest-api")
+                raise Refused(403, f"API rate limit exceeded for {account_of(asker)}.", f"{DOCS}/overview/rate-limits-for-the-rest-api")
             if route is None:
                 raise Refused(404, "Not Found", DOCS)
             reply = self.act(call, asker, route, names)
