@@ -34,7 +34,7 @@ class Api:
     not_before = 0.0
 
     def __init__(self):
-        self.comments, self.plan, self.asked = [], [], 0
+        self.comments, self.plan, self.asked, self.looks = [], [], 0, []
 
     def now(self):
         return 0.0
@@ -54,7 +54,10 @@ class Api:
             raise Unanswered("silence")
 
     def all(self, path):
+        from gate_host.github.api import Later
         self.asked += 1
+        if self.looks and self.looks.pop(0) == "later":
+            raise Later("not now")
         return [{"body": body} for place, body in self.comments if place == path]
 
 
@@ -112,6 +115,22 @@ class CommentTests(unittest.TestCase):
             self.tell("one", "two", "three")
             self.refresh(8)
             self.assertEqual(self.texts(), ["one", "two", "three"], plan)
+
+    def test_a_doubt_stays_until_it_could_be_asked_what_is_there(self):
+        self.tell("one")
+        self.refresh()
+        self.api.plan, self.api.looks = ["acted"], ["later", "later"]
+        self.tell("two", "three")
+        self.refresh(5)
+        self.assertEqual(self.texts(), ["one", "two", "three"])
+
+    def test_a_host_without_credentials_for_now_goes_on(self):
+        from gate_host.faults import Unable
+        self.tell("one")
+        with mock.patch.object(self.api, "post", side_effect=Unable("the app gets no token")):
+            self.refresh(2)
+        self.refresh()
+        self.assertEqual(self.texts(), ["one"])
 
     def test_a_host_that_dies_behind_a_comment_does_not_post_it_again(self):
         for place in range(3):

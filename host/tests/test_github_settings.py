@@ -24,13 +24,14 @@ class SettingsTests(unittest.TestCase):
         found = github_in(f"{START}{APP}api = http://127.0.0.1:7/api/v3/\nweb = http://127.0.0.1:7\nwebhook_secret = /s\n")
         self.assertEqual((found.api, found.git), ("http://127.0.0.1:7/api/v3", "http://127.0.0.1:7/o/r.x.git"))
         self.assertEqual((found.app, found.installation, found.key), ("12", "34", Path("/k")))
+        self.assertEqual([github_in(f"{START}token = /t\n{it}").poll_seconds for it in ("", "poll_seconds = 0.5\n")], [20, 0.5])
 
     def test_what_is_refused(self):
         for text in (
             START, f"{START}token = t\n", f"{START}{APP}token = /t\n", f"{START}app = 12\nkey = /k\n", f"{START}token = /t\ntokens = /t\n",
             f"{START}{APP.replace('34', 'x')}", "[github]\nrepository = o\ntoken = /t\n", "[github]\nrepository = o/r/x\ntoken = /t\n",
             "[github]\nrepository = ../r\ntoken = /t\n", f"{START}token = /t\napi = ftp://x\n", f"{START}token = /t\nweb = https://a b\n",
-            f"{START}token = /t\n[github]\n",
+            f"{START}token = /t\n[github]\n", f"{START}token = /t\npoll_seconds = 0\n", f"{START}token = /t\npoll_seconds = soon\n",
         ):
             with self.assertRaises(Trouble, msg=text):
                 github_in(text)

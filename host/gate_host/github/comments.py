@@ -7,6 +7,7 @@ from typing import Mapping, Sequence
 from ..core.deliveries import Delivery
 from ..core.orders import table_in
 from ..core.words import plain
+from ..faults import Unable
 from ..journal import Journal
 from ..reports import Reports
 from ..troubles import complain
@@ -54,7 +55,7 @@ class Comments:
         try:
             self.post_some()
             self.lost = ""
-        except Later as fault:
+        except Unable as fault:
             if not self.lost:
                 complain(f"what people are told waits: {fault}")
             self.lost = str(fault)
@@ -76,10 +77,15 @@ class Comments:
             if self.is_doubtful and self.is_there(change, mark):
                 self.is_doubtful = False
                 return
-            self.is_doubtful = True
-            self.api.post(f"{self.path}/issues/{change}/comments", {"body": f"{markdown(text)}\n\n{mark}"})
+            self.send(change, f"{markdown(text)}\n\n{mark}")
         except Refused as refused:
             complain(f"change {change} can't be commented on: {refused}")
+            self.is_doubtful = False
+
+    def send(self, change: int, body: str) -> None:
+        self.is_doubtful = True
+        try:
+            self.api.post(f"{self.path}/issues/{change}/comments", {"body": body})
         except Unanswered:
             raise
         except Later:

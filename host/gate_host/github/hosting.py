@@ -117,7 +117,7 @@ def run_on_github(places: Places, given: GitHubSettings, is_all_again: bool) -> 
     reports = Reports(places, journal, complain)
     known = journal.known(lambda then, it: reports.note(it.delivery, touched(it.delivery, it.orders, then)))
     files = OwnerOnGitHub(places, owner, {})
-    source = PullRequests(api, given.path, files.main, hooks_of(places), journal, known)
+    source = PullRequests(api, given.path, files.main, hooks_of(places), journal, known, given.poll_seconds)
     files.by_permission = source.roles.found
     remote = RemoteRepository(places, given.git, credentials, files.main, files.settings.staging, files.settings.trying)
     reports.more_of = lambda change: landing_of(known.landing_of(change), change)

@@ -20,8 +20,8 @@ from . import hints
 from .api import Api, Refused
 from .reading import IssueComment, PullRequest, comment_in, commit_in, pull_request_in, reviews_in, role_in, statuses_in
 
-# How often comments and statuses are asked for without a webhook, how often the reviews of all changes, and how long a role is known.
-SECONDS_OF_POLL, SECONDS_OF_REVIEWS, SECONDS_OF_ROLE = 20.0, 180.0, 120.0
+# How often the reviews of all changes are asked for without a webhook, and how long a role is known.
+SECONDS_OF_REVIEWS, SECONDS_OF_ROLE = 180.0, 120.0
 # What is reported comes from GitHub, whoever reported it there.
 REPORTER = "github"
 # No comment of the host's own is taken. Each has this.
@@ -77,8 +77,13 @@ class PullRequests:
 
     has_more = False
 
-    def __init__(self, api: Api, path: str, main: str, folder: Path, marks: Marks, known: Known, now: Callable[[], float] = time.monotonic):
+    def __init__(
+        self, api: Api, path: str, main: str, folder: Path, marks: Marks, known: Known, poll_seconds: float,
+        now: Callable[[], float] = time.monotonic,
+    ):
         self.api, self.path, self.main, self.folder, self.marks, self.known, self.now = api, path, main, folder, marks, known, now
+        # How often comments and statuses are asked for without a webhook.
+        self.poll_seconds = poll_seconds
         self.roles = Roles(api, path, now)
         self.next_poll = self.next_reviews = 0.0
         self.taken = Taken({}, "")
@@ -116,9 +121,13 @@ class PullRequests:
         hint = hints.take(self.folder)
         self.hinted |= hint.changes
         if hint.is_some or self.now() >= self.next_poll:
-            self.next_poll = self.now() + SECONDS_OF_POLL
+            # What fails is asked again at once: the webhooks that told of it are gone.
+            self.next_poll = 0.0
             self.read_comments()
-            return [*self.taken.notes.values(), *self.reports()]
+            # A command may need what was reported before it.
+            reports = self.reports()
+            self.next_poll = self.now() + self.poll_seconds
+            return [*reports, *self.taken.notes.values()]
         return list(self.taken.notes.values())
 
     def remove(self, name: str) -> None:

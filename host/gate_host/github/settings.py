@@ -7,9 +7,10 @@ from typing import Optional
 
 from ..faults import Trouble
 from ..places import trusted_text
+from ..settings import seconds_in
 
 SECTION = "github"
-KEYS = {"repository", "api", "web", "token", "app", "installation", "key", "webhook_secret", "listen"}
+KEYS = {"repository", "api", "web", "token", "app", "installation", "key", "webhook_secret", "listen", "poll_seconds"}
 REPOSITORY = re.compile(r"[A-Za-z0-9-]{1,39}/[A-Za-z0-9_.-]{1,100}")
 ADDRESS = re.compile(r"https?://[A-Za-z0-9.:\[\]-]+(/[A-Za-z0-9./_-]*)?")
 
@@ -24,6 +25,8 @@ token = {token}
 #key = /etc/gate/app.pem
 webhook_secret = {secret}
 listen = 127.0.0.1:8097
+# How often comments and statuses are asked for if no webhook comes.
+poll_seconds = 20
 """
 
 
@@ -40,6 +43,7 @@ class GitHubSettings:
     key: Optional[Path]
     webhook_secret: Optional[Path]
     listen: str
+    poll_seconds: float
 
     @property
     def path(self) -> str:
@@ -67,7 +71,7 @@ def github_in(text: str) -> Optional[GitHubSettings]:
         table.get("repository", ""), table.get("api", "https://api.github.com").rstrip("/"),
         table.get("web", "https://github.com").rstrip("/"), path_of(table.get("token")), table.get("app", ""),
         table.get("installation", ""), path_of(table.get("key")), path_of(table.get("webhook_secret")),
-        table.get("listen", "127.0.0.1:8097"),
+        table.get("listen", "127.0.0.1:8097"), seconds_in(table, "poll_seconds", "20"),
     )
     must_be_right(found)
     return found
