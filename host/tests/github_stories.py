@@ -1,6 +1,10 @@
 """Stories of a host of a repository on GitHub, with the built program, over the server for tests. test_github_host.py plays them."""
+import contextlib
+import json
 import os
+import re
 import shutil
+import sqlite3
 import subprocess
 import sys
 import time
@@ -12,16 +16,23 @@ TESTS = Path(__file__).resolve().parent
 HOST = TESTS.parent / "gate-host"
 PROGRAM = Path(os.environ.get("GATE_PROGRAM") or TESTS.parent.parent / "crates/gate_bot/out/gate_bot")
 SECONDS = float(os.environ.get("GATE_STORY_SECONDS", "120"))
+MARK = re.compile(r"<!-- gate:[^>]*-->")
 
 
 class WithHost(WithGitHub):
     """A team whose main branch a host guards, and CI that tests what is staged."""
 
+    bors = 'status = ["build"]\n'
+    # How often the host asks without a webhook.
+    poll_seconds = 20.0
+    # Whether CI tests at once what is staged.
+    is_tested = True
+
     def setUp(self):
         if not os.access(PROGRAM, os.X_OK):
             self.skipTest(f"there is no built program {PROGRAM}")
         super().setUp()
-        self.people.push_files(self.project, "root", "main", {"bors.toml": 'status = ["build"]\n', "check": "good\n"})
+        self.people.push_files(self.project, "root", "main", {"bors.toml": self.bors, "check": "good\n"})
         self.folder = self.room / "host"
         self.errors = self.room / "errors"
         self.errors.touch()
@@ -35,6 +46,7 @@ class WithHost(WithGitHub):
         for before, after in (
             ("tick_seconds = 10", "tick_seconds = 0.5"), ("look_seconds = 1", "look_seconds = 0.3"),
             ("listen = 127.0.0.1:8097", "listen = 127.0.0.1:0"), ("[github]\n", f"[github]\napi = {self.hub.api}\nweb = {self.hub.url}\n"),
+            ("poll_seconds = 20", f"poll_seconds = {self.poll_seconds}"),
         ):
             self.assertIn(before, text)
             text = text.replace(before, after)
@@ -78,7 +90,7 @@ class WithHost(WithGitHub):
             process.kill()
             process.wait()
 
-    def until(self, what, is_so):
+    def until(self, what, is_so, *about):
         late = time.monotonic() + SECONDS
         while not is_so():
             self.assertEqual(self.hub.troubles, [])
@@ -86,13 +98,16 @@ class WithHost(WithGitHub):
                 if process.poll() is not None:
                     self.fail(f"gate-host {job} has ended: {self.errors.read_text(encoding='utf-8')[-3000:]}")
             if time.monotonic() > late:
-                self.fail(f"it doesn't come to this: {what}; {self.errors.read_text(encoding='utf-8')[-3000:]}")
+                said = [self.comments(it) for it in about]
+                self.fail(f"it doesn't come to this: {what}; {said}; {self.errors.read_text(encoding='utf-8')[-3000:]}")
             self.ci()
             time.sleep(0.05)
 
     # CI: it tests each commit of the two branches once
 
     def ci(self):
+        if not self.is_tested:
+            return
         tested = self.__dict__.setdefault("tested", {})
         for branch in ("staging", "trying"):
             commit = self.project.bare.sha(f"refs/heads/{branch}")
@@ -101,17 +116,79 @@ class WithHost(WithGitHub):
                 tested[commit] = is_good
                 self.people.check_run(self.project, commit, "build", conclusion="success" if is_good else "failure")
 
+    # What people do
+
+    def journal(self, *events):
+        """What was handed in of these events, in its order."""
+        try:
+            with contextlib.closing(sqlite3.connect(f"file:{self.folder}/gate/records/journal.db?mode=ro", uri=True, timeout=20)) as journal:
+                found = [json.loads(line) for (line,) in journal.execute("SELECT line FROM deliveries ORDER BY number")]
+        except sqlite3.OperationalError:
+            # It isn't made yet.
+            return []
+        return [it for it in found if it["event"] in events]
+
+    def is_seen(self, pull):
+        """Whether the host has written down that a change is at its head."""
+        heads = [it["head"] for it in self.journal("opened", "pushed") if it["change"] == pull.number]
+        return heads[-1:] == [pull.head_sha]
+
+    def is_closed(self, pull):
+        """Whether the host takes a change for closed."""
+        events = [it["event"] for it in self.journal("opened", "reopened", "closed") if it["change"] == pull.number]
+        return events[-1:] == ["closed"]
+
+    def see(self, *pulls):
+        """Waits until the host has seen the heads of changes, and whoever comments now does so in a later second."""
+        self.until("the host sees the heads", lambda: all(self.is_seen(it) for it in pulls))
+        self.later(*pulls)
+
+    def later(self, *pulls):
+        at = max(it.updated_at for it in pulls)
+        self.until("a second has gone by", lambda: self.hub.world.clock.now() > at + 1.1)
+
+    def approve(self, *pulls):
+        self.see(*pulls)
+        for pull in pulls:
+            self.people.comment(pull, "ines", "bors r+")
+
+    def landed(self, *pulls):
+        self.until(f"{[it.number for it in pulls]} land", lambda: all(it.merged for it in pulls), *pulls)
+        for pull in pulls:
+            self.told(pull, "Landed on main")
+
     # What is seen
 
     def comments(self, pull):
-        return [it.body for it in self.project.comments.values() if it.pull is pull and it.user.login == "gate[bot]"]
+        return [it.body for it in self.project.comments.values() if it.issue is pull and it.user.login == "gate[bot]"]
 
     def told(self, pull, *texts):
         self.until(f"{texts} is told of {pull.number}, of which there is {self.comments(pull)}", lambda: all(
             any(text in comment for comment in self.comments(pull)) for text in texts))
 
+    def texts(self, pull):
+        """What the bot said of a change, without the marks; each mark stands once."""
+        said = self.comments(pull)
+        marks = [mark for it in said for mark in MARK.findall(it)]
+        self.assertEqual(len(marks), len(said), said)
+        self.assertEqual(len(set(marks)), len(marks), said)
+        return [MARK.sub("", it).strip() for it in said]
+
+    def nobody_is_told_twice(self, *pulls):
+        for pull in pulls:
+            said = self.texts(pull)
+            self.assertEqual(len(set(said)), len(said), said)
+
     def main(self):
         return self.project.bare.sha("refs/heads/main")
+
+    def only_landings_are_on_main(self, since):
+        """Each step of the main branch was staged and tested."""
+        for commit in self.project.bare.git("rev-list", "--first-parent", f"{since}..refs/heads/main").split():
+            self.assertTrue(self.tested.get(commit), commit)
+
+    def running(self, job="run"):
+        return self.processes[job]
 
 
 def clean(folder):

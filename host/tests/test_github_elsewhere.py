@@ -9,7 +9,10 @@ from pathlib import Path
 TESTS = Path(__file__).resolve().parent
 PYTHON = "/usr/bin/python3"
 LIBRARIES = ("httpx", "jwt", "cryptography", "waitress")
-MODULES = ("test_github_api", "test_github_comments", "test_github_receiver", "test_github_settings", "test_github_host")
+MODULES = (
+    "test_github_api", "test_github_comments", "test_github_receiver", "test_github_settings", "test_github_host",
+    "test_github_host_heads", "test_github_host_trouble",
+)
 
 
 class ElsewhereTests(unittest.TestCase):

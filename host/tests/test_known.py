@@ -104,6 +104,13 @@ class KnownTests(unittest.TestCase):
         play = Play(*BEFORE, (Reported("n3", "ci", B, "format", "success", ""), DONE))
         self.assertEqual((play.known.results, len(play.told)), ({}, len(Play(*BEFORE).told)))
 
+    def test_what_is_reported_of_a_head_is_news_again_once_a_change_has_left_it(self):
+        reported = [*BEFORE, (Reported("n3", "ci", B, "format", "success", ""), DONE)]
+        self.assertEqual(Play(*reported).known.reported, {B: {"format": "success"}})
+        for left in (Closed(7), Pushed(7, C)):
+            self.assertEqual(Play(*reported, (left, DONE)).known.reported, {}, left)
+        self.assertEqual(Play(*reported, (Opened(8, "vera", B), DONE)).known.reported, {})
+
     def test_a_batch_that_is_over_hears_no_more_reports(self):
         late = Reported("n9", "ci", C, "lint", "failure", "late")
         denied = '[{"number":19,"rule":"NoSuchBatch","verdict":"denied"}]'

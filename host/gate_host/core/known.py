@@ -268,6 +268,7 @@ class Known:
         self.people[fact.change] = replace(people, approvers=(), said_by="", author=author)
         # A head that moves ends all reviews, also if it comes back.
         self.reviews.pop(fact.change, None)
+        self.forget_reports(before.head if before else "", "" if isinstance(fact, Closed) else fact.head)
         if isinstance(fact, Closed):
             self.changes[fact.change] = Change("closed", before.head if before else "")
             return []
@@ -277,6 +278,12 @@ class Known:
         self.changes[fact.change] = Change("open", fact.head)
         self.drop_pushers(fact.change, fact.head)
         return []
+
+    def forget_reports(self, *heads: str) -> None:
+        """Has told anew what is reported of heads: the bot forgets it when a change leaves its head or is closed."""
+        for head in heads:
+            if not self.tests_of(head):
+                self.reported.pop(head, None)
 
     def drop_pushers(self, change: int, head: str) -> None:
         """Drops who told of pushes of a change up to a head."""

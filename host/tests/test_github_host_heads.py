@@ -1,0 +1,85 @@
+"""Stories of a host on GitHub about what a change has to be to land: its head, its labels, its reviews, where it goes."""
+import unittest
+
+try:
+    import httpx
+except ImportError:
+    httpx = None
+
+from github_stories import WithHost
+
+
+@unittest.skipIf(httpx is None, "httpx isn't installed")
+class HeadTests(WithHost):
+    poll_seconds = 0.5
+
+    def test_what_was_pushed_after_an_approval_does_not_land(self):
+        pushed = self.people.propose(self.project, "otto", "pushed", {"pushed": "1\n"})
+        missed = self.people.propose(self.project, "otto", "missed", {"missed": "1\n"})
+        self.is_tested = False
+        self.start()
+        self.approve(pushed)
+        self.until("it is staged", lambda: self.project.bare.sha("refs/heads/staging"))
+        self.people.push_files(self.project, "otto", "pushed", {"pushed": "2\n"})
+        self.until("the push is seen", lambda: self.is_seen(pushed))
+        self.see(missed)
+        self.kill()
+        self.people.comment(missed, "ines", "bors r+")
+        self.later(missed)
+        self.people.push_files(self.project, "otto", "missed", {"missed": "2\n"})
+        self.is_tested = True
+        self.start()
+        self.told(missed, "the change is at " + missed.head_sha)
+        # What is approved after all this lands alone.
+        other = self.people.propose(self.project, "otto", "other", {"other": "1\n"})
+        self.approve(other)
+        self.landed(other)
+        self.assertEqual((pushed.state, missed.state), ("open", "open"))
+        files = self.project.bare.git("ls-tree", "--name-only", "refs/heads/main").split()
+        self.assertEqual((set(files) & {"pushed", "missed"}, "other" in files), (set(), True))
+        self.approve(pushed, missed)
+        self.landed(pushed, missed)
+
+
+@unittest.skipIf(httpx is None, "httpx isn't installed")
+class ConditionTests(WithHost):
+    bors = 'status = ["build"]\nblock_labels = ["wip"]\nrequired_approvals = 1\npr_status = ["format"]\n'
+
+    def refused(self, pull, why):
+        """An approval that is denied, for a reason."""
+        before = len(self.comments(pull))
+        self.people.comment(pull, "ines", "bors r+")
+        self.until(f"{pull.number} is told {why}: {self.comments(pull)}", lambda: any(why in it for it in self.comments(pull)[before:]))
+
+    def test_what_keeps_a_change_from_landing(self):
+        self.people.push_files(self.project, "root", "next", {"next": "1\n"})
+        pull = self.people.propose(self.project, "otto", "x", {"x": "1\n"})
+        self.start_receiver()
+        self.start()
+        self.see(pull)
+        self.refused(pull, "denied")
+        self.people.status(self.project, "ines", pull.head_sha, "format", "success")
+        self.refused(pull, "review")
+        review = self.people.review(pull, "vera", "APPROVED")
+        self.people.label(pull, "ines", "wip")
+        self.refused(pull, "wip")
+        self.people.unlabel(pull, "ines", "wip")
+        self.people.dismiss(review, "ines")
+        self.refused(pull, "review")
+        self.people.review(pull, "vera", "APPROVED")
+        self.people.make_draft(pull, "otto")
+        self.until("a draft is no change", lambda: self.is_closed(pull))
+        self.refused(pull, "denied")
+        self.people.ready(pull, "otto")
+        self.until("it is a change again", lambda: not self.is_closed(pull))
+        self.people.retarget(pull, "otto", "next")
+        self.until("one for another branch is no change", lambda: self.is_closed(pull))
+        self.people.retarget(pull, "otto", "main")
+        self.until("it is a change again", lambda: not self.is_closed(pull))
+        self.assertFalse(pull.merged)
+        self.approve(pull)
+        self.landed(pull)
+
+
+if __name__ == "__main__":
+    unittest.main()
