@@ -94,14 +94,17 @@ class WithHost(WithGitHub):
         late = time.monotonic() + SECONDS
         while not is_so():
             self.assertEqual(self.hub.troubles, [])
-            for job, process in self.processes.items():
+            for job, process in list(self.processes.items()):
                 if process.poll() is not None:
-                    self.fail(f"gate-host {job} has ended: {self.errors.read_text(encoding='utf-8')[-3000:]}")
+                    self.has_ended(job, process)
             if time.monotonic() > late:
                 said = [self.comments(it) for it in about]
                 self.fail(f"it doesn't come to this: {what}; {said}; {self.errors.read_text(encoding='utf-8')[-3000:]}")
             self.ci()
             time.sleep(0.05)
+
+    def has_ended(self, job, process):
+        self.fail(f"gate-host {job} has ended with {process.returncode}: {self.errors.read_text(encoding='utf-8')[-3000:]}")
 
     # CI: it tests each commit of the two branches once
 
@@ -186,9 +189,6 @@ class WithHost(WithGitHub):
         """Each step of the main branch was staged and tested."""
         for commit in self.project.bare.git("rev-list", "--first-parent", f"{since}..refs/heads/main").split():
             self.assertTrue(self.tested.get(commit), commit)
-
-    def running(self, job="run"):
-        return self.processes[job]
 
 
 def clean(folder):

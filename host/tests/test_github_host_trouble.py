@@ -1,7 +1,6 @@
 """Stories of a host on GitHub in trouble: webhooks, the API, its own death, and people beside it. Whatever goes wrong, the end is the same."""
 import os
 import signal
-import subprocess
 import unittest
 from pathlib import Path
 
@@ -144,22 +143,46 @@ class PollingTests(Trouble):
 class DeathTests(Trouble):
     poll_seconds = 0.5
 
-    def die(self, operation, when, count=1):
-        """Has the host killed at a request."""
-        self.is_due = True
+    def setUp(self):
+        super().setUp()
+        self.deaths = []
 
-        def kill():
-            self.processes["run"].send_signal(signal.SIGKILL)
-            self.is_due = False
-        getattr(self.switches, when)(operation, kill, count)
+    def has_ended(self, job, process):
+        """A host that was killed is started again."""
+        if process.returncode != -signal.SIGKILL or not self.deaths:
+            super().has_ended(job, process)
+        self.start(job)
 
-    def goes_on(self):
-        """Waits until the host was killed, and starts it again."""
-        process = self.processes.pop("run")
-        self.processes_killed = process
-        self.until("the host is killed", lambda: process.poll() is not None)
-        self.assertEqual(process.returncode, -signal.SIGKILL)
+    def die(self, operation, number):
+        """Has the host killed at the next requests of a kind: first one that doesn't act any more, then one that has acted. So many acted
+        and were answered before that."""
+        for place, when in enumerate(("before", "after"), number):
+            getattr(self.switches, when)(operation, lambda it=(operation, when): self.kill_host(it), place)
+
+    def kill_host(self, which):
+        self.deaths.append((*which, self.main() != self.before))
+        self.processes["run"].send_signal(signal.SIGKILL)
+
+    def test_a_host_that_is_killed_at_each_kind_of_request(self):
+        self.begin()
         self.start()
+        self.see(self.good, self.bad)
+        kinds = KINDS if IS_THOROUGH else ("checks/list-for-ref", "issues/create-comment", "git/receive-pack")
+        for kind in kinds:
+            self.switches.cut(kind, "before")
+            self.die(kind, 1)
+        # The first two pushes were of the branch staging; the next two are of the main branch.
+        self.switches.cut("git/receive-pack", "before", skip=1)
+        self.die("git/receive-pack", 3)
+        self.people.comment(self.good, "ines", "bors r+")
+        self.landed(self.good)
+        self.people.comment(self.bad, "ines", "bors r+")
+        self.comes_to_the_end()
+        self.until(f"all deaths come: {self.deaths}", lambda: len(self.deaths) == 2 * len(kinds) + 2)
+        pushes = [(when, is_moved) for kind, when, is_moved in self.deaths if kind == "git/receive-pack"]
+        self.assertEqual(pushes, [("before", False), ("after", False), ("before", False), ("after", True)])
+        self.nobody_is_told_twice(self.good, self.bad)
+        self.no_secret_is_found()
 
 
 if __name__ == "__main__":
