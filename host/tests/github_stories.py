@@ -124,7 +124,8 @@ class WithHost(WithGitHub):
     def journal(self, *events):
         """What was handed in of these events, in its order."""
         try:
-            with contextlib.closing(sqlite3.connect(f"file:{self.folder}/gate/records/journal.db?mode=ro", uri=True, timeout=20)) as journal:
+            place = f"file:{self.folder}/gate/records/journal.db?mode=ro"
+            with contextlib.closing(sqlite3.connect(place, uri=True, timeout=20)) as journal:
                 found = [json.loads(line) for (line,) in journal.execute("SELECT line FROM deliveries ORDER BY number")]
         except sqlite3.OperationalError:
             # It isn't made yet.

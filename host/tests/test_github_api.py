@@ -112,11 +112,12 @@ class ApiTests(unittest.TestCase):
         self.assertEqual(pauses, [1.0, 2.0, 4.0, 1.0])
 
     def test_a_token_that_is_not_taken_is_renewed_once(self):
-        from gate_host.github.api import Refused
+        from gate_host.github.api import Later
         api = self.api(httpx.Response(401, json={}), httpx.Response(200, json={}), *[httpx.Response(401, json={"message": "Bad"})] * 2)
         self.assertEqual(api.get("/x"), {})
-        with self.assertRaisesRegex(Refused, "GitHub answers 401: Bad"):
-            api.get("/x")
+        for said in ("GitHub doesn't take the credentials: Bad", "GitHub is asked again in 60 seconds"):
+            with self.assertRaisesRegex(Later, said):
+                api.get("/x")
         self.assertEqual([it[3][-1] for it in self.asked], ["0", "1", "1", "2"])
 
 

@@ -1,4 +1,4 @@
-"""Stories of a host on GitHub in trouble: webhooks, the API, its own death, and people beside it. Whatever goes wrong, the end is the same."""
+"""Stories of a host on GitHub in trouble: webhooks, the API, its own death, and people beside it. The end is the same."""
 import os
 import signal
 import unittest

@@ -9,7 +9,7 @@ import httpx
 from ..core.orders import Json, list_in, table_in
 from ..faults import Unable
 from .credentials import Credentials
-from .pauses import pause_after, pause_after_fault
+from .pauses import USUAL_PAUSE, pause_after, pause_after_fault
 
 ACCEPTED = "application/vnd.github+json"
 VERSION = "2022-11-28"
@@ -128,6 +128,10 @@ class Api:
             if response.status_code != 401 or is_again:
                 break
             self.credentials.refused()
+        if response.status_code == 401:
+            # That is no word on what was asked, and GitHub shuts out who goes on so.
+            self.wait(USUAL_PAUSE, False)
+            raise Later(f"GitHub doesn't take the credentials: {words_of(response)}")
         if response.status_code >= 300 and response.status_code != 304:
             raise Refused(response.status_code, f"{words_of(response)} ({method} {httpx.URL(place).path})")
         return response

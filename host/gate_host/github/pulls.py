@@ -7,7 +7,7 @@ import secrets
 import time
 from dataclasses import dataclass
 from pathlib import Path
-from typing import Callable, Collection, Dict, FrozenSet, List, Mapping, Protocol, Sequence, Tuple, TypeVar
+from typing import Callable, Collection, Dict, FrozenSet, List, Mapping, Protocol, Sequence, Set, Tuple, TypeVar
 
 from ..core.commands import command_lines
 from ..core.notes import MOST_IN_COMMENT, Comment, Note, Report
@@ -87,6 +87,8 @@ class PullRequests:
         self.roles = Roles(api, path, now)
         self.next_poll = self.next_reviews = 0.0
         self.taken = Taken({}, "")
+        # Comments that are listed again though nothing is left to do about them, as those on an issue.
+        self.done: Set[str] = set()
         # The reviews of each change at the head for which they were asked, and of which changes a webhook came.
         self.reviews: Dict[int, Tuple[str, Mapping[str, bool]]] = {}
         self.hinted: FrozenSet[int] = frozenset()
@@ -132,24 +134,31 @@ class PullRequests:
 
     def remove(self, name: str) -> None:
         """A comment stays on GitHub. When all that were read are taken, the next time begins behind them."""
-        if self.taken.notes.pop(name, None) and not self.taken.notes:
-            self.marks.put_mark(SINCE, self.taken.since)
+        if self.taken.notes.pop(name, None):
+            self.done.add(name)
+            if not self.taken.notes:
+                self.marks.put_mark(SINCE, self.taken.since)
 
     def read_comments(self) -> None:
-        """Reads the comments since the last time. Those from before the first start are left out: they would act now."""
-        since = self.marks.mark(SINCE)
+        """Reads the comments since the last time. Those from before the first start are left out: they would act now. So is one that was
+        edited later: it was read before."""
+        since = begin = self.marks.mark(SINCE)
         if not since:
             self.marks.put_mark(SINCE, time.strftime("%Y-%m-%dT%H:%M:%SZ", time.gmtime(time.time())))
             return
         listed = self.asked(lambda: list(self.api.all(f"{self.path}/issues/comments", since=since, sort="updated", direction="asc")))
+        names: Set[str] = set()
         for entry in listed:
             comment = self.asked(lambda: comment_in(entry))
             name = f"comment-{comment.id}"
-            if is_for_bot(comment) and name not in self.taken.notes and not self.marks.has_taken(name):
+            names.add(name)
+            is_new = str(table_in(entry).get("created_at")) >= begin and name not in self.done and name not in self.taken.notes
+            if is_new and is_for_bot(comment) and not self.marks.has_taken(name):
                 self.roles.ask(str(comment.person))
                 self.taken.notes[name] = note_of(name, comment)
             since = max(since, str(table_in(entry).get("updated_at")))
         self.taken.since = since
+        self.done &= names
         if not self.taken.notes:
             self.marks.put_mark(SINCE, since)
 
