@@ -318,8 +318,8 @@ class ShownTests(unittest.TestCase):
     def test_the_text(self):
         lines = text_of_result(self.result()).splitlines()
         self.assertEqual(lines[0].split(), ["commit", "when", "what", "changes", "approved", "by", "statuses"])
-        self.assertRegex(lines[1], r"^1111111111  1970-01-01 \d\d:\d\d:\d\d  batch 1        1 aaaaaaa  rosa         build, lint$")
-        self.assertRegex(lines[2], r"^dddddddddd  1970-01-01 \d\d:\d\d:\d\d  push by ines\?  -          -            -$")
+        self.assertRegex(lines[1], r"^1111111111  1970-01-01 \d\d:\d\d:\d\d [+-]\d{4}  batch 1        1 aaaaaaa  rosa         build, lint$")
+        self.assertRegex(lines[2], r"^dddddddddd  1970-01-01 \d\d:\d\d:\d\d [+-]\d{4}  push by ines\?  -          -            -$")
         self.assertTrue(lines[3].startswith("FINDING past the queue: the main branch was moved from 1111"), lines[3])
         self.assertEqual(lines[4], (
             f"2 steps of main up to {NEXT}: 1 landing with 1 change, 1 past the queue; 11 facts, 10 answers to 10 deliveries; 1 finding"

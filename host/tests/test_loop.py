@@ -46,6 +46,8 @@ class World:
         self.heads = {change: f"{change}" * 40 for change in (1, 2, 3, 4)}
         texts = {1: "bors r+", 2: "bors r+", 3: "bors r+", 4: "bors try"}
         self.notes = {f"n{it}": ("rosa", {"change": it, "text": text, "head": self.heads[it]}) for it, text in texts.items()}
+        # Whether the branches of what has landed are deleted.
+        self.drops = False
         # The settings in the merges of a branch, if they are others.
         self.settings_of_batches = {}
         # To which commit somebody else moves the main branch before the first landing, if anybody does.
@@ -308,6 +310,7 @@ def host_in(world):
         source=Source(world), repository=Repository(world), runner=Runner(world), bot=Bot(world), journal=journal, clock=Clock(world),
         board=Board(world), owner=Owner(), after=AfterLanding(),
     )
+    given.owner.settings.delete_branches = world.drops
     return Host(given, journal.known(), "owner", 3, Troubles())
 
 
@@ -340,7 +343,8 @@ class InWorld(unittest.TestCase):
             phases = {change: it.phase for change, it in host.known.changes.items()}
             is_over = phases == {1: "landed", 2: "landed", 3: "open", 4: "open"} and host.known.settings_of == world.main
             is_tried = sum(it["event"] == "status" for it in world.said) >= 4
-            if is_over and is_tried and not world.notes and not host.known.waiting:
+            is_tidy = not world.drops or set(world.heads) == {3, 4}
+            if is_over and is_tried and is_tidy and not world.notes and not host.known.waiting:
                 return host
         raise AssertionError(f"it doesn't come to its end: {phases}, {world.said}")
 
@@ -357,13 +361,13 @@ class DeathTests(InWorld):
 
     def dies_at_each_place(self, name, moved_to):
         calm = self.world(name)
-        calm.moved_to = moved_to
+        calm.moved_to, calm.drops = moved_to, True
         host = self.play(calm)
         due = self.outcome(calm, host)
         host.ports.journal.close()
         for place in range(1, calm.touches + 1):
             world = self.world(f"{name}-dies-{place}")
-            world.last, world.moved_to = place, moved_to
+            world.last, world.moved_to, world.drops = place, moved_to, True
             host = self.play(world)
             self.assertEqual(self.outcome(world, host), due, f"dies at {place}")
             # What the last host knows is what a new one would.

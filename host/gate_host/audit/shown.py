@@ -143,7 +143,7 @@ def table_of_change(change: int, head: str, approval: Optional[Approval]) -> Dic
 def time_of_day(at: Optional[int]) -> str:
     """A time as people read it. One that no clock has is none."""
     try:
-        return "-" if at is None else time.strftime("%Y-%m-%d %H:%M:%S", time.localtime(at))
+        return "-" if at is None else time.strftime("%Y-%m-%d %H:%M:%S %z", time.localtime(at))
     except (OverflowError, OSError, ValueError):
         return "-"
 
