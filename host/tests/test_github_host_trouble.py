@@ -42,9 +42,16 @@ class Trouble(WithHost):
 
     def no_secret_is_found(self):
         """Each secret is in its own file alone, and in no address that was asked for."""
+        # What works there makes files and removes them.
+        for job in list(self.processes):
+            self.kill(job)
         own = {self.token: "token", SECRET: "webhook-secret"}
         for path in [self.errors, *(it for it in self.folder.rglob("*") if it.is_file() and not it.is_symlink())]:
-            content = path.read_bytes()
+            try:
+                content = path.read_bytes()
+            except FileNotFoundError:
+                # What a process of the host's that still ends has removed.
+                continue
             for secret, name in own.items():
                 if path != self.folder / "gate/records" / name:
                     self.assertNotIn(secret.encode(), content, path)

@@ -69,8 +69,8 @@ class ReadingTests(unittest.TestCase):
             given = {"statuses": [{"context": name, "state": state, "target_url": None} for name, state in statuses]}
             return {it.name: it.state for it in statuses_in(given, runs)}
         for conclusion, due in (
-            ("success", "success"), ("neutral", "success"), ("skipped", "success"), ("failure", "failure"), ("timed_out", "failure"),
-            ("action_required", "failure"), ("startup_failure", "failure"), ("cancelled", "error"), ("stale", "error"),
+            ("success", "success"), ("neutral", "success"), ("skipped", "success"), ("failure", "failure"), ("timed_out", "error"),
+            ("action_required", "error"), ("startup_failure", "error"), ("cancelled", "error"), ("stale", "error"), ("new", "failure"),
         ):
             self.assertEqual(of([], run("x", conclusion=conclusion)), {"x": due})
         for status in ("queued", "in_progress", "waiting", "requested", "pending"):

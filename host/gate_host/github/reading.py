@@ -12,7 +12,10 @@ from ..places import person
 STATES = ("success", "pending", "failure", "error")
 # How a check run that is completed counts; any other conclusion is a failure. GitHub's own required checks take the first three for a
 # success as well.
-CONCLUSIONS = {"success": "success", "neutral": "success", "skipped": "success", "cancelled": "error", "stale": "error"}
+CONCLUSIONS = {
+    "success": "success", "neutral": "success", "skipped": "success", "cancelled": "error", "stale": "error", "timed_out": "error",
+    "action_required": "error", "startup_failure": "error",
+}
 # Reviews that say neither yes nor no, and those that aren't sent yet.
 NO_WORD = ("COMMENTED", "PENDING")
 MOST_IN_LABEL = 255
