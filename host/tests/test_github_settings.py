@@ -1,4 +1,5 @@
 """Tests of the settings of a host of GitHub, and of its folder."""
+import importlib.util
 import subprocess
 import sys
 import tempfile
@@ -49,10 +50,12 @@ class FolderTests(unittest.TestCase):
             self.assertEqual(status, 0, said)
             self.assertEqual(github_in((folder / "gate/settings").read_text(encoding="utf-8")).repository, "o/r")
             self.assertIn("rosa reviewer", (folder / "gate/roles").read_text(encoding="utf-8"))
+            has_waitress = importlib.util.find_spec("waitress") is not None
             for words, why in (
                 (("init", folder, "--github", "o/r"), "is set up already"),
                 (("init", Path(room) / "x", "--github", "o"), "OWNER/REPOSITORY"),
-                (("receive", folder), "webhook-secret can't be read"), (("doctor", folder), "doesn't look at GitHub yet"),
+                (("receive", folder), "webhook-secret can't be read" if has_waitress else "this Python has no waitress"),
+                (("doctor", folder), "doesn't look at GitHub yet"),
             ):
                 status, said = self.run_host(*words)
                 self.assertEqual((status, why in said), (1, True), (words, said))
