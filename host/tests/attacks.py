@@ -673,7 +673,9 @@ class CannotBeCheckedOut(Attack):
 
     def happen(self):
         blob = self.write("x", "hash-object", "-w", "--stdin")
-        tree = self.write(f"100644 blob {blob}\t{'x' * 300}\n", "mktree")
+        # The files of before stay: a change without settings doesn't come to a check.
+        before = self.must_git("ls-tree", self.first).strip()
+        tree = self.write(f"{before}\n100644 blob {blob}\t{'x' * 300}\n", "mktree")
         head = self.write("", "commit-tree", tree, "-p", self.first, "-m", "long")
         self.must_git("push", "--quiet", str(self.repository), f"{head}:refs/heads/change/1", person="otto")
         self.heads[1] = head
