@@ -27,6 +27,12 @@ class Attack(Story):
     """A story with a host at work, and changes of its own."""
 
     changes = ()
+    # The kinds of what an audit finds when all is over.
+    leaves = frozenset()
+
+    def allowed(self):
+        """Who may have pushed past the queue, as an audit is told it."""
+        return [it for name in self.may_push for it in ("--allow", name)]
 
     def told(self, change, *words):
         self.until(f"the log of change {change} says {words}", lambda: all(it in self.report(f"log-{change}") for it in words))
@@ -79,6 +85,8 @@ class Attack(Story):
 class ReplacedHead(Attack):
     """Somebody replaces the head that was approved by another commit, for git alone: by a push, and by a file."""
 
+    leaves = {"replacement"}
+
     def happen(self):
         head = self.push("otto", 1, {"parts/good": "test 1 -gt 0\n"})
         evil = self.commit(["--detach", self.first], {"parts/evil": "test 1 -gt 0\n"}, "evil")
@@ -97,6 +105,8 @@ class ReplacedHead(Attack):
 
 class ReplacedFile(Attack):
     """Somebody replaces a file that fails its check by one that doesn't, and the settings by some that ask for less."""
+
+    leaves = {"replacement"}
 
     def happen(self):
         self.push("otto", 1, {"parts/bad": "echo broken; test 1 -gt 2\n"})
@@ -133,6 +143,8 @@ class ForgedObject(Attack):
 
 class Graft(Attack):
     """Who can write the files has git take the head for a commit that is on the main branch already."""
+
+    leaves = {"replacement"}
 
     def happen(self):
         head = self.push("otto", 1, {"parts/good": "test 1 -gt 0\n"})
@@ -186,6 +198,9 @@ class NoHook(Attack):
 
 class Stray(Attack):
     """Who pushes by path moves the main branch past the hook. It is told at once, until the owner takes it for right."""
+
+    # What the owner took for right, whom the last audit isn't told.
+    leaves = {"past the queue"}
 
     def happen(self):
         self.keep_running()
@@ -633,6 +648,8 @@ class LockInMirror(Attack):
 class HiddenStray(Attack):
     """Somebody who may pushes a commit to the main branch and takes it back. That somebody else brings it there again is told."""
 
+    leaves = {"past the hook"}
+
     def happen(self):
         self.keep_running()
         self.until("there is a base", lambda: f"base {self.first}" in self.report("queue"))
@@ -673,7 +690,9 @@ class CannotBeCheckedOut(Attack):
 
     def happen(self):
         blob = self.write("x", "hash-object", "-w", "--stdin")
-        tree = self.write(f"100644 blob {blob}\t{'x' * 300}\n", "mktree")
+        # The files of before stay: a change without settings doesn't come to a check.
+        before = self.must_git("ls-tree", self.first).strip()
+        tree = self.write(f"{before}\n100644 blob {blob}\t{'x' * 300}\n", "mktree")
         head = self.write("", "commit-tree", tree, "-p", self.first, "-m", "long")
         self.must_git("push", "--quiet", str(self.repository), f"{head}:refs/heads/change/1", person="otto")
         self.heads[1] = head

@@ -78,6 +78,9 @@ class BuildTests(WithSshd):
         self.log_says(2, "Landed on main as")
         self.assertNotIn("bad", self.must_run("git", "--git-dir", self.repository, "ls-tree", "--name-only", "main"))
         self.they_ran_side_by_side()
+        # It ends with status 1 if it finds something.
+        said = self.must_run(self.room / "lib/host/gate-host", "audit", self.repository, "--program", self.room / "lib/gate")
+        self.assertIn("2 landings with 2 changes, 0 past the queue", said)
 
     def they_ran_side_by_side(self):
         """Both workers have built, and at some moment both were at work."""
