@@ -7,7 +7,7 @@ import stat
 import subprocess
 from dataclasses import dataclass
 from pathlib import Path
-from typing import Optional, Tuple, Union
+from typing import Callable, Optional, Tuple, Union
 
 from .faults import Trouble
 from .git import ALONE, clean_environment
@@ -144,21 +144,31 @@ def read_up_to(file: int, most: int) -> bytes:
     return content
 
 
-def trusted_text(path: Path, owner: int) -> str:
-    """The text of a file that nobody but its owner can write. Any other file is refused."""
+def checked_content(path: Path, wrong: Callable[[os.stat_result], Optional[str]]) -> bytes:
+    """What a file has. One that can't be read, that is wrong, as is told by its state, or that is too long is refused."""
     try:
         file = open_regular(path)
     except OSError as fault:
         raise Trouble(f"{path} can't be read: {fault.strerror}") from fault
     try:
-        found = os.fstat(file)
-        if not stat.S_ISREG(found.st_mode) or found.st_uid != owner or found.st_mode & 0o022:
-            raise Trouble(f"{path} has to be a file of the owner of the repository, which nobody else may write")
+        why = wrong(os.fstat(file))
+        if why:
+            raise Trouble(why)
         content = read_up_to(file, MOST_BYTES)
     finally:
         os.close(file)
     if len(content) > MOST_BYTES:
         raise Trouble(f"{path} has more than {MOST_BYTES} bytes")
+    return content
+
+
+def trusted_text(path: Path, owner: int) -> str:
+    """The text of a file that nobody but its owner can write. Any other file is refused."""
+    def wrong(found: os.stat_result) -> Optional[str]:
+        is_right = stat.S_ISREG(found.st_mode) and found.st_uid == owner and not found.st_mode & 0o022
+        return None if is_right else f"{path} has to be a file of the owner of the repository, which nobody else may write"
+
+    content = checked_content(path, wrong)
     try:
         return content.decode("utf-8")
     except UnicodeDecodeError as fault:

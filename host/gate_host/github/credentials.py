@@ -6,9 +6,8 @@ from pathlib import Path
 from typing import Callable, Optional, Protocol, Tuple
 
 from ..faults import Trouble
-from ..places import open_regular, read_up_to
+from ..places import checked_content
 
-MOST_BYTES = 65536
 # A token of an app's installation is renewed so many seconds before its end; and one that is asked for is good for so long at the most.
 SECONDS_BEFORE_END = 300
 # GitHub takes a word of an app that is at most ten minutes long. Its clock may be behind.
@@ -27,25 +26,20 @@ class Credentials(Protocol):
 
 def secret_in(path: Path) -> str:
     """The secret that a file has. One that others can read, or that isn't the user's, is refused."""
-    try:
-        file = open_regular(path)
-    except OSError as fault:
-        raise Trouble(f"{path} can't be read: {fault.strerror}") from fault
-    try:
-        found = os.fstat(file)
+    def wrong(found: os.stat_result) -> Optional[str]:
         if not stat.S_ISREG(found.st_mode) or found.st_uid != os.geteuid():
-            raise Trouble(f"{path} has to be a file of yours")
+            return f"{path} has to be a file of yours"
         if found.st_mode & 0o077:
-            raise Trouble(f"others can read {path}, which has a secret; chmod 600 it, and take another secret")
-        content = read_up_to(file, MOST_BYTES)
-    finally:
-        os.close(file)
+            return f"others can read {path}, which has a secret; chmod 600 it, and take another secret"
+        return None
+
+    content = checked_content(path, wrong)
     try:
         secret = content.decode("ascii").strip()
     except UnicodeDecodeError as fault:
         raise Trouble(f"{path} has bytes that no secret of GitHub's has") from fault
-    if not secret or len(content) > MOST_BYTES:
-        raise Trouble(f"{path} has no secret, or a very long one")
+    if not secret:
+        raise Trouble(f"{path} has no secret")
     return secret
 
 
