@@ -126,13 +126,13 @@ class Known:
     ended: int = 0
     changes: Dict[int, Change] = field(default_factory=dict)
     people: Dict[int, People] = field(default_factory=dict)
-    # The labels of each change, and who was told to approve the head that it has, or not.
+    # The labels of each change, and whose last review of the head that it has approves it, or not.
     labels: Dict[int, Set[str]] = field(default_factory=dict)
+    reviews: Dict[int, Dict[str, bool]] = field(default_factory=dict)
     # Since when each change is at the head that it has, by the clock of the code host.
     dated: Dict[int, Tuple[str, int]] = field(default_factory=dict)
     # What was reported of commits that are tested, or heads of open changes: the states by the names.
     reported: Dict[str, Dict[str, str]] = field(default_factory=dict)
-    reviews: Dict[int, Dict[str, bool]] = field(default_factory=dict)
     # In which batch each change was seen to wait last.
     queued: Dict[int, int] = field(default_factory=dict)
     # What has landed, by its commits, in their order; and by which commit each change has.
