@@ -15,7 +15,7 @@ from unittest import mock
 sys.path.insert(0, str(Path(__file__).resolve().parent.parent))
 
 from gate_host.github import hints  # noqa: E402
-from gate_host.github.hints import Hint, hint_in, is_waiting, take  # noqa: E402
+from gate_host.github.hints import Hint, changes_in, take  # noqa: E402
 from gate_host.github.receiver import PLACE, serve  # noqa: E402
 
 try:
@@ -102,28 +102,24 @@ class SocketTests(unittest.TestCase):
 
 class HintTests(unittest.TestCase):
     def test_where_to_look(self):
-        commit = "a" * 40
         for body, due in (
-            ({"number": 7, "pull_request": {"number": 7}}, Hint(frozenset({7}))), ({"issue": {"number": 8}}, Hint(frozenset({8}))),
-            ({"sha": commit}, Hint(commits=frozenset({commit}))), ({"check_run": {"head_sha": commit}}, Hint(commits=frozenset({commit}))),
-            ({"check_suite": {"head_sha": commit}}, Hint(commits=frozenset({commit}))), ({"ref": "refs/heads/main"}, Hint()),
-            ({"number": True, "sha": 7, "issue": 7, "pull_request": {"number": -1}}, Hint()), ({"issue": {"number": 2 ** 40}}, Hint()),
-            ([], Hint()), (7, Hint()),
+            ({"number": 7, "pull_request": {"number": 7}}, {7}), ({"issue": {"number": 8}}, {8}), ({"sha": "a" * 40}, set()),
+            ({"ref": "refs/heads/main"}, set()), ({"number": True, "issue": 7, "pull_request": {"number": -1}}, set()),
+            ({"issue": {"number": 2 ** 40}}, set()), ([], set()), (7, set()),
         ):
-            found = hint_in(json.dumps(body).encode())
-            self.assertEqual((found.changes, found.commits), (due.changes, due.commits), body)
+            self.assertEqual(changes_in(json.dumps(body).encode()), due, body)
         for body in (b"", b"\xff", b"[" * 100000):
-            self.assertEqual(hint_in(body), Hint())
+            self.assertEqual(changes_in(body), set())
 
     def test_what_lies_there_is_taken_once(self):
         with tempfile.TemporaryDirectory() as room:
             folder = Path(room)
-            self.assertEqual((is_waiting(folder), take(folder)), (False, Hint()))
+            self.assertEqual(take(folder), Hint())
             for body in (b'{"number":7}', b'{"number":8}', b'{"number":7}', b"x"):
                 hints.leave(folder, body)
             (folder / f"{hints.NAME_OF_PART}x").write_bytes(b'{"number":9}')
-            self.assertEqual((is_waiting(folder), take(folder)), (True, Hint(frozenset({7, 8}), frozenset(), True)))
-            self.assertEqual((is_waiting(folder), take(folder)), (False, Hint()))
+            self.assertEqual(take(folder), Hint(frozenset({7, 8}), True))
+            self.assertEqual(take(folder), Hint())
 
 
 if __name__ == "__main__":

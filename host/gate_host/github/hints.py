@@ -6,9 +6,9 @@ import secrets
 import time
 from dataclasses import dataclass
 from pathlib import Path
-from typing import FrozenSet, List, Mapping, Sequence
+from typing import FrozenSet, Mapping, Set
 
-from ..core.notes import is_commit, is_number
+from ..core.notes import is_number
 from ..core.orders import Json
 
 # While no host takes them, so many lie there. What is more is refused: a host that starts looks at everything.
@@ -20,11 +20,9 @@ NAME_OF_PART = ".part-"
 
 @dataclass(frozen=True)
 class Hint:
-    """Where to look: which changes and commits, and whether it may be something else."""
+    """Which changes webhooks name, and whether any came at all."""
 
     changes: FrozenSet[int] = frozenset()
-    commits: FrozenSet[str] = frozenset()
-    # Whether anything came at all.
     is_some: bool = False
 
 
@@ -58,38 +56,23 @@ def leave(folder: Path, body: bytes) -> None:
 def take(folder: Path) -> Hint:
     """Takes what lies there, and gives where to look by all of it. The host looks before anything rests on it, so nothing has to stay."""
     names = sorted(it for it in os.listdir(folder) if not it.startswith("."))[:MOST_AT_ONCE]
-    found: List[Hint] = []
+    changes: Set[int] = set()
     for name in names:
-        found.append(hint_in((folder / name).read_bytes()))
+        changes |= changes_in((folder / name).read_bytes())
         (folder / name).unlink()
-    return joined(found)
+    return Hint(frozenset(changes), bool(names))
 
 
-def joined(hints: Sequence[Hint]) -> Hint:
-    changes, commits = ({it for hint in hints for it in getattr(hint, name)} for name in ("changes", "commits"))
-    return Hint(frozenset(changes), frozenset(commits), bool(hints))
-
-
-def is_waiting(folder: Path) -> bool:
-    """Whether a webhook lies there."""
-    with os.scandir(folder) as entries:
-        return any(not it.name.startswith(".") for it in entries)
-
-
-def hint_in(body: bytes) -> Hint:
-    """Where to look by a webhook. What isn't as GitHub sends it says nothing."""
+def changes_in(body: bytes) -> Set[int]:
+    """The changes that a webhook names. What isn't as GitHub sends it names none."""
     try:
         found = json.loads(body)
     except (ValueError, RecursionError):
-        return Hint()
+        return set()
     if not isinstance(found, dict):
-        return Hint()
+        return set()
     numbers = [value_in(found, *path) for path in (("number",), ("pull_request", "number"), ("issue", "number"))]
-    commits = [value_in(found, *path) for path in (("sha",), ("check_run", "head_sha"), ("check_suite", "head_sha"))]
-    return Hint(
-        frozenset(it for it in numbers if isinstance(it, int) and is_number(it)),
-        frozenset(it for it in commits if isinstance(it, str) and is_commit(it)), True,
-    )
+    return {it for it in numbers if isinstance(it, int) and is_number(it)}
 
 
 def value_in(table: Mapping[str, Json], *path: str) -> Json:
