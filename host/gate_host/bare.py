@@ -51,6 +51,7 @@ class OwnerFiles:
         self.first = places.first_commit()
         # Nobody can review a branch.
         self.has_reviews = False
+        self.own_status = ""
 
     def read(self) -> List[Tuple[str, str]]:
         must_be_safe(self.places)

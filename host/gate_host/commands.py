@@ -13,6 +13,7 @@ from .bare import run_host
 from .doctor import checks_of, stray_named
 from .git import GitFailed
 from .github import starting
+from .github.doctor import checks_on_github
 from .github.settings import read_github
 from .hook import before_push
 from .core.commands import command_lines
@@ -72,6 +73,8 @@ def add_jobs_of_owner(jobs: "argparse._SubParsersAction[argparse.ArgumentParser]
     job.add_argument("--staging", metavar="BRANCH", help="where the host puts what is tested for landings (usually staging)")
     job.add_argument("--trying", metavar="BRANCH", help="where the host puts what is tested for tries (usually trying)")
     job.add_argument("--github", metavar="OWNER/REPOSITORY", help="the repository is on GitHub, and REPOSITORY a new folder for its host")
+    job.add_argument("--app", metavar="NUMBER", help="the number of the app as which GitHub knows the host; without it, it has a token")
+    job.add_argument("--web", metavar="URL", help="the address of a GitHub that isn't github.com")
     job.add_argument("--take", action="store_true", help="take the branches staging and trying, and give those that are there other names")
 
     job = jobs.add_parser("run", help="guard a repository until a signal ends it", description=(
@@ -85,8 +88,8 @@ def add_jobs_of_owner(jobs: "argparse._SubParsersAction[argparse.ArgumentParser]
     job.add_argument("repository", metavar="REPOSITORY")
 
     job = jobs.add_parser("doctor", help="say what is right with a repository and its host, and what to do", description=(
-        "Looks at all that the promise of the host rests on: the hook, the branches, what git reads, the records, the sandbox. The status "
-        "is 1 if something isn't right."))
+        "Looks at all that the promise of the host rests on: the hook, the branches, what git reads, the records, the sandbox; on GitHub "
+        "the credentials, permissions, events, webhooks, rules of branches and clocks. The status is 1 if something isn't right."))
     job.add_argument("repository", metavar="REPOSITORY")
     job.add_argument("--accept", metavar="COMMIT", help="a move of the main branch to this commit was right after all")
 
@@ -211,16 +214,16 @@ def look_after(arguments: argparse.Namespace) -> int:
     places = Places(Path(arguments.repository).resolve())
     must_be_own(places.repository)
     must_be_safe(places)
-    if read_github(places.settings, os.geteuid()):
-        raise Trouble("the doctor doesn't look at GitHub yet")
+    github = read_github(places.settings, os.geteuid())
     if arguments.accept:
         commit = stray_named(places, arguments.accept)
         leave(places, AcceptanceLeft(name_of_user(os.geteuid()), commit))
         print(f"the host takes it that the move to {commit} was right" + ("" if is_running(places) else ", when it runs again"))
         return 0
-    checked = checks_of(places, is_locked(places))
+    is_at_work = is_locked(places)
+    checked = checks_on_github(places, github, is_at_work) if github else checks_of(places, is_at_work)
     for check in checked:
-        print(f"{'right' if check.is_right else 'WRONG'}: {plain(check.said)}")
+        print(check.line)
     return 0 if all(check.is_right for check in checked) else 1
 
 
@@ -238,7 +241,7 @@ def look_at_push(arguments: argparse.Namespace) -> int:
 
 
 def say(arguments: argparse.Namespace) -> int:
-    places = find_places(arguments.repository)
+    places = places_of_bare(arguments)
     text = sys.stdin.read() if arguments.text == "-" else arguments.text
     if len(text) > MOST_IN_COMMENT:
         raise Trouble(f"a comment has at most {MOST_IN_COMMENT} characters")
@@ -266,7 +269,7 @@ def say(arguments: argparse.Namespace) -> int:
 
 def report_status(arguments: argparse.Namespace) -> int:
     """Leaves a report for the host. What can be told at once that doesn't count is refused."""
-    places = find_places(arguments.repository)
+    places = places_of_bare(arguments)
     who = person_here(places.owner)
     commit, name, more = arguments.commit.lower(), arguments.name, arguments.description
     if not is_commit(commit):
@@ -282,6 +285,15 @@ def report_status(arguments: argparse.Namespace) -> int:
     if not is_running(places):
         complain("no host runs at present, so this waits")
     return 0
+
+
+def places_of_bare(arguments: argparse.Namespace) -> Places:
+    """The places of a repository about which people speak here. About one on GitHub they do so there."""
+    places = find_places(arguments.repository)
+    github = read_github(places.settings, places.owner)
+    if github:
+        raise Trouble(f"what is said of {github.repository} is said on GitHub: comment on the pull request there")
+    return places
 
 
 def is_beginning(seen: str, head: str) -> bool:

@@ -14,7 +14,7 @@ from .inspection import findings
 from .journal import Journal
 from .loop import time_of_day
 from .marks import mark_is_strong
-from .core.words import stray
+from .core.words import plain, stray
 from .faults import Trouble
 from .places import Places, name_of_repository
 from .repository import BRANCHES
@@ -29,10 +29,20 @@ TROUBLE = "trouble: "
 
 @dataclass(frozen=True)
 class Checked:
-    """What was looked at, and what to do if it isn't right."""
+    """What was looked at, and what to do if it isn't right. A note is neither right nor wrong: it says what can't be looked at, or what may
+    matter to somebody."""
 
     is_right: bool
     said: str
+    is_note: bool = False
+
+    @property
+    def line(self) -> str:
+        return f"{'note' if self.is_note else 'right' if self.is_right else 'WRONG'}: {plain(self.said)}"
+
+
+def note(said: str) -> Checked:
+    return Checked(True, said, True)
 
 
 def checks_of(places: Places, is_running: bool) -> List[Checked]:
@@ -47,7 +57,7 @@ def checks_of(places: Places, is_running: bool) -> List[Checked]:
     return [
         Checked(True, "settings, roles, reporters and folders are the owner's alone"),
         *in_repository(places, settings), *locks_of(places, settings), *in_system(places, settings), *in_records(places, is_running),
-        *(told_by_host(places) if is_running else [Checked(False, f"no host runs; gate-host run {places.repository} starts one")]),
+        *told_by_host(places, is_running),
     ]
 
 
@@ -67,8 +77,7 @@ def locks_of(places: Places, settings: Settings) -> Iterator[Checked]:
 
 
 def in_system(places: Places, settings: Settings) -> Iterator[Checked]:
-    is_built = os.access(settings.program, os.X_OK)
-    yield Checked(is_built, f"the program of the bot is {settings.program}" + ("" if is_built else ", and isn't there; build it"))
+    yield from programs(settings)
     for path in (SCRIPT, Path(python_for_all())):
         is_right = is_for_all(path)
         yield Checked(is_right, f"{path} can be run by {'all' if is_right else 'some alone, and the hook needs that of whoever pushes'}")
@@ -79,6 +88,12 @@ def in_system(places: Places, settings: Settings) -> Iterator[Checked]:
         yield Checked(False, str(fault))
     said = "nobody can foretell" if mark_is_strong(places.spool) else "can be foretold, so links in folders of others are best avoided"
     yield Checked(True, f"the marks of files on the file system of {places.spool} {said}")
+
+
+def programs(settings: Settings) -> Iterator[Checked]:
+    """What runs: the program of the bot, and Python with SQLite."""
+    is_built = os.access(settings.program, os.X_OK)
+    yield Checked(is_built, f"the program of the bot is {settings.program}" + ("" if is_built else ", and isn't there; build it"))
     yield Checked(sys.version_info >= (3, 9) and sqlite3.sqlite_version_info >= (3, 37), "Python and SQLite are new enough")
 
 
@@ -112,8 +127,11 @@ def stray_named(places: Places, named: str) -> str:
     return strays[0]
 
 
-def told_by_host(places: Places) -> Iterator[Checked]:
-    """What a host that runs is troubled by."""
+def told_by_host(places: Places, is_running: bool) -> Iterator[Checked]:
+    """Whether a host runs, and what it is troubled by."""
+    if not is_running:
+        yield Checked(False, f"no host runs; gate-host run {places.repository} starts one")
+        return
     yield Checked(True, "a host runs")
     queue = places.reports / "queue"
     for line in queue.read_text(encoding="utf-8").splitlines() if queue.exists() else []:

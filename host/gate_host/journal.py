@@ -10,7 +10,7 @@ from pathlib import Path
 from typing import Callable, Dict, Iterator, List, NamedTuple, Optional, Sequence, Tuple, Union
 
 from .core.deliveries import Delivery
-from .core.facts import Fact, PushTold, Reported, Said, fact_in, kind_of, written
+from .core.facts import Fact, NotTaken, PushTold, Reported, Said, fact_in, kind_of, written
 from .core.known import Known, Told
 from .core.orders import Answer, Order, Unread, answer_in, orders_of
 from .faults import Trouble
@@ -143,7 +143,7 @@ class Journal:
         before = len(known.waiting)
         told = known.learn(number, at, fact)
         self.database.execute("INSERT INTO facts VALUES (?, ?, ?, ?)", (number, at, kind_of(fact), written(fact)))
-        if isinstance(fact, (Said, PushTold, Reported)):
+        if isinstance(fact, (Said, NotTaken, PushTold, Reported)):
             self.database.execute("INSERT OR IGNORE INTO notes VALUES (?)", (fact.note,))
         for delivery in known.waiting[before:]:
             row = (number, delivery.id, delivery.line)
@@ -195,6 +195,11 @@ class Journal:
     def mark(self, name: str) -> str:
         found = self.one("SELECT value FROM marks WHERE name = ?", name)
         return found if isinstance(found, str) else ""
+
+    def marks(self, beginning: str) -> List[Tuple[str, str]]:
+        """The marks whose names begin so, with their values."""
+        query = "SELECT name, value FROM marks WHERE substr(name, 1, ?) = ?"
+        return self.database.execute(query, (len(beginning), beginning)).fetchall()
 
     def set_mark(self, name: str, value: str) -> None:
         self.database.execute("INSERT OR REPLACE INTO marks VALUES (?, ?)", (name, value))

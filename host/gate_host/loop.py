@@ -9,7 +9,7 @@ from .core.clock import ClockWatch
 from .core.deliveries import touched
 from .core.duties import Duty, Merge, Move, Point, open_duties
 from .core.facts import (
-    Delayed, Ended, Fact, Faulted, HeadDated, MainSeen, Merged, Moved, NotMoved, Opened, PushTold, Said, Staged, Ticked,
+    Delayed, Ended, Fact, Faulted, HeadDated, MainSeen, Merged, Moved, NotMoved, NotTaken, Opened, PushTold, Said, Staged, Ticked,
 )
 from .core.known import Batch, Known, Test
 from .core.commands import command_lines
@@ -56,6 +56,7 @@ class Host:
         # The heads of changes at the last look.
         self.heads: Dict[int, str] = {}
         self.details: Mapping[int, Detail] = {}
+        self.others: Mapping[int, str] = {}
         # Of what is tested, by its batch, as which check and why it fails before it is tested, or none; and what is to be said of the bot's
         # settings.
         self.objections: Dict[int, Optional[Tuple[str, str]]] = {}
@@ -213,16 +214,17 @@ class Host:
         for name, trouble in owner.read():
             self.troubles.put(name, f"{trouble}; the {name} of before stay" if trouble else "")
         self.is_report_due = self.is_report_due or (owner.settings, owner.reporters) != before
+        seen = self.ports.source.look()
+        # The look may have found who somebody is that reviews.
         for role in watching.news_of_roles(self.known, self.ports.owner.roles):
             self.record(role)
-        seen = self.ports.source.look()
         is_gone = [f"the branch {self.ports.owner.main} isn't there any more"] if self.known.base and not seen.main else []
         self.troubles.put("names", "; ".join([*seen.in_way, *is_gone]))
         if seen.main and watching.is_news_of_main(self.known, seen.main):
             self.record(MainSeen(seen.main, self.ports.repository.settings_at(seen.main, MOST_IN_SETTINGS)))
             self.watch.note_moves(self.known)
         self.look_at_settings()
-        self.heads, self.details = seen.heads, seen.details
+        self.heads, self.details, self.others = seen.heads, seen.details, seen.others
         self.look_at_changes(self.watch.pick(self.known, seen.heads))
         self.drop_branches()
 
@@ -258,6 +260,8 @@ class Host:
         of_heads = watching.never_reported(read.of_heads, (), owner.reporters)
         if never:
             return words.without_reporter(never)
+        if owner.own_status in read.of_heads:
+            return f"the status {owner.own_status} of heads, which the host itself sets, to success when a change has landed"
         return words.without_reporter_of_heads(of_heads) if of_heads else ""
 
     def drop_branches(self) -> None:
@@ -282,6 +286,7 @@ class Host:
             self.next_look = 0.0
         self.fetch(heads)
         for change, head in heads.items():
+            self.date_head(change, head)
             moved = watching.news_of_head(self.known, change, head)
             if moved:
                 self.record(moved)
@@ -291,13 +296,18 @@ class Host:
         for closed in watching.gone(self.known, self.heads):
             self.record(closed)
 
+    def date_head(self, change: int, head: str) -> None:
+        """Writes down since when a change is at a head, if a code host says so. That comes before the head itself: if the host dies between
+        the two, a comment of meanwhile counts all the same."""
+        detail = self.details.get(change)
+        if detail and watching.has_to_be_dated(self.known, change, head, detail.forced):
+            self.record(HeadDated(change, head, max(detail.dated, detail.forced)))
+
     def look_at_detail(self, change: int, head: str) -> None:
         """Writes down what a code host says of an open change besides its head."""
         detail, known = self.details.get(change), self.known
         if detail is None or known.phase(change) != "open" or known.head_of(change) != head:
             return
-        if known.dated.get(change, ("", 0))[0] != head:
-            self.record(HeadDated(change, head, detail.dated))
         news = [*watching.news_of_labels(known, change, detail.labels), *watching.news_of_reviews(known, change, detail.reviews)]
         for fact in news:
             self.record(fact)
@@ -364,9 +374,14 @@ class Host:
     def take_comment(self, comment: Comment) -> bool:
         if self.watch.is_awaited(comment.change):
             return False
-        if comment.change not in self.known.changes:
+        if self.ports.journal.has_taken(comment.note):
+            return True
+        why = self.others.get(comment.change)
+        if why is None and comment.change not in self.known.changes:
             complain(f"a note of {comment.person} is no comment on a change")
-        elif not self.ports.journal.has_taken(comment.note):
+        elif why or comment.objection:
+            self.record(NotTaken(comment.note, comment.change, comment.person, comment.text, why or comment.objection))
+        else:
             seen = comment.seen if comment.written is None else watching.seen_by(self.known, comment.change, comment.written)
             said = Said(comment.note, comment.change, comment.person, comment.text, seen)
             self.record(said if self.is_readable(said) else replace(said, is_readable=False))

@@ -14,12 +14,13 @@ from .settings import Settings
 @dataclass(frozen=True)
 class Detail:
     """What a code host says of a change besides its head: who opened it, its labels, whether people approve this head, and since when it
-    has it at the latest, by the clock of the code host."""
+    has it at the latest, by the clock of the code host. If a command waits, also when its head was moved by force last, or 0."""
 
     author: str
     labels: Tuple[str, ...]
     reviews: Mapping[str, bool]
     dated: int
+    forced: int = 0
 
 
 @dataclass(frozen=True)
@@ -31,6 +32,8 @@ class Look:
     heads: Dict[int, str]
     in_way: Sequence[str] = ()
     details: Mapping[int, Detail] = field(default_factory=dict)
+    # Why others that are there can't be taken for changes.
+    others: Mapping[int, str] = field(default_factory=dict)
 
 
 @dataclass(frozen=True)
@@ -214,6 +217,8 @@ class Owner(Protocol):
     # Who reports each status that no command of the host's does, by its name; and whether anybody can review changes.
     reporters: Mapping[str, FrozenSet[str]]
     has_reviews: bool
+    # The status of the host's own on heads, or none.
+    own_status: str
     # The branch that is guarded, and the commit with which it was made for the owner, if it was; since the host was started.
     main: str
     first: str

@@ -14,6 +14,7 @@ from typing import Callable, Collection, Dict, List, Optional, Sequence, Set, Tu
 
 from .bot_file import copy_up_to_date, has_file
 from .core.deliveries import Delivery
+from .core.head_status import Place
 from .core.words import plain
 from .faults import Trouble
 from .journal import Journal
@@ -125,8 +126,18 @@ class Reports:
 
     def waiting(self) -> Dict[int, int]:
         """In which batch each approved change waits, as the report of the queue had it last."""
-        found = filter(None, map(BATCH.fullmatch, (self.queue or "").split("\n")))
-        return {int(change): int(it[1]) for it in found if (it[2], it[3]) == ("staging", "waiting") for change in it[5].split(",")}
+        return {change: it.batch for change, it in self.places_in_queue().items() if it.state == "waiting"}
+
+    def places_in_queue(self) -> Dict[int, Place]:
+        """Where each approved change is in the queue, as the report of that had it last."""
+        found = [it for it in map(BATCH.fullmatch, (self.queue or "").split("\n")) if it and it[2] == "staging"]
+        places = [(Place(int(it[1]), it[3], number), it[5]) for number, it in enumerate(found, 1)]
+        return {int(change): place for place, changes in places for change in changes.split(",")}
+
+    @property
+    def is_current(self) -> bool:
+        """Whether the report of the queue has all that was answered."""
+        return self.is_known and not self.lines and self.queue is not None
 
     @property
     def is_behind(self) -> bool:

@@ -10,7 +10,7 @@ from .core.notes import is_name_of_status
 from .faults import Trouble
 from .places import person, trusted_text
 
-ROLES = ("member", "reviewer")
+ROLES = ("member", "reviewer", "nobody")
 KEYS = {
     "main", "program", "tick_seconds", "look_seconds", "check_seconds", "retry_seconds", "parallel", "may_push", "staging", "trying",
     "sandbox", "sandbox_network", "sandbox_reads", "sandbox_writes", "after_landing", "delete_branches",
@@ -19,14 +19,8 @@ KEYS = {
 # Names that git takes for branches, without those that its commands read in another way.
 BRANCH = re.compile(r"(?!.*(\.\.|//|\.lock/|@\{))[A-Za-z0-9_][A-Za-z0-9_./+@-]*(?<![./])(?<!\.lock)")
 
-FIRST_SETTINGS = """\
-# The settings of gate-host. Nobody but the owner of the repository may write this file. The host reads it again when it has changed.
-
-[host]
-# The branch that is guarded. Its bors.toml says which checks have to succeed. If it becomes another one, start the host again: the hook
-# guards that one from then on, and the host lands on this one until it is started.
-main = {main}
-
+# What the first settings of each host have in common.
+FIRST_OF_ALL = """\
 # The branches on which the host puts what is tested: for landings, and for tries. They are the host's alone.
 staging = {staging}
 trying = {trying}
@@ -36,7 +30,17 @@ program = {program}
 
 # How often the bot is told the time while something waits. Changes that are approved meanwhile are tested together.
 tick_seconds = 10
+"""
 
+FIRST_SETTINGS = """\
+# The settings of gate-host. Nobody but the owner of the repository may write this file. The host reads it again when it has changed.
+
+[host]
+# The branch that is guarded. Its bors.toml says which checks have to succeed. If it becomes another one, start the host again: the hook
+# guards that one from then on, and the host lands on this one until it is started.
+main = {main}
+
+""" + FIRST_OF_ALL + """
 # How often the host looks at the branches, if no hook calls it before.
 look_seconds = 1
 
@@ -204,7 +208,7 @@ def roles_in(text: str) -> Dict[str, str]:
             continue
         name = person(words[0].lstrip("@"))
         if len(words) != 2 or name is None or words[1] not in ROLES:
-            raise Trouble(f"roles: line {number} isn't a name and `reviewer` or `member`")
+            raise Trouble(f"roles: line {number} isn't a name and `reviewer`, `member` or `nobody`")
         roles[name] = words[1]
     return roles
 

@@ -44,7 +44,7 @@ class WithHost(WithGitHub):
         settings = self.folder / "gate/settings"
         text = settings.read_text(encoding="utf-8")
         for before, after in (
-            ("tick_seconds = 10", "tick_seconds = 0.5"), ("look_seconds = 1", "look_seconds = 0.3"),
+            ("tick_seconds = 10", "tick_seconds = 0.5"), ("look_seconds = 3", "look_seconds = 0.3"),
             ("listen = 127.0.0.1:8097", "listen = 127.0.0.1:0"), ("[github]\n", f"[github]\napi = {self.hub.api}\nweb = {self.hub.url}\n"),
             ("poll_seconds = 20", f"poll_seconds = {self.poll_seconds}"),
         ):
@@ -59,19 +59,23 @@ class WithHost(WithGitHub):
     def environment(self):
         return {"PATH": os.environ["PATH"], "HOME": str(self.room), "LC_ALL": "C.UTF-8", "PYTHONDONTWRITEBYTECODE": "1"}
 
-    def host_once(self, *words):
+    def host_once(self, *words, status=0):
         ran = subprocess.run(
             [sys.executable, HOST, *map(str, words)], env=self.environment(), capture_output=True, encoding="utf-8", timeout=60,
             check=False,
         )
-        self.assertEqual(ran.returncode, 0, ran.stderr)
+        self.assertEqual(ran.returncode, status, ran.stderr)
         return ran.stdout
+
+    def words_of(self, job):
+        """The program of a job, before the job itself."""
+        return [HOST]
 
     def start(self, job="run"):
         with open(self.errors, "ab") as errors:
             process = subprocess.Popen(
-                [sys.executable, str(HOST), job, str(self.folder)], env=self.environment(), stdin=subprocess.DEVNULL, stdout=errors,
-                stderr=errors,
+                [sys.executable, *map(str, self.words_of(job)), job, str(self.folder)], env=self.environment(), stdin=subprocess.DEVNULL,
+                stdout=errors, stderr=errors,
             )
         self.processes[job] = process
         self.addCleanup(self.kill, job)
@@ -171,12 +175,22 @@ class WithHost(WithGitHub):
             any(text in comment for comment in self.comments(pull)) for text in texts))
 
     def texts(self, pull):
-        """What the bot said of a change, without the marks; each mark stands once."""
+        """What the bot said of a change, without the marks; each comment has some, and each mark stands once."""
         said = self.comments(pull)
-        marks = [mark for it in said for mark in MARK.findall(it)]
-        self.assertEqual(len(marks), len(said), said)
-        self.assertEqual(len(set(marks)), len(marks), said)
+        marks = [MARK.findall(it) for it in said]
+        self.assertTrue(all(marks), said)
+        self.assertEqual(len({mark for its in marks for mark in its}), sum(map(len, marks)), said)
         return [MARK.sub("", it).strip() for it in said]
+
+    def statuses(self, pull, head=None):
+        """The statuses of the host's own on a head, from the first to the last: each with its state and its words."""
+        sha = head or pull.head_sha
+        return [(it.state, it.description) for it in self.project.statuses if (it.sha, it.context) == (sha, "gate")]
+
+    def is_at_last(self, pull, state, words):
+        """How a change stands at its head, as the host says there. It says nothing twice."""
+        self.until(f"{pull.number} is {state}: {words}", lambda: self.statuses(pull)[-1:] == [(state, words)], pull)
+        self.assertEqual(len(set(self.statuses(pull))), len(self.statuses(pull)), self.statuses(pull))
 
     def nobody_is_told_twice(self, *pulls):
         for pull in pulls:

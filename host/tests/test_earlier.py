@@ -22,6 +22,7 @@ class EarlierTests(unittest.TestCase):
             [*LANDING, (Ticked(60), with_orders(stage(2, "trying", heads=((8, C),)))), (Merged("tick-9.0", C),)],
             [*LANDED, (Queued(8, 3),), said_by(2, "rosa", "bors ping", DONE), (Labeled(9, "wip"), DONE), (HeadDated(7, C, 5),),
              (Reviewed(9, "rosa", C, True), DONE)], [*STAGED, (Reported("n", "ci", C, "lint", "error", ""), DONE)],
+            [*STAGED, said_by(2, "rosa", "bors r-", DONE)],
         ):
             known = Play(*steps).known
             # A delivery that has no answer yet, of each kind.

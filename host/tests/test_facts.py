@@ -4,8 +4,8 @@ import unittest
 from playing import A, B, C
 from gate_host.core.facts import (
     Closed, Conflicted, Delayed, Ended, fact_in, Faulted, HeadDated, kind_of, KINDS, Labeled, MainSeen, Merged, Moved, MoverFound,
-    NotMoved, Opened, Pushed, PushesForgotten, PushTold, Queued, Reported, Reviewed, RoleGiven, Said, Staged, Ticked, Unlabeled, Upgraded,
-    written,
+    NotMoved, NotTaken, Opened, Pushed, PushesForgotten, PushTold, Queued, Reported, Reviewed, RoleGiven, Said, Staged, Ticked, Unlabeled,
+    Upgraded, written,
 )
 from gate_host.core.orders import Unread
 
@@ -14,7 +14,8 @@ class FactTests(unittest.TestCase):
     def test_each_kind_is_read_as_it_was_written(self):
         facts = [
             RoleGiven("rosa", "member"), MainSeen(A, "x\u2028\n"), MainSeen(A, None), Opened(7, "ines", B), Pushed(7, C), Closed(7),
-            Said("n", 7, "rosa", "bors r+", "", False), PushTold("n", "ines", ((7, B),), ((A, C),)), MoverFound(3, "", (A, B)),
+            Said("n", 7, "rosa", "bors r+", "", False), NotTaken("n", 7, "rosa", "bors r+", "why"),
+            PushTold("n", "ines", ((7, B),), ((A, C),)), MoverFound(3, "", (A, B)),
             PushesForgotten(9), Merged("tick-1.0", C), Conflicted("tick-1.0", 7, "why"), Delayed("tick-1.0", "why"), Staged("tick-1.0"),
             Ended(1, "build", "error", "said", "1-0-build"), Faulted(1, "build", "said"), Moved("status-1.0", "main"),
             NotMoved("status-1.0"),

@@ -1,5 +1,4 @@
 """Tests of the client of GitHub's API, over answers that are values, and of secrets in files."""
-import os
 import sys
 import tempfile
 import unittest
@@ -77,6 +76,27 @@ class ApiTests(unittest.TestCase):
         self.assertEqual([api.get("/x") for _ in range(4)], [{"a": 1}, {"a": 1}, {"a": 2}, {"a": 3}])
         self.assertEqual([it[2] for it in self.asked], [None, '"t"', '"t"', None])
 
+    def test_what_is_asked_for_no_more_is_not_kept(self):
+        tagged = [httpx.Response(200, json=[number], headers={"etag": f'"{number}"'}) for number in range(40)]
+        api = self.api(*tagged[:20], httpx.Response(304), *tagged[20:])
+        for number in range(20):
+            api.get("/x", since=number)
+        self.time += 500
+        self.assertEqual(api.get("/x", since=7), [7])
+        self.time += 200
+        for number in range(20, 40):
+            api.get("/x", since=number)
+        self.assertEqual([it.body for it in api.kept.values()], [[7], *([number] for number in range(20, 40))])
+
+    def test_a_full_page_is_read_anew_as_a_next_one_may_have_come(self):
+        full, link = list(range(100)), {"link": f'<{PLACE}/x?page=2>; rel="next"'}
+        api = self.api(
+            httpx.Response(200, json=full, headers={"etag": '"t"'}),
+            httpx.Response(200, json=full, headers={"etag": '"t"', **link}),
+            httpx.Response(200, json=[100], headers={"etag": '"u"'}), httpx.Response(304), httpx.Response(304))
+        self.assertEqual([list(api.all("/x")) for _ in range(3)], [full, [*full, 100], [*full, 100]])
+        self.assertEqual([it[2] for it in self.asked], [None, None, None, '"t"', '"u"'])
+
     def test_nothing_is_asked_during_a_pause(self):
         from gate_host.github.api import Later
         api = self.api(httpx.Response(403, json={}, headers={"retry-after": "30"}), httpx.Response(200, json={}))
@@ -86,6 +106,25 @@ class ApiTests(unittest.TestCase):
                 api.get("/x")
         self.time = 1030.0
         self.assertEqual((api.get("/x"), len(self.asked)), ({}, 2))
+
+    def test_all_messages_of_a_refusal_are_told_and_nothing_else(self):
+        from gate_host.github.api import words_of
+        for body, due in (
+            ({"message": "No"}, "No"), ({"message": "No", "errors": [{"message": "too quickly"}, {"code": "x"}, "y"]}, "No; too quickly"),
+            ({"message": 7}, "Unprocessable Entity"), (["x"], "Unprocessable Entity"), ({"message": "x" * 400}, "x" * 300),
+        ):
+            self.assertEqual(words_of(httpx.Response(422, json=body)), due)
+
+    def test_a_limit_that_only_words_tell_is_one(self):
+        from gate_host.github.api import Later, Refused
+        for said, kind in (
+            ("You have exceeded a secondary rate limit. Please wait a few minutes before you try again.", Later),
+            ("You have triggered an abuse detection mechanism.", Later), ("Resource not accessible by integration", Refused),
+        ):
+            api = self.api(httpx.Response(403, json={"message": said}))
+            with self.assertRaises(Exception) as caught:
+                api.get("/x")
+            self.assertEqual((type(caught.exception), api.not_before), (kind, 1060.0 if kind is Later else 0.0))
 
     def test_whether_something_may_have_acted(self):
         from gate_host.github.api import Later, Refused, Unanswered
@@ -120,6 +159,25 @@ class ApiTests(unittest.TestCase):
                 api.get("/x")
         self.assertEqual([it[3][-1] for it in self.asked], ["0", "1", "1", "2"])
 
+    def test_what_lacks_a_right_is_asked_for_with_new_credentials_the_next_time(self):
+        from gate_host.github.api import Refused
+        api = self.api(httpx.Response(403, json={"message": "No"}), httpx.Response(404, json={}), httpx.Response(200, json={}))
+        for status in (403, 404):
+            with self.assertRaises(Refused) as refused:
+                api.get("/x")
+            self.assertEqual(refused.exception.status, status)
+        self.assertEqual((api.get("/x"), [it[3][-1] for it in self.asked]), ({}, ["0", "1", "1"]))
+
+
+def new_key():
+    from cryptography.hazmat.primitives.asymmetric import rsa
+    return rsa.generate_private_key(public_exponent=65537, key_size=2048)
+
+
+def written(key):
+    from cryptography.hazmat.primitives.serialization import Encoding, NoEncryption, PrivateFormat
+    return key.private_bytes(Encoding.PEM, PrivateFormat.PKCS8, NoEncryption())
+
 
 @unittest.skipIf(jwt is None, "PyJWT isn't installed")
 class CredentialTests(unittest.TestCase):
@@ -128,8 +186,8 @@ class CredentialTests(unittest.TestCase):
         self.addCleanup(room.cleanup)
         self.room = Path(room.name)
 
-    def file(self, content, mode=0o600):
-        path = self.room / "secret"
+    def file(self, content, mode=0o600, name="secret"):
+        path = self.room / name
         path.unlink(missing_ok=True)
         path.write_bytes(content)
         path.chmod(mode)
@@ -155,12 +213,22 @@ class CredentialTests(unittest.TestCase):
         token.refused()
         self.assertEqual((before, token.header()), ("Bearer one", "Bearer two"))
 
+    def test_a_token_is_one_word_and_no_fault_tells_it(self):
+        from gate_host.faults import Unable
+        from gate_host.github.credentials import TokenInFile
+        token = TokenInFile(self.file(b"one"))
+        for content in (b"two\nthree\n", b"two three", b"two\0", b"two\rthree"):
+            path = self.file(content)
+            for read, kind in ((lambda: TokenInFile(path), Trouble), (token.refused, Unable)):
+                with self.assertRaisesRegex(kind, "one word has to stand there") as caught:
+                    read()
+                self.assertNotIn("two", str(caught.exception))
+        self.assertEqual(token.header(), "Bearer one")
+
     def test_an_app_says_who_it_is_and_gets_a_token_for_an_hour(self):
-        from cryptography.hazmat.primitives.asymmetric import rsa
-        from cryptography.hazmat.primitives.serialization import Encoding, NoEncryption, PrivateFormat
         from gate_host.github.credentials import AppWithKey
-        key = rsa.generate_private_key(public_exponent=65537, key_size=2048)
-        path = self.file(key.private_bytes(Encoding.PEM, PrivateFormat.PKCS8, NoEncryption()))
+        key = new_key()
+        path = self.file(written(key))
         now, words = [1_700_000_000.0], []
 
         def token_of(word):
@@ -175,11 +243,60 @@ class CredentialTests(unittest.TestCase):
         found.append(app.header())
         self.assertEqual(found, ["Bearer token-1"] * 3 + ["Bearer token-2", "Bearer token-3"])
         self.assertEqual(words[0], {"iat": 1_700_000_000 - 60, "exp": 1_700_000_000 + 540, "iss": "12"})
-        self.file(b"no key")
-        app.refused()
-        with self.assertRaises(Trouble):
-            app.header()
-        os.chmod(path, 0o644)
+
+    def test_an_app_that_gets_no_token_asks_by_and_by(self):
+        from gate_host.faults import Unable
+        from gate_host.github.credentials import AppWithKey
+        now, asked = [1000.0], []
+
+        def token_of(word):
+            asked.append(now[0])
+            if len(asked) < 4:
+                raise Unable("GitHub answers 401")
+            return "token", now[0] + 3600
+        app = AppWithKey("12", self.file(written(new_key())), token_of, lambda: now[0])
+        while len(asked) < 4:
+            try:
+                app.header()
+            except Unable as fault:
+                self.assertEqual(str(fault), "GitHub answers 401")
+            now[0] += 0.5
+        self.assertEqual((asked, app.header()), ([1000.0, 1001.0, 1003.0, 1007.0], "Bearer token"))
+
+    def test_what_is_no_private_key_of_rsa_can_not_sign(self):
+        from cryptography.hazmat.primitives.asymmetric import ec
+        from cryptography.hazmat.primitives.serialization import BestAvailableEncryption, Encoding, PrivateFormat, PublicFormat
+        from gate_host.github.credentials import signed_by
+        key = new_key()
+        for content in (
+            key.public_key().public_bytes(Encoding.PEM, PublicFormat.SubjectPublicKeyInfo),
+            written(ec.generate_private_key(ec.SECP256R1())),
+            key.private_bytes(Encoding.PEM, PrivateFormat.PKCS8, BestAvailableEncryption(b"x")), b"no key",
+        ):
+            with self.assertRaisesRegex(Trouble, "has no such key"):
+                signed_by("12", content.decode(), 0)
+
+    def test_a_secret_that_can_not_be_read_ends_a_start_and_no_host_at_work(self):
+        from gate_host.faults import Unable
+        from gate_host.github.credentials import AppWithKey, TokenInFile
+        key = written(new_key())
+        path = self.file(key)
+        app = AppWithKey("12", path, lambda word: ("token", 0.0), lambda: 0.0)
+        token = TokenInFile(self.file(b"one", name="token"))
+        bad = self.file(b"no key", name="bad")
+        for make in (lambda: AppWithKey("12", bad, lambda word: ("", 0.0)), lambda: TokenInFile(self.room / "none")):
+            with self.assertRaises(Trouble):
+                make()
+        for content, mode in ((b"no key", 0o600), (key, 0o644)):
+            self.file(content, mode)
+            with self.assertRaises(Unable):
+                app.header()
+        self.file(key)
+        self.assertEqual(app.header(), "Bearer token")
+        self.file(b"two", 0o644, name="token")
+        with self.assertRaises(Unable):
+            token.refused()
+        self.assertEqual(token.header(), "Bearer one")
 
 
 if __name__ == "__main__":

@@ -30,6 +30,11 @@ class HostTests(WithHost):
         self.told(bad, "fails the check build")
         self.until("they are closed as merged", lambda: good.merged and forked.merged)
         self.assertEqual(bad.state, "open")
+        for pull in (good, forked):
+            self.until("its head tells that it landed", lambda it=pull: self.statuses(it)[-1:] and self.statuses(it)[-1][0] == "success")
+            self.assertRegex(self.statuses(pull)[-1][1], r"\Alanded as [0-9a-f]{7}, with batch [0-9]+\Z")
+            self.assertEqual({state for state, _ in self.statuses(pull)[:-1]}, {"pending"})
+        self.is_at_last(bad, "failure", "not landed: it fails the check build")
 
 
 if __name__ == "__main__":

@@ -44,6 +44,25 @@ class HeadTests(WithHost):
         self.approve(pushed, missed)
         self.landed(pushed, missed)
 
+    def test_a_comment_on_a_head_that_no_look_has_seen(self):
+        pull = self.people.propose(self.project, "otto", "back", {"back": "bad for all\n"})
+        first = pull.head_sha
+        self.start()
+        self.see(pull)
+        self.polls(2)
+        self.kill()
+        self.people.push_files(self.project, "otto", "back", {"back": "good\n"})
+        self.later(pull)
+        self.people.comment(pull, "ines", "bors r+")
+        self.until("some seconds have gone by", lambda: self.hub.world.clock.now() > pull.updated_at + 6)
+        self.people.push(self.project, "otto", "back", first)
+        self.start()
+        self.told(pull, "the change is at " + first)
+        self.assertEqual([it for it in self.comments(pull) if "approved" in it], [])
+        self.later(pull)
+        self.people.comment(pull, "ines", "bors r+")
+        self.landed(pull)
+
     def polls(self, times):
         """Waits until comments were read so many times."""
         due = len(self.switches.asked("issues/list-comments-for-repo")) + times
@@ -70,6 +89,15 @@ class ConditionTests(WithHost):
         self.people.comment(pull, "ines", "bors r+")
         self.until(f"{pull.number} is told {why}: {self.comments(pull)}", lambda: any(why in it for it in self.comments(pull)[before:]))
 
+    def test_a_review_counts_for_the_command_behind_it_without_a_webhook(self):
+        pull = self.people.propose(self.project, "otto", "x", {"x": "1\n"})
+        self.start()
+        self.see(pull)
+        self.people.status(self.project, "ines", pull.head_sha, "format", "success")
+        self.people.review(pull, "vera", "APPROVED")
+        self.people.comment(pull, "ines", "bors r+")
+        self.landed(pull)
+
     def test_what_keeps_a_change_from_landing(self):
         self.people.push_files(self.project, "root", "next", {"next": "1\n"})
         pull = self.people.propose(self.project, "otto", "x", {"x": "1\n"})
@@ -88,16 +116,17 @@ class ConditionTests(WithHost):
         self.people.review(pull, "vera", "APPROVED")
         self.people.make_draft(pull, "otto")
         self.until("a draft is no change", lambda: self.is_closed(pull))
-        self.refused(pull, "denied")
+        self.refused(pull, "it is a draft")
         self.people.ready(pull, "otto")
         self.until("it is a change again", lambda: not self.is_closed(pull))
         self.people.retarget(pull, "otto", "next")
         self.until("one for another branch is no change", lambda: self.is_closed(pull))
         self.people.retarget(pull, "otto", "main")
         self.until("it is a change again", lambda: not self.is_closed(pull))
-        self.assertFalse(pull.merged)
+        self.assertEqual((pull.merged, self.statuses(pull)), (False, []))
         self.approve(pull)
         self.landed(pull)
+        self.is_at_last(pull, "success", f"landed as {self.main()[:7]}, with batch 1")
 
 
 if __name__ == "__main__":

@@ -18,7 +18,7 @@ PULL = {
 }
 COMMENT = {
     "id": 31, "issue_url": "https://api.github.com/repos/o/r/issues/7", "user": {"login": "Rosa", "type": "User"}, "created_at": TIME,
-    "body": "bors r+",
+    "updated_at": "2026-11-29T19:56:31Z", "body": "bors r+",
 }
 
 
@@ -45,9 +45,8 @@ class ReadingTests(unittest.TestCase):
                 pull_request_in({**PULL, **more})
 
     def test_comments(self):
-        self.assertEqual(comment_in(COMMENT), IssueComment(31, 7, "rosa", False, SECONDS, "bors r+"))
-        self.assertEqual(comment_in({**COMMENT, "user": None, "body": None}), IssueComment(31, 7, None, False, SECONDS, ""))
-        self.assertTrue(comment_in({**COMMENT, "user": {"login": "x[bot]", "type": "Bot"}}).is_bot)
+        self.assertEqual(comment_in(COMMENT), IssueComment(31, 7, "rosa", SECONDS, SECONDS + 1, "bors r+"))
+        self.assertEqual(comment_in({**COMMENT, "user": None, "body": None}), IssueComment(31, 7, None, SECONDS, SECONDS + 1, ""))
         for more in ({"issue_url": "https://api.github.com/repos/o/r/issues/0"}, {"issue_url": "x/issues/7/"}, {"id": None}):
             with self.assertRaises(Unread, msg=more):
                 comment_in({**COMMENT, **more})
@@ -66,7 +65,7 @@ class ReadingTests(unittest.TestCase):
 
     def test_statuses_and_check_runs_are_one_list(self):
         def of(statuses, *runs):
-            given = {"statuses": [{"context": name, "state": state, "target_url": None} for name, state in statuses]}
+            given = [{"context": name, "state": state, "target_url": None} for name, state in statuses]
             return {it.name: it.state for it in statuses_in(given, runs)}
         for conclusion, due in (
             ("success", "success"), ("neutral", "success"), ("skipped", "success"), ("failure", "failure"), ("timed_out", "error"),
@@ -81,7 +80,7 @@ class ReadingTests(unittest.TestCase):
         self.assertEqual(of([("x", "failure")], run("x")), {"x": "failure"})
         self.assertEqual(of([("x", "success")], run("x", "queued", None)), {"x": "pending"})
         self.assertEqual(of([("a\nb", "success"), ("x" * 256, "success")]), {})
-        self.assertEqual(statuses_in({"statuses": []}, [run("x")]), [Status("x", "success", "at")])
+        self.assertEqual(statuses_in([], [run("x")]), [Status("x", "success", "at")])
         for statuses in ([("x", "fine")], ):
             with self.assertRaises(Unread):
                 of(statuses)

@@ -3,10 +3,14 @@ import hmac
 import http.client
 import json
 import os
+import shutil
 import socket
+import ssl
+import subprocess
 import sys
 import tempfile
 import threading
+import time
 import unittest
 from hashlib import sha256
 from pathlib import Path
@@ -23,6 +27,9 @@ try:
 except ImportError:
     waitress = None
 
+SITE = Path(__file__).resolve().parent.parent.parent / "deploy/gate-webhooks.nginx"
+NGINX = shutil.which("nginx", path="/usr/sbin:/usr/bin")
+OPENSSL = shutil.which("openssl")
 SECRET = "correct horse"
 BODY = json.dumps({"action": "opened", "number": 7, "pull_request": {"number": 7}}).encode()
 
@@ -32,7 +39,9 @@ def signed(body, secret=SECRET):
 
 
 @unittest.skipIf(waitress is None, "waitress isn't installed")
-class SocketTests(unittest.TestCase):
+class WithReceiver(unittest.TestCase):
+    """A receiver at work."""
+
     def setUp(self):
         room = tempfile.TemporaryDirectory()
         self.addCleanup(room.cleanup)
@@ -51,6 +60,11 @@ class SocketTests(unittest.TestCase):
         # It ends with the tests.
         self.port = servers[0].effective_port
 
+    def left(self):
+        return sorted(it.read_bytes() for it in self.folder.iterdir())
+
+
+class SocketTests(WithReceiver):
     def post(self, body, headers, method="POST", place=PLACE):
         connection = http.client.HTTPConnection("127.0.0.1", self.port, timeout=20)
         self.addCleanup(connection.close)
@@ -60,9 +74,6 @@ class SocketTests(unittest.TestCase):
             # It was answered before all of it was sent.
             return 413
         return connection.getresponse().status
-
-    def left(self):
-        return sorted(it.read_bytes() for it in self.folder.iterdir())
 
     def test_what_is_signed_is_kept(self):
         self.assertEqual((self.post(BODY, signed(BODY)), self.left()), (202, [BODY]))
@@ -98,6 +109,64 @@ class SocketTests(unittest.TestCase):
         with mock.patch.object(os, "fsync", side_effect=OSError(28, "No space left on device")):
             self.assertEqual(self.post(BODY, signed(BODY)), 503)
         self.assertEqual(self.left(), [])
+
+
+@unittest.skipUnless(NGINX and OPENSSL, "nginx isn't installed")
+class ProxyTests(WithReceiver):
+    """The receiver behind nginx, with the file of deploy/."""
+
+    def setUp(self):
+        super().setUp()
+        room = tempfile.TemporaryDirectory()
+        self.addCleanup(room.cleanup)
+        self.room = Path(room.name)
+        self.room.chmod(0o755)
+        self.start()
+
+    def start(self):
+        names = [OPENSSL, "req", "-x509", "-newkey", "rsa:2048", "-nodes", "-subj", "/CN=localhost", "-days", "2"]
+        subprocess.run([*names, "-keyout", "key.pem", "-out", "cert.pem"], cwd=self.room, check=True, capture_output=True, timeout=60)
+        with socket.create_server(("127.0.0.1", 0)) as free:
+            self.tls = free.getsockname()[1]
+        site = SITE.read_text(encoding="utf-8")
+        for before, after in (
+            ("listen 443 ssl", f"listen 127.0.0.1:{self.tls} ssl"), ("127.0.0.1:8097", f"127.0.0.1:{self.port}"),
+            ("/etc/letsencrypt/live/gate.example.com/fullchain.pem", f"{self.room}/cert.pem"),
+            ("/etc/letsencrypt/live/gate.example.com/privkey.pem", f"{self.room}/key.pem"),
+        ):
+            self.assertEqual(site.count(before), 1, before)
+            site = site.replace(before, after)
+        temporary = "".join(f"{it}_temp_path {self.room}/{it};\n" for it in ("client_body", "proxy", "fastcgi", "uwsgi", "scgi"))
+        text = f"daemon off;\npid {self.room}/pid;\nerror_log stderr;\nevents {{}}\nhttp {{\naccess_log off;\n{temporary}{site}}}\n"
+        (self.room / "nginx.conf").write_text(text, encoding="utf-8")
+        nginx = subprocess.Popen([NGINX, "-e", "stderr", "-c", str(self.room / "nginx.conf")], stderr=subprocess.PIPE)
+        self.addCleanup(nginx.communicate)
+        self.addCleanup(nginx.terminate)
+
+    def post(self, body, headers, place=PLACE):
+        """The status that comes over TLS, once nginx is there."""
+        trusted = ssl.create_default_context(cafile=str(self.room / "cert.pem"))
+        trusted.check_hostname = False
+        late = time.monotonic() + 20
+        while True:
+            connection = http.client.HTTPSConnection("127.0.0.1", self.tls, timeout=20, context=trusted)
+            self.addCleanup(connection.close)
+            try:
+                connection.request("POST", place, body, headers)
+                return connection.getresponse().status
+            except ConnectionRefusedError:
+                if time.monotonic() > late:
+                    raise
+                time.sleep(0.05)
+
+    def test_what_comes_over_tls(self):
+        large = b" " * 1048577
+        for body, headers, place, due in (
+            (BODY, signed(BODY), PLACE, 202), (BODY, signed(BODY, "another"), PLACE, 401), (BODY, {}, PLACE, 401),
+            (BODY, signed(BODY), "/", 404), (BODY, signed(BODY), f"{PLACE}/", 404), (large, signed(large), PLACE, 413),
+        ):
+            self.assertEqual(self.post(body, headers, place), due, (headers, place))
+        self.assertEqual(self.left(), [BODY])
 
 
 class HintTests(unittest.TestCase):

@@ -131,6 +131,19 @@ class TokenTests(WithKeys):
         for given in ({"permissions": {"checks": "write"}}, {"permissions": {"secrets": "read"}}, {"repositories": ["other"]}):
             self.assertEqual(self.ask(path, method="POST", token=signed, given=given).status, 422)
 
+    def test_an_installation_that_is_suspended(self):
+        own, token = f"/app/installations/{self.app.installation}", self.hub.installation_token()
+        self.assertIsNone(self.look(own, token=self.signed())["suspended_at"])
+        self.app.suspended_at = self.hub.world.clock.now()
+        self.assertRegex(self.look(own, token=self.signed())["suspended_at"], "^20.*Z$")
+        self.refused(403, "This installation has been suspended", f"{own}/access_tokens", method="POST", token=self.signed())
+        self.refused(403, "This installation has been suspended", HERE, token=token)
+
+    def test_what_the_app_asks_for_and_was_not_given(self):
+        self.app.requested = {**self.app.permissions, "workflows": "write"}
+        self.assertEqual(self.look("/app", token=self.signed())["permissions"]["workflows"], "write")
+        self.assertNotIn("workflows", self.look(f"/app/installations/{self.app.installation}", token=self.signed())["permissions"])
+
     def test_what_the_app_alone_may(self):
         path = f"/app/installations/{self.app.installation}/access_tokens"
         for token in (self.token, self.token_of("root")):
@@ -304,6 +317,28 @@ class ReadTests(WithKeys):
         self.assertEqual(guard.required_pull_request_reviews.required_approving_review_count, 1)
         self.assertEqual((guard.enforce_admins, guard.required_status_checks.contexts), (True, ["build"]))
         self.assertEqual({it.name: it.protected for it in self.repository.get_branches()}, {"main": True, "topic": False})
+
+    def test_a_file(self):
+        text = 'status = ["build"]\n' * 9
+        self.people.push_files(self.project, "root", "main", {"bors.toml": text})
+        self.people.push_files(self.project, "ines", "topic", {"bors.toml": "other\n"})
+        found = self.repository.get_contents("bors.toml")
+        self.reads(found, "license", "text_matches")
+        self.assertEqual((found.decoded_content.decode(), found.type, found.size), (text, "file", len(text)))
+        self.assertEqual(self.repository.get_contents("bors.toml", ref="topic").decoded_content, b"other\n")
+        for path, ref in (("bors", "main"), ("bors.toml", "nowhere")):
+            with self.assertRaises(github.GithubException) as caught:
+                self.repository.get_contents(path, ref=ref)
+            self.assertEqual(caught.exception.status, 404)
+
+    def test_what_a_token_is_for(self):
+        self.hub_of["root"].get_user().login
+        self.assertEqual(self.hub_of["root"].oauth_scopes, ["repo", "workflow"])
+        self.hub.world.user("vera").scopes = None
+        client = self.client(self.token_of("vera"))
+        client.get_user().login
+        self.assertIsNone(client.oauth_scopes)
+        self.assertIsNone(self.hub_of["app"].oauth_scopes)
 
     def test_webhooks_and_limits(self):
         self.people.add_hook("http://127.0.0.1:1/hook", "secret", self.project, ["push"])

@@ -25,11 +25,15 @@ class SettingsTests(unittest.TestCase):
         found = github_in(f"{START}{APP}api = http://127.0.0.1:7/api/v3/\nweb = http://127.0.0.1:7\nwebhook_secret = /s\n")
         self.assertEqual((found.api, found.git), ("http://127.0.0.1:7/api/v3", "http://127.0.0.1:7/o/r.x.git"))
         self.assertEqual((found.app, found.installation, found.key), ("12", "34", Path("/k")))
+        found = github_in(f"{START}app = 12\nkey = /k\nweb = https://hub.test/\n")
+        self.assertEqual((found.api, found.git, found.installation), ("https://hub.test/api/v3", "https://hub.test/o/r.x.git", ""))
+        self.assertEqual([github_in(f"{START}token = /t\n{it}").status for it in ("", "status =\n", "status = q\n")], ["gate", "", "q"])
         self.assertEqual([github_in(f"{START}token = /t\n{it}").poll_seconds for it in ("", "poll_seconds = 0.5\n")], [20, 0.5])
 
     def test_what_is_refused(self):
         for text in (
-            START, f"{START}token = t\n", f"{START}{APP}token = /t\n", f"{START}app = 12\nkey = /k\n", f"{START}token = /t\ntokens = /t\n",
+            START, f"{START}token = t\n", f"{START}{APP}token = /t\n", f"{START}app = 12\n", f"{START}token = /t\ntokens = /t\n",
+            f"{START}token = /t\ninstallation = 34\n", f"{START}key = /k\n", f"{START}token = /t\nstatus = {'x' * 256}\n",
             f"{START}{APP.replace('34', 'x')}", "[github]\nrepository = o\ntoken = /t\n", "[github]\nrepository = o/r/x\ntoken = /t\n",
             "[github]\nrepository = ../r\ntoken = /t\n", f"{START}token = /t\napi = ftp://x\n", f"{START}token = /t\nweb = https://a b\n",
             f"{START}token = /t\n[github]\n", f"{START}token = /t\npoll_seconds = 0\n", f"{START}token = /t\npoll_seconds = soon\n",
@@ -41,7 +45,7 @@ class SettingsTests(unittest.TestCase):
 class FolderTests(unittest.TestCase):
     def run_host(self, *words):
         ran = subprocess.run([sys.executable, HOST, *map(str, words)], capture_output=True, encoding="utf-8", timeout=60, check=False)
-        return ran.returncode, ran.stderr
+        return ran.returncode, ran.stdout + ran.stderr
 
     def test_a_folder_is_made_once(self):
         with tempfile.TemporaryDirectory() as room:
@@ -49,13 +53,22 @@ class FolderTests(unittest.TestCase):
             status, said = self.run_host("init", folder, "--github", "o/r", "--reviewer", "rosa")
             self.assertEqual(status, 0, said)
             self.assertEqual(github_in((folder / "gate/settings").read_text(encoding="utf-8")).repository, "o/r")
+            by_app = Path(room) / "app"
+            self.run_host("init", by_app, "--github", "o/r", "--app", "12", "--web", "https://hub.test")
+            found = github_in((by_app / "gate/settings").read_text(encoding="utf-8"))
+            self.assertEqual((found.app, found.key, found.token), ("12", by_app / "gate/records/app.pem", None))
+            self.assertEqual((found.api, found.status), ("https://hub.test/api/v3", "gate"))
             self.assertIn("rosa reviewer", (folder / "gate/roles").read_text(encoding="utf-8"))
             has_waitress = importlib.util.find_spec("waitress") is not None
             for words, why in (
                 (("init", folder, "--github", "o/r"), "is set up already"),
                 (("init", Path(room) / "x", "--github", "o"), "OWNER/REPOSITORY"),
+                (("init", Path(room) / "x", "--github", "o/r", "--app", "gate"), "--app takes the number of the app"),
+                (("init", Path(room) / "x", "--github", "o/r", "--web", "hub.test"), "'hub.test' is no address"),
                 (("receive", folder), "webhook-secret can't be read" if has_waitress else "this Python has no waitress"),
-                (("doctor", folder), "doesn't look at GitHub yet"),
+                (("say", "1", "bors r+", "--repository", folder), "what is said of o/r is said on GitHub"),
+                (("status", "a" * 40, "build", "success", "--repository", folder), "what is said of o/r is said on GitHub"),
+                (("doctor", folder), f"WRONG: {folder}/gate/records/token can't be read"),
             ):
                 status, said = self.run_host(*words)
                 self.assertEqual((status, why in said), (1, True), (words, said))

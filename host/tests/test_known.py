@@ -9,7 +9,7 @@ from gate_host.core.commands import Command, Kind
 from gate_host.core.duties import open_duties
 from gate_host.core.facts import (
     Closed, Conflicted, Delayed, Ended, Faulted, HeadDated, kind_of, KINDS, Labeled, MainSeen, Merged, Moved, MoverFound, NotMoved,
-    Opened, Pushed, PushesForgotten, PushTold, Queued, Reported, Reviewed, RoleGiven, Said, Staged, Ticked, Unlabeled,
+    NotTaken, Opened, Pushed, PushesForgotten, PushTold, Queued, Reported, Reviewed, RoleGiven, Said, Staged, Ticked, Unlabeled,
 )
 from gate_host.core.known import MOST_CLAIMS, MOST_TOLD_MOVES, Change, Landing, Member, People, Test
 from gate_host.core.orders import Unread, answer_in
@@ -192,6 +192,7 @@ class KnownTests(unittest.TestCase):
             (LANDING, Moved("status-8.0", "main"), ["status-8.0"]), (BEFORE, Pushed(7, C), ["pushed-5"]),
             (BEFORE, Closed(7), ["closed-5"]), (BEFORE, RoleGiven("otto", "member"), ["role-5"]),
             (STAGED, Faulted(1, "build", "why"), []), (ORDERED, Delayed("tick-5.0", "why"), []),
+            (BEFORE, NotTaken("n4", 9, "rosa", "bors r+", "why"), []),
             (BEFORE, PushTold("n2", "ines", ((7, C),), ((A, B),)), []), (BEFORE, MoverFound(9, "ines"), []),
             (BEFORE, PushesForgotten(5), []), (BEFORE, Queued(7, 1), []), (BEFORE, HeadDated(7, B, 5), []),
             (BEFORE, Labeled(7, "wip"), ["labeled-5"]),

@@ -285,6 +285,7 @@ class Owner:
             delete_branches=False,
         )
         self.roles, self.main, self.first, self.reporters, self.has_reviews = {"rosa": "reviewer"}, "main", "", {}, False
+        self.own_status = "queue"
 
     def read(self):
         return [("settings", ""), ("roles", ""), ("reporters", "")]
@@ -488,6 +489,7 @@ class CheckTests(InWorld):
             ("gone", None, "with this there would be no bors.toml"),
             ("reviews", f"{SETTINGS}\nrequired_approvals = 2",
              "its bors.toml requires reviews (2 of a change), which nobody can give here"),
+            ("own", f'{SETTINGS}\npr_status = ["queue"]', "the status queue of heads, which the host itself sets"),
             ("heads", f'{SETTINGS}\npr_status = ["build"]', "the status build of heads of changes, for which there is no reporter"),
         ):
             world = self.world(name)
@@ -621,6 +623,23 @@ class CheckTests(InWorld):
         states = [(it["name"], it["state"]) for it in world.said if it["event"] == "status" and it["commit"] == test.commit]
         self.assertIn(("lint", "success"), states)
         host.ports.journal.close()
+
+
+class ReviewTests(InWorld):
+    def test_a_review_counts_with_the_role_that_its_look_has_found(self):
+        world = self.world("review")
+        host = host_in(world)
+        look = host.ports.source.look
+
+        def with_review():
+            host.ports.owner.roles["vera"] = "reviewer"
+            found = look()
+            return ports.Look(found.main, found.heads, details={it: ports.Detail("ines", (), {"vera": True}, 5) for it in found.heads})
+        with mock.patch.object(host.ports.source, "look", with_review):
+            host.look()
+        host.ports.journal.close()
+        self.assertEqual([(it["change"], it["person"]) for it in world.said if it["event"] == "review"], [
+            (change, "vera") for change in (1, 2, 3, 4)])
 
 
 class LandingTests(InWorld):

@@ -22,6 +22,16 @@ class PackageTests(unittest.TestCase):
         self.addCleanup(sys.path.remove, str(HOST))
         self.assertTrue(callable(getattr(__import__(module, fromlist=[name]), name)))
 
+    def test_the_description_names_what_a_host_on_github_needs(self):
+        """Each library that the start looks for, by the name that it is installed by."""
+        text = (HOST / "pyproject.toml").read_text(encoding="utf-8")
+        named = re.search(r"^github = \[(.*)\]$", text, re.MULTILINE)[1]
+        sys.path.insert(0, str(HOST))
+        self.addCleanup(sys.path.remove, str(HOST))
+        from gate_host.github.starting import NEEDED
+        needed = {"PyJWT" if name == "jwt" else name for name in NEEDED}
+        self.assertEqual(set(re.findall(r'"([A-Za-z]+) >= [0-9.]+"', named)), needed)
+
     def test_it_runs_where_it_was_installed(self):
         """Without the file `gate-host` beside it the hook runs the package by its path."""
         with tempfile.TemporaryDirectory() as room:

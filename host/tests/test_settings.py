@@ -42,7 +42,8 @@ class SettingsTests(unittest.TestCase):
                 settings_in(text)
 
     def test_roles(self):
-        self.assertEqual(roles_in("# all\n@Rosa reviewer # since May\n\nmilo member\n"), {"rosa": "reviewer", "milo": "member"})
+        text = "# all\n@Rosa reviewer # since May\n\nmilo member\notto nobody\n"
+        self.assertEqual(roles_in(text), {"rosa": "reviewer", "milo": "member", "otto": "nobody"})
         for text in ("rosa", "rosa boss", "rosa reviewer now", "ro/sa member"):
             with self.assertRaises(Trouble, msg=text):
                 roles_in(text)

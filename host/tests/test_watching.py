@@ -5,7 +5,8 @@ from dataclasses import astuple, replace
 from playing import A, B, C, D, E, DONE, Play, BEFORE, STAGED, LANDED
 from gate_host.core import watching
 from gate_host.core.facts import (
-    Closed, Labeled, MainSeen, MoverFound, Pushed, PushesForgotten, PushTold, Queued, Reported, Reviewed, RoleGiven, Unlabeled,
+    Closed, HeadDated, Labeled, MainSeen, MoverFound, Opened, Pushed, PushesForgotten, PushTold, Queued, Reported, Reviewed, RoleGiven,
+    Unlabeled,
 )
 from gate_host.core.known import Change
 from gate_host.core.notes import Report
@@ -37,6 +38,21 @@ class WatchTests(unittest.TestCase):
             known = Play(*steps).known
             found = [watching.news_of_head(known, *it) or ("new" if watching.is_new(known, it[0]) else None) for it in heads.items()]
             self.assertEqual([it for it in found if it] + watching.gone(known, heads), due, heads)
+
+    def test_which_head_the_writer_of_a_comment_has_seen(self):
+        dated = [*BEFORE, (HeadDated(7, B, 50),)]
+        again = [*dated, (Closed(7), DONE), (Opened(7, "ines", B), DONE)]
+        for steps, written, due in (
+            (BEFORE, 60, ""), (dated, 51, B), (dated, 50, ""), ([*dated, (Pushed(7, C), DONE)], 60, ""),
+            # While it was closed, it may have been at other heads.
+            (again, 60, ""), ([*again, (HeadDated(7, B, 70),)], 60, ""), ([*again, (HeadDated(7, B, 70),)], 71, B),
+        ):
+            self.assertEqual(watching.seen_by(Play(*steps).known, 7, written), due, (len(steps), written))
+
+    def test_a_head_that_was_moved_by_force_is_dated_anew(self):
+        known = Play(*BEFORE, (HeadDated(7, B, 50),)).known
+        for head, forced, due in ((B, 0, False), (B, 49, False), (B, 55, False), (B, 56, True), (C, 0, True)):
+            self.assertEqual(watching.has_to_be_dated(known, 7, head, forced), due, (head, forced))
 
     def test_a_push_of_many_is_opened_by_and_by(self):
         watch, known, heads = Watch(3), Play(*BEFORE).known, {7: C, **{number: A for number in range(100, 220)}}

@@ -57,12 +57,17 @@ class WordTests(unittest.TestCase):
         ])
         self.assertEqual(words.merge_message(Batch("tick-1.0", ONE, 5), {}), "Batch 1: change 7\n\nBatch: 1\n")
         self.assertEqual(words.merge_message(batch, {7: "x" * 999}).split("\n")[2], f"change 7: {'x' * 200}")
+        for title, due in (
+            ("[skip ci] x", "(skip ci) x"), ("x [CI Skip][no ci]", "x (CI Skip)(no ci)"), ("[[actions skip]]", "[(actions skip)]"),
+            ("a[0] [skipper] [x", "a[0] [skipper] [x"),
+        ):
+            self.assertEqual(words.merge_message(batch, {7: title}).split("\n")[2], f"change 7: {due}")
 
     def test_notices(self):
         for notice, due in (
             (Notice(7, "TryPassed"), "The try has passed: all required checks succeed (TryPassed)."),
             (Notice(7, "TryFailed"), "The try has failed (TryFailed)."),
-            (Notice(7, "Closed"), "The approval or the try has ended (Closed): its branch is gone."),
+            (Notice(7, "Closed"), "The approval or the try has ended (Closed): it is no open change any more."),
             (Notice(7, "Danced"), "The approval or the try has ended (Danced): it says no more."),
             (Notice(7, "Failed", "lint"), "The approval or the try has ended (Failed): it fails the check lint. Mend it, push, and have it "
              "approved again; or have it retried by bors retry."),

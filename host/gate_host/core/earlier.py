@@ -35,7 +35,8 @@ def upgraded(known: "Known") -> Upgraded:
         "people": [[change, it.author, it.approvers, it.said_by, it.last and list_of(it.last)] for change, it in known.people.items()],
         "members": [[branch, [astuple(it) for it in batch.members]] for branch, batch in known.batches.items()],
         "landings": [[it.batch, it.base, it.commit, [astuple(member) for member in it.members]] for it in known.landings.values()],
-        "landed_by": list(known.landed_by.items()),
+        "landed_by": list(known.landed_by.items()), "approved": sorted(known.approved),
+        "ends": [[change, *astuple(it)] for change, it in known.ends.items()],
     }
     return Upgraded(json.dumps(table, ensure_ascii=False))
 
@@ -75,7 +76,7 @@ def restore(known: "Known", fact: Upgraded) -> None:
 
 def restore_people(known: "Known", table: Mapping[str, Any]) -> None:
     """Takes in what a fact has that was written by a later host alone."""
-    from .known import Landing, Member, People
+    from .known import End, Landing, Member, People
 
     def members_in(found: List[List[Any]]) -> Tuple[Member, ...]:
         return tuple(Member(change, head, author, tuple(approvers), by) for change, head, author, approvers, by in found)
@@ -96,6 +97,8 @@ def restore_people(known: "Known", table: Mapping[str, Any]) -> None:
     for batch, base, commit, members in table.get("landings", []):
         known.landings[commit] = Landing(batch, base, commit, members_in(members))
     known.landed_by = dict(table.get("landed_by", []))
+    known.approved = set(table.get("approved", []))
+    known.ends = {change: End(*it) for change, *it in table.get("ends", [])}
 
 
 def orders_to_do(found: Json) -> List[Union[Stage, Land]]:

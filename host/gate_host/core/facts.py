@@ -98,6 +98,17 @@ class Said:
 
 
 @dataclass(frozen=True)
+class NotTaken:
+    """A person commented on a change in a way that can't be handed in, and why."""
+
+    note: str
+    change: int
+    person: str
+    text: str
+    why: str
+
+
+@dataclass(frozen=True)
 class PushTold:
     """A person told in a note of a push: of heads of changes, and of moves of the main branch from one commit to another."""
 
@@ -226,8 +237,8 @@ class Upgraded:
 
 
 Fact = Union[
-    RoleGiven, MainSeen, Opened, Pushed, Closed, HeadDated, Labeled, Unlabeled, Reviewed, Said, PushTold, MoverFound, PushesForgotten,
-    Merged, Conflicted, Delayed, Staged, Ended, Faulted, Reported, Queued, Moved, NotMoved, Ticked, Upgraded,
+    RoleGiven, MainSeen, Opened, Pushed, Closed, HeadDated, Labeled, Unlabeled, Reviewed, Said, NotTaken, PushTold, MoverFound,
+    PushesForgotten, Merged, Conflicted, Delayed, Staged, Ended, Faulted, Reported, Queued, Moved, NotMoved, Ticked, Upgraded,
 ]
 KINDS: Dict[str, Type[Fact]] = {kind.__name__: kind for kind in get_args(Fact)}
 

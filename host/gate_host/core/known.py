@@ -11,8 +11,8 @@ from .commands import REPEATED, Command, Kind, commands_in
 from .deliveries import Delivery, delivered
 from .earlier import restore
 from .facts import (
-    Closed, Conflicted, Delayed, Ended, Fact, Faulted, HeadDated, Labeled, MainSeen, Merged, Moved, MoverFound, NotMoved, Opened, Pushed,
-    PushesForgotten, PushTold, Queued, Reported, Reviewed, RoleGiven, Said, Staged, Ticked, Unlabeled,
+    Closed, Conflicted, Delayed, Ended, Fact, Faulted, HeadDated, Labeled, MainSeen, Merged, Moved, MoverFound, NotMoved, NotTaken, Opened,
+    Pushed, PushesForgotten, PushTold, Queued, Reported, Reviewed, RoleGiven, Said, Staged, Ticked, Unlabeled,
 )
 from .notes import objection_to
 from .orders import Answer, Denied, Land, Notice, Order, Stage, Unread, is_done, orders_of
@@ -76,6 +76,16 @@ class Batch:
 
 
 @dataclass(frozen=True)
+class End:
+    """Why a change that was approved isn't on its way any more: by the reason of a notice, with the name of a status if that names one, or
+    since the approval was taken back. And the merge of its last batch, if there is one."""
+
+    why: str
+    name: str = ""
+    commit: str = ""
+
+
+@dataclass(frozen=True)
 class Landing:
     """A batch that has landed: from which commit the main branch moved to which, and the changes."""
 
@@ -135,6 +145,9 @@ class Known:
     reported: Dict[str, Dict[str, str]] = field(default_factory=dict)
     # In which batch each change was seen to wait last.
     queued: Dict[int, int] = field(default_factory=dict)
+    # The changes that are approved, and why others aren't any more at the heads that they have.
+    approved: Set[int] = field(default_factory=set)
+    ends: Dict[int, End] = field(default_factory=dict)
     # What has landed, by its commits, in their order; and by which commit each change has.
     landings: Dict[str, Landing] = field(default_factory=dict)
     landed_by: Dict[int, str] = field(default_factory=dict)
@@ -216,7 +229,7 @@ class Known:
             return self.take_change(fact)
         if isinstance(fact, (Ended, Faulted)):
             return self.take_check(fact)
-        if isinstance(fact, (Said, Reported, Queued)):
+        if isinstance(fact, (Said, NotTaken, Reported, Queued)):
             return self.take_news(fact)
         if isinstance(fact, (Labeled, Unlabeled, Reviewed, HeadDated)):
             return self.take_opinion(fact)
@@ -232,13 +245,13 @@ class Known:
             restore(self, fact)
         return []
 
-    def take_news(self, fact: Union[Said, Reported, Queued]) -> List[Told]:
+    def take_news(self, fact: Union[Said, NotTaken, Reported, Queued]) -> List[Told]:
         if isinstance(fact, Reported):
             return self.take_report(fact)
         if isinstance(fact, Queued):
             self.queued[fact.change] = fact.batch
             return [Told(fact.change, words.queued(fact.batch))]
-        why = objection_to(self, fact)
+        why = fact.why if isinstance(fact, NotTaken) else objection_to(self, fact)
         objection = [Told(fact.change, f"Not taken: {why}")] if why else []
         return [Told(fact.change, words.quoted(fact.person, fact.text)), *objection]
 
@@ -268,8 +281,12 @@ class Known:
         self.people[fact.change] = replace(people, approvers=(), said_by="", author=author)
         # A head that moves ends all reviews, also if it comes back.
         self.reviews.pop(fact.change, None)
+        if not isinstance(fact, Closed) and before and before.head != fact.head:
+            self.ends.pop(fact.change, None)
         self.forget_reports(before.head if before else "", "" if isinstance(fact, Closed) else fact.head)
         if isinstance(fact, Closed):
+            # It may have had other heads before it is opened again.
+            self.dated.pop(fact.change, None)
             self.changes[fact.change] = Change("closed", before.head if before else "")
             return []
         if before and before.phase == "landed":
@@ -415,7 +432,22 @@ class Known:
                 again = people.last if command.kind is Kind.RETRY else None
                 text.append(words.acted(again or command, again is not None, self.head_of(change), people.author))
                 self.people[change] = after_command(people, command, delivery.person)
+                self.note_approval(change, (again or command).kind)
         return [Told(change, "\n".join(text))]
+
+    def note_approval(self, change: int, kind: Kind) -> None:
+        """Notes whether a change is approved after a command that has acted."""
+        if kind in (Kind.APPROVE, Kind.APPROVE_FOR):
+            self.approved.add(change)
+            self.ends.pop(change, None)
+        elif kind is Kind.WITHDRAW:
+            self.note_end_of_approval(change, End(words.WITHDRAWN))
+
+    def note_end_of_approval(self, change: int, end: End) -> None:
+        """Notes why a change isn't approved any more. A notice may be about a try alone."""
+        if change in self.approved:
+            self.approved.discard(change)
+            self.ends[change] = end
 
     def begin_test(self, stage: Stage) -> List[Told]:
         batch = self.batch_of(stage.batch)
@@ -433,6 +465,7 @@ class Known:
         for change, head in batch.stage.heads:
             self.changes[change] = Change("landed", head)
             self.landed_by[change] = land.commit
+            self.approved.discard(change)
         self.landings[land.commit] = Landing(land.batch, land.base, land.commit, batch.members)
         approvals = {member.change: words.approval(member) for member in batch.members}
         text = words.landed(batch.stage, self.landed_on, land.commit)
@@ -441,6 +474,10 @@ class Known:
     def take_order(self, name: str, delivery: Delivery, order: Order) -> List[Told]:
         """Takes in an order. A batch on a branch replaces the one before it there, with its order and its test."""
         if isinstance(order, Notice):
+            if order.why not in words.TRIES:
+                batch = self.batches.get("staging")
+                commit = batch.commit if batch and order.change in batch.stage.changes else ""
+                self.note_end_of_approval(order.change, End(order.why, order.name, commit))
             return [Told(order.change, words.notice(order))]
         if isinstance(order, Land):
             if self.batch_of(order.batch) is None:

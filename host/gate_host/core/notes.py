@@ -31,8 +31,9 @@ class Comment:
     change: int
     text: str
     seen: Optional[str]
-    # When it was written, by the clock of a code host whose comments name no head.
+    # When it was written, by the clock of a code host whose comments name no head; and why it can't be taken, or nothing.
     written: Optional[int] = None
+    objection: str = ""
 
 
 @dataclass(frozen=True)

@@ -8,6 +8,8 @@ from .facts import Closed, Fact, Labeled, MoverFound, Pushed, PushesForgotten, Q
 from .known import Known, Move
 from .notes import Report
 
+# By so many seconds a code host may tell a push by force for later than the head to which it led.
+SECONDS_OF_FORCE = 5
 # So many changes are opened before there is other news, so that a push of many holds nobody up.
 MOST_CHANGES_AT_ONCE = 50
 
@@ -102,6 +104,13 @@ def news_of_reviews(known: Known, change: int, reviews: Mapping[str, bool]) -> L
     taken = {it for it in reviews if known.roles.get(it, "nobody") != "nobody" and it != people.author}
     new = [Reviewed(change, it, head, reviews[it]) for it in sorted(taken) if before.get(it, False) != reviews[it]]
     return new + [Reviewed(change, it, head, False) for it in sorted(before) if before[it] and it not in reviews]
+
+
+def has_to_be_dated(known: Known, change: int, head: str, forced: int) -> bool:
+    """Whether it has to be noted since when a change is at a head. If it was moved by force after that was noted, it was at another head
+    in between, which nobody here has seen. A comment may be about that one."""
+    dated, at = known.dated.get(change, ("", 0))
+    return dated != head or forced > at + SECONDS_OF_FORCE
 
 
 def seen_by(known: Known, change: int, written: int) -> str:

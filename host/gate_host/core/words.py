@@ -1,4 +1,5 @@
 """What people are told: the words for the bot's answers, its notices and batches."""
+import re
 from typing import TYPE_CHECKING, Mapping, Optional, Sequence
 
 from .commands import Command, Kind
@@ -10,6 +11,7 @@ if TYPE_CHECKING:
 # The first digits of a commit, by which people know it, and how much of a title they are shown.
 DIGITS = 7
 MOST_IN_TITLE = 200
+SKIPS = re.compile(r"\[([^\[\]]*\b(?:skip|no)\b[^\[\]]*)\]", re.IGNORECASE)
 # The text of bors.toml is read up to so many bytes.
 MOST_IN_SETTINGS = 10000
 NO_SETTINGS = f"there is no bors.toml of at most {MOST_IN_SETTINGS} bytes"
@@ -18,7 +20,7 @@ DENIALS = {
     "UnknownChange": "this change was never opened",
     "NotACommand": "this is no command",
     "NotPermitted": "that needs more rights than you have",
-    "NotOpen": "the change is closed or has landed",
+    "NotOpen": "the change isn't open, or has landed",
     "NothingToRetry": "there is nothing to repeat",
     "Landing": "the change is landing",
     "NoSettings": "the main branch has had no good bors.toml yet",
@@ -36,11 +38,12 @@ NOTICES = {
     "Failed": "it fails the check {name}. Mend it, push, and have it approved again; or have it retried by bors retry",
     "TimedOut": "no verdict of all required checks came in time. bors retry has it tested again",
     "Pushed": "it was pushed. What is there now has to be approved anew",
-    "Closed": "its branch is gone",
+    "Closed": "it is no open change any more",
     "Labeled": "it has a label that blocks it",
     "Reviews": "it has too few reviews",
     "Settings": "by the new settings it may not be approved",
 }
+WITHDRAWN = "Withdrawn"
 TRIES = {"TryPassed": "The try has passed: all required checks succeed", "TryFailed": "The try has failed"}
 ENDS = {"success": "succeeded", "failure": "failed", "error": "failed"}
 
@@ -50,6 +53,13 @@ def notice(order: Notice) -> str:
     if order.why in TRIES:
         return f"{TRIES[order.why]} ({order.why})."
     return f"The approval or the try has ended ({order.why}): {NOTICES.get(order.why, 'it says no more').format(name=order.name)}."
+
+
+def why_ended(why: str, name: str) -> str:
+    """Why an approval has ended, in a few words: the first sentence of the notice."""
+    if why == WITHDRAWN:
+        return "its approval was taken back"
+    return NOTICES.get(why, why).partition(". ")[0].format(name=name)
 
 
 def acted(command: Command, is_again: bool, head: str, author: str) -> str:
@@ -137,12 +147,18 @@ def merge_message(batch: "Batch", titles: Mapping[int, str]) -> str:
     stage = batch.stage
     lines = [f"Batch {stage.batch}: " + ", ".join(f"change {change}" for change in stage.changes), ""]
     for it in batch.members:
-        lines.append(f"change {it.change}: {plain(titles.get(it.change, ''))[:MOST_IN_TITLE]}".rstrip())
+        lines.append(f"change {it.change}: {without_marks(titles.get(it.change, ''))[:MOST_IN_TITLE]}".rstrip())
         by = [f"by {it.author}"] * bool(it.author) + [f"approved by {approval(it)}"] * bool(it.approvers)
         lines.append(f"  {', '.join([it.head, *by])}")
     people = dict.fromkeys(person for it in batch.members for person in approvals(it))
     trailers = [*(f"Approved-by: {person}" for person in people), f"Batch: {stage.batch}"]
     return "\n".join([*lines, *([""] if batch.members else []), *trailers]) + "\n"
+
+
+def without_marks(title: str) -> str:
+    """A title without the brackets by which CI would test nothing, as [skip ci]: a batch with that would wait for its checks until its time
+    is over."""
+    return SKIPS.sub(r"(\1)", plain(title))
 
 
 def without_reporter(names: Sequence[str]) -> str:

@@ -1,7 +1,8 @@
 """GitHub's API over HTTPS. Each request is one question, and nothing waits here: if GitHub wants to be left alone for a while, or doesn't
 answer, `Later` says so, and whoever asked goes on with other work."""
 import time
-from dataclasses import dataclass
+from dataclasses import dataclass, replace
+from itertools import islice
 from typing import Callable, Dict, Iterator, Mapping, Optional, Union
 
 import httpx
@@ -13,17 +14,23 @@ from .pauses import USUAL_PAUSE, pause_after, pause_after_fault
 
 ACCEPTED = "application/vnd.github+json"
 VERSION = "2022-11-28"
+USER_AGENT = "gate-host"
 SECONDS = 20.0
 # A list has at most so many pages. More than that nobody has open at a time.
 MOST_PAGES = 200
 PER_PAGE = 100
-# What was answered before is kept of so many questions, so that an answer which is the same costs nothing of the limit.
-MOST_KEPT = 2000
+# What was answered before is kept, so that an answer which is the same costs nothing of the limit: for so long after it was asked for last,
+# as places of lists alter and answers may be long.
+SECONDS_KEPT = 600.0
 Value = Union[str, int]
 
 
 class Later(Unable):
     """GitHub can't be asked for now."""
+
+
+class NotTaken(Later):
+    """GitHub doesn't take the credentials."""
 
 
 class Unanswered(Later):
@@ -45,6 +52,13 @@ class Kept:
     tag: str
     body: Json
     next: Optional[str]
+    # When it was asked for last.
+    at: float
+
+    @property
+    def may_go_on(self) -> bool:
+        """Whether this is a full page that is the last one. When a next one comes, this one stays as it is, and so may its tag."""
+        return isinstance(self.body, list) and len(self.body) >= PER_PAGE and self.next is None
 
 
 class Api:
@@ -59,6 +73,9 @@ class Api:
         self.client = client or httpx.Client(timeout=SECONDS, trust_env=False, follow_redirects=False)
         self.now = now
         self.not_before, self.faults = 0.0, 0
+        # The headers of the last answer, whatever its status, and when it came.
+        self.headers: Mapping[str, str] = {}
+        self.answered = 0.0
         self.kept: Dict[str, Kept] = {}
 
     def get(self, path: str, **query: Value) -> Json:
@@ -106,13 +123,20 @@ class Api:
         known = self.kept.get(place)
         response = self.sent("GET", place, {"If-None-Match": known.tag} if known else {})
         if response.status_code == 304 and known:
-            return known
-        found = Kept(response.headers.get("etag", ""), json_of(response), self.next_of(response))
-        self.kept.pop(place, None)
-        if found.tag:
-            self.kept = dict(list(self.kept.items())[-MOST_KEPT:]) if len(self.kept) > 2 * MOST_KEPT else self.kept
-            self.kept[place] = found
+            found = replace(known, at=self.now())
+        else:
+            found = Kept(response.headers.get("etag", ""), json_of(response), self.next_of(response), self.now())
+        self.keep(place, found)
         return found
+
+    def keep(self, place: str, found: Kept) -> None:
+        """Keeps an answer, behind those that were asked for before, and drops what is old."""
+        self.kept.pop(place, None)
+        if found.tag and not found.may_go_on:
+            self.kept[place] = found
+        for oldest in list(islice(self.kept, 2)):
+            if self.kept[oldest].at < self.now() - SECONDS_KEPT:
+                del self.kept[oldest]
 
     def next_of(self, response: httpx.Response) -> Optional[str]:
         """Where the next page of a list is. A place elsewhere than here gets no token."""
@@ -131,7 +155,10 @@ class Api:
         if response.status_code == 401:
             # That is no word on what was asked, and GitHub shuts out who goes on so.
             self.wait(USUAL_PAUSE, False)
-            raise Later(f"GitHub doesn't take the credentials: {words_of(response)}")
+            raise NotTaken(f"GitHub doesn't take the credentials: {words_of(response)}")
+        if response.status_code == 403:
+            # If the owner gives the right that is missing, new credentials have it, and those of before may not.
+            self.credentials.refused()
         if response.status_code >= 300 and response.status_code != 304:
             raise Refused(response.status_code, f"{words_of(response)} ({method} {httpx.URL(place).path})")
         return response
@@ -139,7 +166,7 @@ class Api:
     def tried(self, method: str, place: str, headers: Mapping[str, str], body: Optional[Mapping[str, Json]]) -> httpx.Response:
         if self.now() < self.not_before:
             raise Later(f"GitHub is asked again in {self.not_before - self.now():.0f} seconds")
-        given = {"Accept": ACCEPTED, "X-GitHub-Api-Version": VERSION, "User-Agent": "gate-host", **headers}
+        given = {"Accept": ACCEPTED, "X-GitHub-Api-Version": VERSION, "User-Agent": USER_AGENT, **headers}
         try:
             response = self.client.request(method, place, headers=given, json=body)
         except httpx.ConnectError as fault:
@@ -148,7 +175,9 @@ class Api:
         except httpx.HTTPError as fault:
             self.wait(pause_after_fault(self.faults))
             raise Unanswered(f"GitHub didn't answer: {fault or type(fault).__name__}") from fault
-        pause = pause_after(response.status_code, response.headers, self.now(), self.faults)
+        self.headers, self.answered = response.headers, self.now()
+        said = words_of(response) if response.status_code == 403 else ""
+        pause = pause_after(response.status_code, response.headers, self.now(), self.faults, said)
         if pause is not None:
             self.wait(pause, response.status_code >= 500)
             kind = Unanswered if response.status_code >= 500 else Later
@@ -169,10 +198,13 @@ def json_of(response: httpx.Response) -> Json:
 
 
 def words_of(response: httpx.Response) -> str:
-    """The message of a refusal, and nothing else of what came."""
+    """The messages of a refusal, and nothing else of what came."""
     try:
         body = response.json()
     except ValueError:
         return response.reason_phrase
-    message = body.get("message") if isinstance(body, dict) else None
-    return message[:300] if isinstance(message, str) else response.reason_phrase
+    if not isinstance(body, dict) or not isinstance(body.get("message"), str):
+        return response.reason_phrase
+    errors = body.get("errors")
+    more = (it.get("message") for it in errors if isinstance(it, dict)) if isinstance(errors, list) else ()
+    return "; ".join([body["message"], *(it for it in more if isinstance(it, str))])[:300]

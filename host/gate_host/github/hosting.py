@@ -1,16 +1,16 @@
 """A host of a repository on GitHub, put together of its ports."""
 import os
+from collections import ChainMap
 from datetime import datetime
-from pathlib import Path
-from typing import FrozenSet, Iterator, Mapping, Sequence, Tuple, Union
+from typing import Dict, FrozenSet, Iterator, Mapping, Sequence, Tuple, Union
 
 import httpx
 
 from ..after_landing import AfterLandings
 from ..bare import OwnerFiles, SystemClock
 from ..core.deliveries import touched
-from ..core.known import Test
-from ..core.orders import Unread, table_in, text_in
+from ..core.known import Known, Test
+from ..core.orders import Json, Unread, number_in, table_in, text_in
 from ..core.words import landing_of
 from ..faults import Trouble, Unable
 from ..guarded import Guarded
@@ -18,18 +18,22 @@ from ..journal import Journal
 from ..kept_bot import KeptBot
 from ..locks import take_lock
 from ..loop import Host
-from ..places import Places, name_of_repository
+from ..places import Places, name_of_user
 from ..ports import Fault, Ports, Result
 from ..reports import Reports
 from ..settings import Settings
-from ..spool import ROUNDS_FOR_ALL
+from ..spool import ROUNDS_FOR_ALL, Spool
 from ..troubles import Troubles, complain
-from .api import SECONDS, Api
+from .acceptances import WithAcceptances
+from .api import ACCEPTED, SECONDS, USER_AGENT, VERSION, Api, words_of
+from .board import Board
 from .comments import Comments
 from .credentials import AppWithKey, Credentials, TokenInFile
+from .head_statuses import HeadStatuses
 from .pulls import REPORTER, PullRequests
 from .remote import RemoteRepository
 from .settings import GitHubSettings
+from .starting import webhooks_of
 
 
 class AnyStatus(Mapping[str, FrozenSet[str]]):
@@ -51,15 +55,16 @@ class AnyStatus(Mapping[str, FrozenSet[str]]):
 class OwnerOnGitHub(OwnerFiles):
     """The owner's files, with the roles that people have by their permissions. A name in the file goes before."""
 
-    def __init__(self, places: Places, owner: int, roles: Mapping[str, str]):
+    def __init__(self, places: Places, owner: int, roles: Dict[str, str], own_status: str):
         self.by_permission = roles
         super().__init__(places, owner)
         self.reporters: Mapping[str, FrozenSet[str]] = AnyStatus()
-        self.has_reviews = True
+        self.has_reviews, self.own_status = True, own_status
         self.with_permissions()
 
     def with_permissions(self) -> None:
-        self.roles = {**self.by_permission, **self.roles}
+        """Has the roles found from now on count at once."""
+        self.roles = ChainMap(dict(self.roles), self.by_permission)
 
     def read_roles(self) -> None:
         super().read_roles()
@@ -93,42 +98,42 @@ def credentials_of(given: GitHubSettings) -> Credentials:
         return TokenInFile(given.token)
     if given.key is None:
         raise Trouble("settings: neither a token nor a key is named")
-    address = f"{given.api}/app/installations/{given.installation}/access_tokens"
+    return AppWithKey(given.app, given.key, lambda word: token_of(given, word))
 
-    def token_of(word: str) -> Tuple[str, float]:
-        with httpx.Client(timeout=SECONDS, trust_env=False) as client:
-            try:
-                response = client.post(address, headers={"Authorization": f"Bearer {word}", "Accept": "application/vnd.github+json"})
-                found = table_in(response.json()) if response.status_code == 201 else {}
-                end = datetime.fromisoformat(text_in(found, "expires_at").replace("Z", "+00:00")).timestamp()
-                return text_in(found, "token"), end
-            except (httpx.HTTPError, ValueError, Unread) as fault:
-                raise Unable(f"the app gets no token of its installation: {fault}") from fault
-    return AppWithKey(given.app, given.key, token_of)
+
+def token_of(given: GitHubSettings, word: str) -> Tuple[str, float]:
+    """A token of the app's installation, with the time of its end."""
+    headers = {"Authorization": f"Bearer {word}", "Accept": ACCEPTED, "X-GitHub-Api-Version": VERSION, "User-Agent": USER_AGENT}
+    with httpx.Client(timeout=SECONDS, trust_env=False, headers=headers) as client:
+        try:
+            installation = given.installation or number_in(body_of(client.get(f"{given.api}{given.path}/installation"), 200), "id")
+            found = body_of(client.post(f"{given.api}/app/installations/{installation}/access_tokens"), 201)
+            end = datetime.fromisoformat(text_in(found, "expires_at").replace("Z", "+00:00")).timestamp()
+            return text_in(found, "token"), end
+        except (httpx.HTTPError, ValueError, Unread) as fault:
+            raise Unable(f"the app gets no token of its installation: {fault}") from fault
+
+
+def body_of(response: httpx.Response, due: int) -> Mapping[str, Json]:
+    """What GitHub answers to an app, if it does what was asked."""
+    if response.status_code != due:
+        raise Unable(f"the app gets no token of its installation: GitHub answers {response.status_code}: {words_of(response)}")
+    return table_in(response.json())
 
 
 def run_on_github(places: Places, given: GitHubSettings, is_all_again: bool) -> None:
     """Guards a repository on GitHub until a signal ends it."""
-    owner = os.geteuid()
     lock = take_lock(places)
     journal = Journal(places.records / "journal.db")
-    credentials = credentials_of(given)
-    api = Api(given.api, credentials)
+    api = Api(given.api, credentials_of(given))
     reports = Reports(places, journal, complain)
     known = journal.known(lambda then, it: reports.note(it.delivery, touched(it.delivery, it.orders, then)))
-    files = OwnerOnGitHub(places, owner, {})
-    source = PullRequests(api, given.path, files.main, hooks_of(places), journal, known, given.poll_seconds)
-    files.by_permission = source.roles.found
-    remote = RemoteRepository(places, given.git, credentials, files.main, files.settings.staging, files.settings.trying)
     reports.more_of = lambda change: landing_of(known.landing_of(change), change)
     reports.begin(known.changes)
+    files = OwnerOnGitHub(places, os.geteuid(), {}, given.status)
     bot = KeptBot(places, journal, lambda: files.settings.program, is_all_again, lambda: host.ending)
-    ports = Ports(
-        source=source, repository=Guarded(remote), runner=NoChecks(), bot=bot, journal=journal, clock=SystemClock(),
-        board=Comments(reports, journal, api, given.path, name_of_repository(places)), owner=files,
-        after=AfterLandings(places, journal, files.main),
-    )
-    host = Host(ports, known, None, ROUNDS_FOR_ALL, Troubles())
+    ports = ports_of(places, given, files, journal, known, api, reports, bot)
+    host = Host(ports, known, name_of_user(files.owner), ROUNDS_FOR_ALL, Troubles())
     try:
         host.begin()
         bot.must_belong_to_journal()
@@ -143,8 +148,17 @@ def run_on_github(places: Places, given: GitHubSettings, is_all_again: bool) -> 
         os.close(lock)
 
 
-def hooks_of(places: Places) -> Path:
-    """Where the receiver leaves webhooks."""
-    folder = places.folder / "webhooks"
-    folder.mkdir(mode=0o700, exist_ok=True)
-    return folder
+def ports_of(
+    places: Places, given: GitHubSettings, files: OwnerOnGitHub, journal: Journal, known: Known, api: Api, reports: Reports, bot: KeptBot,
+) -> Ports:
+    pulls = PullRequests(
+        api, given.path, files.main, webhooks_of(places), journal, known, given.poll_seconds, own_status=given.status,
+    )
+    files.by_permission = pulls.roles.found
+    remote = RemoteRepository(places, given.git, api.credentials, files.main, files.settings.staging, files.settings.trying)
+    statuses = HeadStatuses(known, reports, journal, api, given.path, f"{given.web}/{given.repository}/commit/", given.status)
+    return Ports(
+        source=WithAcceptances(pulls, Spool(places, files.owner, complain)), repository=Guarded(remote), runner=NoChecks(), bot=bot,
+        journal=journal, clock=SystemClock(), owner=files, after=AfterLandings(places, journal, files.main),
+        board=Board(reports, [Comments(journal, api, given.path), statuses]),
+    )

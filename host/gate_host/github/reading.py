@@ -39,14 +39,14 @@ class PullRequest:
 
 @dataclass(frozen=True)
 class IssueComment:
-    """A comment on an issue or a pull request: its number, which never repeats, and when it was written. Who wrote it is none if the bot
-    takes no such name."""
+    """A comment on an issue or a pull request: its number, which never repeats, and when it was written and altered last. Who wrote it is
+    none if the bot takes no such name."""
 
     id: int
     change: int
     person: Optional[str]
-    is_bot: bool
     created: int
+    updated: int
     text: str
 
 
@@ -72,14 +72,13 @@ def pull_request_in(found: Json) -> PullRequest:
 
 def comment_in(found: Json) -> IssueComment:
     table = table_in(found)
-    user = table.get("user")
     place = re.search(r"/issues/([1-9][0-9]{0,9})$", text_in(table, "issue_url"))
     if place is None:
         raise Unread(f"a comment of no issue: {table.get('issue_url')!r}")
-    is_bot = isinstance(user, dict) and user.get("type") == "Bot"
     body = table.get("body")
     return IssueComment(
-        number_in(table, "id"), int(place[1]), login_in(user), is_bot, time_in(table, "created_at"), body if isinstance(body, str) else "",
+        number_in(table, "id"), int(place[1]), login_in(table.get("user")), time_in(table, "created_at"), time_in(table, "updated_at"),
+        body if isinstance(body, str) else "",
     )
 
 
@@ -94,11 +93,15 @@ def reviews_in(found: Iterable[Json], head: str) -> Dict[str, bool]:
     return {who: state == "APPROVED" for who, (state, commit) in said.items() if state != "APPROVED" or commit == head}
 
 
-def statuses_in(combined: Json, runs: Iterable[Json]) -> List[Status]:
+def forced_in(found: Iterable[Json]) -> int:
+    """When the head of a pull request was moved by force last, as its events tell, or 0."""
+    return max((time_in(it, "created_at") for it in map(table_in, found) if it.get("event") == "head_ref_force_pushed"), default=0)
+
+
+def statuses_in(statuses: Iterable[Json], runs: Iterable[Json]) -> List[Status]:
     """What is reported of a commit, each name once: by statuses and by check runs."""
     found: Dict[str, Status] = {}
-    statuses = [status_in(table_in(it)) for it in list_in(table_in(combined).get("statuses"))]
-    for status in [*statuses, *(run_in(table_in(it)) for it in runs)]:
+    for status in [*(status_in(table_in(it)) for it in statuses), *(run_in(table_in(it)) for it in runs)]:
         before = found.get(status.name)
         if is_name_of_status(status.name) and (before is None or STATES.index(status.state) > STATES.index(before.state)):
             found[status.name] = status

@@ -1,15 +1,20 @@
 """The repository on GitHub, as git reaches it: over HTTPS, by the same credentials as the API. Merges are made in the mirror on this
 machine, and pushed."""
 import base64
-from typing import Dict
+import re
+from typing import Dict, Mapping, Optional, Sequence
 
-from ..git import GitFailed, run_git
+from ..git import GitFailed, Ran, run_git
 from ..places import Places
 from ..repository import BRANCHES, FETCHED, Branch, Repository
 from .credentials import Credentials
 
 # How git names the user of a token there.
 USER = "x-access-token"
+# What git says if GitHub doesn't take the credentials, or if they don't permit what is asked.
+NOT_TAKEN = re.compile(r"could not read Username|Authentication failed|returned error: 40[13]")
+# A connection over which nothing came for so long is given up. Else git waits for as long as a large fetch may take, and the host with it.
+SECONDS_OF_SILENCE = 300
 
 
 class RemoteRepository(Repository):
@@ -29,11 +34,24 @@ class RemoteRepository(Repository):
         return {
             "GIT_CONFIG_COUNT": "2", "GIT_CONFIG_KEY_0": f"http.{self.address}.extraHeader",
             "GIT_CONFIG_VALUE_0": f"Authorization: Basic {word}", "GIT_CONFIG_KEY_1": "http.followRedirects", "GIT_CONFIG_VALUE_1": "false",
+            "GIT_HTTP_LOW_SPEED_LIMIT": "1", "GIT_HTTP_LOW_SPEED_TIME": str(SECONDS_OF_SILENCE),
         }
+
+    def noted(self, ran: Ran) -> Ran:
+        """Notes that GitHub didn't take the credentials. A landing that waits for others holds up the API, which would notice it too."""
+        if ran.status != 0 and NOT_TAKEN.search(ran.said):
+            self.given.refused()
+        return ran
+
+    def fetched(self, heads: Mapping[str, str]) -> Ran:
+        return self.noted(super().fetched(heads))
+
+    def push(self, commit: str, branch: str, before: Optional[str], held: Sequence[int] = ()) -> Ran:
+        return self.noted(super().push(commit, branch, before, held))
 
     def all_branches(self) -> Dict[str, Branch]:
         """Each branch, as the server tells."""
-        ran = run_git(self.mirror, "ls-remote", "--heads", "--refs", self.remote, more=self.credentials())
+        ran = self.noted(run_git(self.mirror, "ls-remote", "--heads", "--refs", self.remote, more=self.credentials()))
         if ran.status != 0:
             raise GitFailed(f"the branches can't be listed: {ran.said}")
         lines = (line.partition("\t") for line in ran.output.split("\n") if line)

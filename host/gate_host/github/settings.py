@@ -5,29 +5,51 @@ from dataclasses import dataclass
 from pathlib import Path
 from typing import Optional
 
+from ..core.notes import is_name_of_status
 from ..faults import Trouble
 from ..places import trusted_text
-from ..settings import seconds_in
+from ..settings import FIRST_OF_ALL, seconds_in
 
 SECTION = "github"
-KEYS = {"repository", "api", "web", "token", "app", "installation", "key", "webhook_secret", "listen", "poll_seconds"}
+KEYS = {"repository", "api", "web", "token", "app", "installation", "key", "webhook_secret", "listen", "poll_seconds", "status"}
 REPOSITORY = re.compile(r"[A-Za-z0-9-]{1,39}/[A-Za-z0-9_.-]{1,100}")
 ADDRESS = re.compile(r"https?://[A-Za-z0-9.:\[\]-]+(/[A-Za-z0-9./_-]*)?")
 
-FIRST_SETTINGS = """
-# The repository on GitHub. Secrets stand in files of their own, which nobody else may read: a token of a user, or the key of an app with
-# the numbers of the app and of its installation. The secret of the webhook is for the receiver alone.
+FIRST_SETTINGS = """\
+# The settings of gate-host for a repository on GitHub. Nobody but the owner of this folder may write this file. The host reads it again
+# when it has changed, but what stands below [github] only at its start.
+
+[host]
+# The branch that is guarded. Its bors.toml says which statuses have to succeed.
+main = {main}
+
+""" + FIRST_OF_ALL + """
+# How often the host looks at branches and pull requests. GitHub doesn't count an answer that is as before.
+look_seconds = 3
+
+# A command that runs in this folder after each landing: on its standard input stand the commit of before, the one of now, and the name of
+# the branch.
+#after_landing = /usr/local/bin/deploy
+
+# The repository on GitHub. Secrets stand in files of their own, which nobody else may read: the key of an app, with the number of that, or
+# a token. The secret of the webhook is for the receiver alone.
 [github]
 repository = {repository}
-token = {token}
-#app = 123456
-#installation = 12345678
-#key = /etc/gate/app.pem
+{credentials}
 webhook_secret = {secret}
 listen = 127.0.0.1:8097
 # How often comments and statuses are asked for if no webhook comes.
 poll_seconds = 20
-"""
+# The status that the host sets on the heads of changes, which says how each stands. With nothing behind the = it sets none.
+status = gate
+{places}"""
+BY_APP, BY_TOKEN = "app = {app}\nkey = {key}", "token = {token}"
+FIRST_ROLES = """\
+# Who may do what, if it isn't what the permission on GitHub says: whoever may write is a reviewer, and with triage one is a member. Nobody
+# but the owner of this folder may write this file. On each line stand a login and `reviewer`, `member` or `nobody`: a reviewer approves
+# changes, and a member has them tried.
+{lines}"""
+GITHUB, GITHUB_API = "https://github.com", "https://api.github.com"
 
 
 @dataclass(frozen=True)
@@ -39,11 +61,14 @@ class GitHubSettings:
     web: str
     token: Optional[Path]
     app: str
+    # The number of its installation, or none if GitHub is asked for that.
     installation: str
     key: Optional[Path]
     webhook_secret: Optional[Path]
     listen: str
     poll_seconds: float
+    # The name of the status on heads, or none.
+    status: str
 
     @property
     def path(self) -> str:
@@ -67,25 +92,33 @@ def github_in(text: str) -> Optional[GitHubSettings]:
     for name in table:
         if name not in KEYS:
             raise Trouble(f"settings: {name} is no setting of [{SECTION}]")
+    web = table.get("web", GITHUB).rstrip("/")
     found = GitHubSettings(
-        table.get("repository", ""), table.get("api", "https://api.github.com").rstrip("/"),
-        table.get("web", "https://github.com").rstrip("/"), path_of(table.get("token")), table.get("app", ""),
+        table.get("repository", ""), table.get("api", api_of(web)).rstrip("/"), web, path_of(table.get("token")), table.get("app", ""),
         table.get("installation", ""), path_of(table.get("key")), path_of(table.get("webhook_secret")),
-        table.get("listen", "127.0.0.1:8097"), seconds_in(table, "poll_seconds", "20"),
+        table.get("listen", "127.0.0.1:8097"), seconds_in(table, "poll_seconds", "20"), table.get("status", "gate"),
     )
     must_be_right(found)
     return found
 
 
+def api_of(web: str) -> str:
+    """Where the API is: a GitHub of one's own has it below its own address."""
+    return GITHUB_API if web == GITHUB else f"{web}/api/v3"
+
+
 def must_be_right(found: GitHubSettings) -> None:
     if not REPOSITORY.fullmatch(found.repository):
         raise Trouble(f"settings: repository has to be OWNER/NAME, and not {found.repository!r}")
-    for address in (found.api, found.web):
+    for address in (found.web, found.api):
         if not ADDRESS.fullmatch(address):
             raise Trouble(f"settings: {address!r} is no address")
-    is_app = bool(found.app and found.installation and found.key)
-    if is_app == bool(found.token) or not all(it.isdecimal() for it in (found.app, found.installation) if it):
-        raise Trouble("settings: either token, or app, installation and key are needed, the middle ones as numbers")
+    if found.status and not is_name_of_status(found.status):
+        raise Trouble(f"settings: status can't be {found.status!r}")
+    is_app, is_token = bool(found.app and found.key), bool(found.token)
+    is_mixed = is_token and bool(found.app or found.installation or found.key)
+    if is_app == is_token or is_mixed or not all(it.isdecimal() for it in (found.app, found.installation) if it):
+        raise Trouble("settings: either app and key are needed, or token; and app and installation are numbers")
 
 
 def path_of(text: Optional[str]) -> Optional[Path]:

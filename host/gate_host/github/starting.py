@@ -9,10 +9,9 @@ from ..faults import Trouble
 from ..git import ALONE, clean_environment
 from ..places import Places, make_identity, must_be_safe
 from ..setting_up import PROGRAM, make_folders, replace, with_lines
-from ..settings import FIRST_ROLES, FIRST_SETTINGS, settings_in
+from ..settings import settings_in
 from ..troubles import complain
-from .settings import FIRST_SETTINGS as FIRST_OF_GITHUB
-from .settings import REPOSITORY, GitHubSettings, github_in
+from .settings import BY_APP, BY_TOKEN, FIRST_ROLES, FIRST_SETTINGS, REPOSITORY, GitHubSettings, github_in
 
 # What is needed besides, with the names of Debian's packages.
 NEEDED = {"httpx": "python3-httpx", "jwt": "python3-jwt", "cryptography": "python3-cryptography", "waitress": "python3-waitress"}
@@ -33,25 +32,41 @@ def set_up_github(folder: Path, arguments: argparse.Namespace) -> None:
     places = Places(folder)
     if places.settings.exists():
         raise Trouble(f"{folder} is set up already; change its settings in {places.settings}")
-    secrets = folder / "gate/records"
+    if arguments.app and not arguments.app.isdecimal():
+        raise Trouble(f"--app takes the number of the app, and not {arguments.app}")
     main = arguments.main or "main"
-    text = FIRST_SETTINGS.format(
-        main=main, staging=arguments.staging or "staging", trying=arguments.trying or "trying",
-        program=Path(arguments.program or PROGRAM).resolve(), may_push="", checks="",
-    ) + FIRST_OF_GITHUB.format(repository=arguments.github, token=secrets / "token", secret=secrets / "webhook-secret")
+    text = first_settings(arguments, main, folder / "gate/records")
     settings_in(text)
     github_in(text)
     words = ["git", "init", "--quiet", "--bare", f"--initial-branch={main}", str(folder)]
     subprocess.run(words, env={**clean_environment(), **ALONE}, check=True, timeout=60)
     folder.chmod(0o755)
     make_folders(places)
+    webhooks_of(places)
     make_identity(places)
     roles = with_lines(FIRST_ROLES.format(lines=""), arguments.reviewer, arguments.member)
     for path, content in ((places.settings, text), (places.roles, roles)):
         replace(path, content, 0o644)
     must_be_safe(places)
-    print(f"{folder} is set up for {arguments.github}. Put the token into {secrets / 'token'}, and the secret of the webhook into")
-    print(f"{secrets / 'webhook-secret'}, both with chmod 600. Then gate-host run {folder}, and beside it gate-host receive {folder}.")
+    print(f"{folder} is set up for {arguments.github}")
+    print(f"put the {'key of the app' if arguments.app else 'token'} into {secret_of(arguments, folder / 'gate/records')}, with chmod 600")
+    print(f"gate-host doctor {folder} says what is missing then")
+
+
+def first_settings(arguments: argparse.Namespace, main: str, secrets: Path) -> str:
+    secret = secret_of(arguments, secrets)
+    credentials = BY_APP.format(app=arguments.app, key=secret) if arguments.app else BY_TOKEN.format(token=secret)
+    places = f"web = {arguments.web}\n" if arguments.web else ""
+    return FIRST_SETTINGS.format(
+        main=main, staging=arguments.staging or "staging", trying=arguments.trying or "trying",
+        program=Path(arguments.program or PROGRAM).resolve(), repository=arguments.github, credentials=credentials,
+        secret=secrets / "webhook-secret", places=places,
+    )
+
+
+def secret_of(arguments: argparse.Namespace, secrets: Path) -> Path:
+    """Where what GitHub knows the host by is put."""
+    return secrets / ("app.pem" if arguments.app else "token")
 
 
 def run(places: Places, given: GitHubSettings, is_all_again: bool) -> None:
@@ -67,7 +82,12 @@ def receive(places: Places, given: GitHubSettings) -> None:
     from .receiver import serve
     if given.webhook_secret is None:
         raise Trouble(f"there is no webhook_secret in {places.settings}")
+    os.umask(0o077)
+    serve(secret_in(given.webhook_secret), webhooks_of(places), given.listen, complain)
+
+
+def webhooks_of(places: Places) -> Path:
+    """Where the receiver leaves webhooks."""
     folder = places.folder / "webhooks"
     folder.mkdir(mode=0o700, exist_ok=True)
-    os.umask(0o077)
-    serve(secret_in(given.webhook_secret), folder, given.listen, complain)
+    return folder

@@ -2,7 +2,7 @@
 import re
 import subprocess
 from dataclasses import dataclass, field
-from typing import Optional
+from typing import Iterator, Optional
 
 from .bare import ENVIRONMENT, SECONDS
 from .model import ROLES, Repository, World
@@ -40,6 +40,20 @@ def operation_of(path: str) -> Optional[str]:
     """The name of a route of git, or none."""
     match = PATH.match(path)
     return f"git/{match['rest'].replace('git-', '').replace('/', '-')}" if match else None
+
+
+def about_of(call: Call, operation: str) -> str:
+    """What a request of git is about: the service that is asked for, or the refs that a push is to move."""
+    if operation == "git/info-refs":
+        return dict(part.partition("=")[::2] for part in call.query.split("&")).get("service", "")
+    return " ".join(pushed_refs(call.body)) if operation == "git/receive-pack" else ""
+
+
+def pushed_refs(body: bytes) -> Iterator[str]:
+    """The refs in the first lines of a push: each line begins with its length, and has two commits and the ref."""
+    while re.match(rb"[0-9a-f]{4}", body) and body[:4] != b"0000":
+        line, body = body[4:int(body[:4], 16)], body[max(4, int(body[:4], 16)):]
+        yield line.split(b"\0")[0].decode(errors="replace").split()[-1]
 
 
 class GitHttp:

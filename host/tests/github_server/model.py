@@ -62,6 +62,8 @@ class User:
     kind: str = "User"
     # With this the user asks the API, and pushes.
     token: str = ""
+    # What that token is for, as the older kind of tokens has it; none if it is a fine-grained one.
+    scopes: Optional[str] = "repo, workflow"
 
     @property
     def email(self) -> str:
@@ -81,6 +83,9 @@ class App:
     permissions: dict = field(default_factory=lambda: dict(PERMISSIONS))
     events: list = field(default_factory=lambda: list(EVENTS))
     created_at: float = 0.0
+    # What its page asks for, if the owner of the installation hasn't accepted all of it; and since when the installation is suspended.
+    requested: Optional[dict] = None
+    suspended_at: Optional[float] = None
 
 
 @dataclass(eq=False)
@@ -94,6 +99,7 @@ class Hook:
     # The repository that has it, or none if it is the app's.
     repository: Optional["Repository"] = None
     active: bool = True
+    content_type: str = "json"
     created_at: float = 0.0
     last_status: Optional[int] = None
 
@@ -163,6 +169,8 @@ class Pull:
     merged_by: Optional[User] = None
     merge_commit_sha: Optional[str] = None
     mergeable: Optional[bool] = None
+    # When its head was moved by force, to which commit, and by whom.
+    forced: list = field(default_factory=list)
 
     @property
     def merged(self) -> bool:

@@ -133,6 +133,8 @@ class Pushes:
         before = pull.head_sha
         self.set_head(pull, new)
         pull.updated_at = self.world.clock.now()
+        if not pull.repository.bare.is_ancestor(before, new):
+            pull.forced.append((pull.updated_at, new, pusher))
         self.events.pull_request("synchronize", pull, pusher, {"before": before, "after": new})
         if pull.repository.bare.is_ancestor(new, pull.base_sha):
             # Nothing is left of it.

@@ -72,7 +72,10 @@ class Rest:
 
     def headers_of(self, asker: Asker) -> dict:
         shown = self.limit_of(asker).shown()
+        is_classic = asker.user is not None and asker.token is None and asker.user.scopes is not None
+        scopes = {"X-OAuth-Scopes": asker.user.scopes} if is_classic else {}
         return {
+            **scopes,
             "Server": "GitHub.com", "Content-Type": "application/json; charset=utf-8", "X-GitHub-Media-Type": "github.v3; format=json",
             "X-GitHub-Request-Id": uuid.uuid4().hex[:24].upper(), "X-RateLimit-Resource": "core",
             **{f"X-RateLimit-{name.capitalize()}": str(value) for name, value in shown.items()},

@@ -14,6 +14,7 @@ DOCS = "https://docs.github.com/rest"
 # The lengths that GitHub takes.
 MOST_IN_BODY, MOST_IN_DESCRIPTION, MOST_STATUSES = 65536, 140, 1000
 STATES = ("error", "failure", "pending", "success")
+SUSPENDED = "This installation has been suspended"
 
 
 @dataclass
@@ -66,7 +67,7 @@ class Route:
     pattern: "re.Pattern" = field(init=False)
 
     def __post_init__(self) -> None:
-        kinds = {"number": r"\d+", "ref": ".+", "branch": ".+"}
+        kinds = {"number": r"\d+", "ref": ".+", "branch": ".+", "file": ".+"}
         parts = re.split(r"\{(\w+)\}", self.path)
         text = "".join(
             re.escape(part) if at % 2 == 0 else f"(?P<{part}>{kinds.get(part, '[^/]+')})" for at, part in enumerate(parts)
@@ -135,6 +136,7 @@ class Routes:
             Route("GET", f"{own}/issues/{{number}}", "issues/get", "/issues/issues", lambda it: self.shapes.issue(self.issue(it)), either),
             Route("GET", f"{own}/issues/{{number}}/comments", "issues/list-comments", comments, self.list_comments, either),
             Route("POST", f"{own}/issues/{{number}}/comments", "issues/create-comment", comments, self.create_comment, either, "write"),
+            Route("GET", f"{own}/issues/{{number}}/events", "issues/list-events", "/issues/events", self.list_issue_events, either),
             Route("GET", f"{own}/issues/{{number}}/labels", "issues/list-labels-on-issue", "/issues/labels", self.list_labels, either),
         ]
 
@@ -152,6 +154,7 @@ class Routes:
                   "write"),
             Route("GET", commits, "repos/get-commit", "/commits/commits", self.get_commit, "contents"),
             Route("GET", f"{own}/git/ref/{{ref}}", "git/get-ref", "/git/refs", self.get_ref, "contents"),
+            Route("GET", f"{own}/contents/{{file}}", "repos/get-content", "/repos/contents", self.get_file, "contents"),
         ]
 
     def of_branches(self) -> list:
@@ -186,6 +189,8 @@ class Routes:
     def admit(self, route: Route, asked: Asked) -> None:
         """Refuses who may not."""
         asker = asked.asker
+        if asker.token and asker.app.suspended_at:
+            raise Refused(403, SUSPENDED)
         if asker.label == "app" and route.permission != "app" and route.operation != "rate-limit/get":
             raise Refused(403, "Resource not accessible by integration")
         if route.permission in ("app", "installation") and asker.label.split(":")[0] != route.permission:
@@ -267,6 +272,8 @@ class Routes:
         """A token of the installation, for all of its repositories or for those that are named."""
         self.get_installation(asked)
         app, body = asked.asker.app, asked.body
+        if app.suspended_at:
+            raise Refused(403, SUSPENDED)
         wanted = body.get("permissions") or dict(app.permissions)
         if any(LEVELS.get(level, 9) > LEVELS[app.permissions.get(name, "")] for name, level in wanted.items()):
             raise Refused(422, "The permissions requested are not granted to this installation.")
@@ -328,6 +335,12 @@ class Routes:
         """The reviews in the order of time."""
         pull = self.pull(asked)
         return Listed([it for it in asked.repo.reviews.values() if it.pull is pull], self.shapes.review)
+
+    def list_issue_events(self, asked: Asked) -> Listed:
+        """The events of an issue, of which there are no others here than pushes by force."""
+        found = self.issue(asked)
+        events = list(enumerate(found.forced, 1)) if isinstance(found, Pull) else []
+        return Listed(events, lambda it: self.shapes.forced(asked.repo, it[0], *it[1]))
 
     def list_labels(self, asked: Asked) -> Listed:
         return Listed(list(self.issue(asked).labels), lambda it: self.shapes.label(asked.repo, it))
@@ -429,6 +442,15 @@ class Routes:
         own = f"{self.shapes.url_of(asked.repo)}/git"
         target = {"sha": found, "type": "commit", "url": f"{own}/commits/{found}"}
         return {"ref": ref, "node_id": f"REF_{found[:12]}", "url": f"{own}/{ref}", "object": target}
+
+    def get_file(self, asked: Asked) -> dict:
+        """A file of a commit, or of the default branch. Folders aren't shown."""
+        ref, path = asked.query.get("ref") or asked.repo.default_branch, asked.names["file"]
+        commit = asked.repo.bare.sha(HEADS + ref) or asked.repo.bare.sha(ref)
+        found = asked.repo.bare.git("ls-tree", commit, "--", path).split() if commit else []
+        if found[1:2] != ["blob"]:
+            raise Refused(404, "Not Found" if commit else f"No commit found for the ref {ref}")
+        return self.shapes.file(asked.repo, ref, path, found[2])
 
     # Branches and people
 

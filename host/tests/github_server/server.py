@@ -10,7 +10,7 @@ from typing import Optional
 from urllib.parse import unquote, urlsplit
 
 from .events import Events
-from .git_http import Call, GitHttp, Reply, operation_of
+from .git_http import Call, GitHttp, Reply, about_of, operation_of
 from .model import World
 from .people import People
 from .pushes import Pushes
@@ -107,7 +107,7 @@ class GitHub:
     def answer(self, call: Call, request: Request, found: tuple) -> tuple:
         """The answer to a request, or none if the connection is cut; and whether it is cut within."""
         request.token = self.asker(call)[0].label
-        fault, befores, afters = self.switches.plan(request.operation)
+        fault, befores, afters = self.switches.plan(request)
         for action in befores:
             action()
         if fault and fault.seconds:
@@ -170,7 +170,7 @@ class Handler(BaseHTTPRequestHandler):
         path = call.path
         operation, *found = hub.route(call)
         shown = {name: value for name, value in headers.items() if name.lower() not in SECRET}
-        request = hub.switches.note(self.command, path, address.query, operation, shown)
+        request = hub.switches.note(self.command, path, address.query, operation, shown, about_of(call, operation))
         try:
             reply, is_half = hub.answer(call, request, tuple(found))
         except Exception:  # What is wrong here mustn't look like an answer of GitHub's.

@@ -88,7 +88,7 @@ class Shapes:
         return {
             "id": app.id, "slug": app.slug, "node_id": node("App", app.id), "owner": self.user(app.owner), "name": app.slug,
             "description": "", "external_url": f"{self.site}/{app.slug}", "html_url": f"{self.site}/apps/{app.slug}", "created_at": since,
-            "updated_at": since, "permissions": dict(app.permissions), "events": list(app.events),
+            "updated_at": since, "permissions": dict(app.requested or app.permissions), "events": list(app.events),
         }
 
     # Repositories
@@ -161,7 +161,7 @@ class Shapes:
 
     @staticmethod
     def hook_config(hook: Hook) -> dict:
-        return {"content_type": "json", "insecure_ssl": "0", "url": hook.url, **({"secret": "********"} if hook.secret else {})}
+        return {"content_type": hook.content_type, "insecure_ssl": "0", "url": hook.url, **({"secret": "********"} if hook.secret else {})}
 
     # Changes
 
@@ -262,6 +262,15 @@ class Shapes:
             "updated_at": stamp(comment.updated_at), "author_association": self.association(repository, comment.user),
             "body": comment.body, "reactions": self.reactions(own),
             "performed_via_github_app": self.app(app) if app and comment.user is app.user else None,
+        }
+
+    def forced(self, repository: Repository, number: int, at: float, sha: str, user: User) -> dict:
+        """The event of a push by force to the head of a pull request."""
+        own = self.url_of(repository)
+        return {
+            "id": number, "node_id": node("HeadRefForcePushedEvent", number), "url": f"{own}/issues/events/{number}",
+            "actor": self.user(user), "event": "head_ref_force_pushed", "commit_id": sha, "commit_url": f"{own}/commits/{sha}",
+            "created_at": stamp(at), "performed_via_github_app": None,
         }
 
     def review(self, review: Review) -> dict:

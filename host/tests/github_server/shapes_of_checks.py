@@ -1,7 +1,9 @@
 """The objects of GitHub's API about commits: what CI says of them, branches and who may move them, and the app that asks."""
+import base64
 import fnmatch
 from datetime import datetime, timezone
 from typing import Optional
+from urllib.parse import quote
 
 from .bare import Commit, Person
 from .model import App, CheckRun, Protection, Repository, Ruleset, Status, User, node, stamp
@@ -64,6 +66,19 @@ class ShapesOfChecks(Shapes):
     def writer(self, person: Person) -> Optional[User]:
         """The user whose address a commit has."""
         return next((it for it in self.world.users.values() if it.email == person.email), None)
+
+    def file(self, repository: Repository, ref: str, path: str, sha: str) -> dict:
+        """A file at a commit or branch, with its content in lines of 60 characters."""
+        own = f"{self.url_of(repository)}/contents/{quote(path)}?ref={quote(ref, safe='')}"
+        blob, page = f"{self.url_of(repository)}/git/blobs/{sha}", f"{self.page_of(repository)}/blob/{ref}/{path}"
+        content = repository.bare.git("cat-file", "blob", sha).encode()
+        text = base64.b64encode(content).decode()
+        return {
+            "type": "file", "encoding": "base64", "size": len(content), "name": path.rpartition("/")[2], "path": path,
+            "content": "".join(f"{text[at:at + 60]}\n" for at in range(0, len(text), 60)), "sha": sha, "url": own, "git_url": blob,
+            "html_url": page, "download_url": f"{self.site}/raw/{repository.full_name}/{ref}/{path}",
+            "_links": {"self": own, "git": blob, "html": page},
+        }
 
     # What CI says
 
@@ -134,7 +149,8 @@ class ShapesOfChecks(Shapes):
             "html_url": f"{self.site}/organizations/{app.owner.login}/settings/installations/{app.installation}", "app_id": app.id,
             "app_slug": app.slug, "target_id": app.owner.id, "target_type": app.owner.kind, "permissions": dict(app.permissions),
             "events": list(app.events), "created_at": since, "updated_at": since, "single_file_name": None,
-            "has_multiple_single_files": False, "single_file_paths": [], "suspended_by": None, "suspended_at": None,
+            "has_multiple_single_files": False, "single_file_paths": [],
+            "suspended_by": self.user(app.owner) if app.suspended_at else None, "suspended_at": stamp(app.suspended_at),
         }
 
     # Branches and who may move them

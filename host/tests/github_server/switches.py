@@ -2,6 +2,7 @@
 
 A route is named by GitHub's own name of the operation, as `pulls/list` or `issues/create-comment`. `git/info-refs`, `git/upload-pack` and
 `git/receive-pack` are those of git. A name may be a pattern, as `issues/*` or `*`. What is set counts from the next request of the route.
+Of git a name may say more: `git/info-refs git-upload-pack` has the service, and `git/receive-pack refs/heads/main` the refs of a push.
 """
 import fnmatch
 import threading
@@ -30,6 +31,18 @@ class Request:
     # What was answered. It is none until then, and 0 if the connection was cut.
     status: Optional[int] = None
     acted: bool = False
+    # What a request of git is about: a service, or the refs that a push is to move.
+    about: str = ""
+
+    @property
+    def names(self) -> tuple:
+        """The operation, and that with what it is about."""
+        return self.operation, f"{self.operation} {self.about}"
+
+
+def is_of(route: str, request: Request) -> bool:
+    """Whether a request is of a route, which may be a pattern."""
+    return any(fnmatch.fnmatchcase(name, route) for name in request.names)
 
 
 @dataclass
@@ -49,9 +62,9 @@ class Fault:
     # How long the request has to wait before it acts.
     seconds: float = 0.0
 
-    def meets(self, operation: str) -> bool:
-        """Whether it happens to a request of this operation, which is then counted."""
-        if not fnmatch.fnmatchcase(operation, self.route) or self.times == 0:
+    def meets(self, request: Request) -> bool:
+        """Whether it happens to a request, which is then counted."""
+        if not is_of(self.route, request) or self.times == 0:
             return False
         if self.skip > 0:
             self.skip -= 1
@@ -129,19 +142,19 @@ class Switches:
 
     # What the server asks
 
-    def note(self, method: str, path: str, query: str, operation: str, headers: dict) -> Request:
+    def note(self, method: str, path: str, query: str, operation: str, headers: dict, about: str = "") -> Request:
         with self.lock:
-            request = Request(len(self.requests) + 1, method, path, query, operation, headers)
+            request = Request(len(self.requests) + 1, method, path, query, operation, headers, about=about)
             self.requests.append(request)
             return request
 
-    def plan(self, operation: str) -> tuple:
+    def plan(self, request: Request) -> tuple:
         """The fault that meets a request, or none, and what is to be done before and after it."""
         with self.lock:
-            fault = next((it for it in self.faults if it.meets(operation)), None)
+            fault = next((it for it in self.faults if it.meets(request)), None)
             due = []
             for moment in self.moments:
-                if fnmatch.fnmatchcase(operation, moment.route):
+                if is_of(moment.route, request):
                     moment.count -= 1
                     if moment.count == 0:
                         due.append(moment)
@@ -154,6 +167,6 @@ class Switches:
         """The requests of a route, in their order; if a status is given, those that were answered so."""
         with self.lock:
             return [
-                it for it in self.requests if fnmatch.fnmatchcase(it.operation, route) and fnmatch.fnmatchcase(it.method, method)
+                it for it in self.requests if is_of(route, it) and fnmatch.fnmatchcase(it.method, method)
                 and (status is None or it.status == status)
             ]

@@ -109,11 +109,13 @@ class Tokens:
     def __init__(self, world: World) -> None:
         self.world = world
         self.given: dict = {}
+        # How long the tokens are good that are given from now on.
+        self.good_seconds: float = GOOD_SECONDS
 
     def give(self, app: App, permissions: dict, repositories: Optional[list]) -> Token:
         """A new token of the installation."""
         with self.world.lock:
-            expires_at = self.world.clock.now() + GOOD_SECONDS
+            expires_at = self.world.clock.now() + self.good_seconds
             token = Token(f"ghs_{secrets.token_hex(18)}", len(self.given) + 1, expires_at, permissions, repositories)
             self.given[token.text] = token
             return token
