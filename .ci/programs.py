@@ -161,18 +161,26 @@ class Server:
     """`gate serve` for so many connections, from the moment that it listens. It is killed in the end, if it hasn't ended."""
 
     def __init__(self, program, connections=MANY_CONNECTIONS, words=(), port=None, **how):
-        self.port = port or free_port()
-        words = [program.path, "serve", "--port", str(self.port), "--count", str(connections), *words]
+        self.path, self.words, self.how = program.path, ["--count", str(connections), *words], how
+        # Where it is to listen is a port that somebody named, or any. A port that was free is at times somebody else's a moment later.
+        self.starts = 1 if port else 3
+        self.start(port or free_port())
+
+    def start(self, port):
+        self.port = port
+        words = [self.path, "serve", "--port", str(port), *self.words]
         pipe = subprocess.PIPE
         # Without a buffer, so that nothing is taken with the first line.
-        self.child = subprocess.Popen(words, stdin=subprocess.DEVNULL, stdout=pipe, stderr=pipe, bufsize=0, **how)
+        self.child = subprocess.Popen(words, stdin=subprocess.DEVNULL, stdout=pipe, stderr=pipe, bufsize=0, **self.how)
+        self.starts -= 1
 
     def __enter__(self):
-        try:
-            want("the first line", self.first_line(), self.greeting())
-        except Failed:
-            self.end()
-            raise
+        while (line := self.first_line()) != self.greeting():
+            self.child.kill()
+            _, errors = self.child.communicate()
+            if errors != b"gate: Bind\n" or not self.starts:
+                raise Failed(f"the first line is {excerpt(line)}, and then it ends with {self.child.returncode} and {excerpt(errors)}")
+            self.start(free_port())
         return self
 
     def __exit__(self, *_):
