@@ -59,8 +59,9 @@ fn step_one(
     if gate.is_full() {
         return Err(Fault::Full);
     }
-    before.note(alloc, &gate, act)?;
-    let (gate, reply) = gate.act(alloc, act)?;
+    let judged = gate.judge(alloc, act)?;
+    before.note(alloc, &gate, &judged)?;
+    let (gate, reply) = gate.perform(alloc, judged)?;
     replies.push(reply)?;
     Ok(gate)
 }
