@@ -6,7 +6,7 @@ ghost use Rattle.gate_state.specs.State.{IsState};
 ghost use Rattle.gate_state.specs.Acts.{ActKeepsLimits};
 ghost use Rattle.gate_state.specs.declared.reply.Reply.TheVariants.{Denied};
 ghost use Rattle.gate_queue.specs.History.{Entry, Legal, EntryTells, entry_of};
-ghost use Rattle.gate_queue.specs.Judging.{IsJudgement};
+ghost use Rattle.gate_queue.specs.Judging.{IsJudgement, IsRetry};
 ghost use Rattle.gate_queue.specs.Machine.{DeskTakesNoMemory, QueueTakesNoMemory, RefusalMayWantMemory, Step, denial, empty_state};
 ghost use Rattle.gate_state.specs.Queue as queue_specs;
 ghost use Rattle.gate_state.specs.Service.{QueueIsInOrder};
@@ -107,7 +107,9 @@ impl Gate {
         ensures act { IfOk result (λ judged. judged.act.now ≡ act.now) }
         ensures verdict { IfOk result (λ judged. IsJudgement self.now act.now judged.verdict) }
 
-        // An act that a rule denies meets `AllocError` only if the rule itself may want memory.
+        // `AllocError` comes only if the rule may want memory, as those on settings may, or of a `retry`; and of a `retry` that a
+        // rule denies only if the rule may.
+        ensures cause { IfErr result (λ _. RefusalMayWantMemory act.now (denial self.now act.now) ⊎ IsRetry act.now) }
         ensures refused { IfErr result (λ _. (rule : Rule) → denial self.now act.now ≡ Some rule
             → RefusalMayWantMemory act.now (Some rule)) }
         ensures no_memory { DeskTakesNoMemory self.now.desk act.now → IsOk result }

@@ -1,4 +1,4 @@
-ghost use Rattle.std.specs.Prelude.{◌≡◌, ◌||◌, [], Ok, Some, IfOk, IfErr, IsOk};
+ghost use Rattle.std.specs.Prelude.{◌≡◌, ◌||◌, ◌⊎◌, [], Ok, Some, IfOk, IfErr, IsOk};
 ghost use Rattle.gate_text.specs.Settings.{settings_of};
 ghost use Rattle.gate_rules.specs.Rules.{first_failing};
 ghost use Rattle.gate_rules.specs.View.{is_open_head, look};
@@ -8,7 +8,7 @@ ghost use Rattle.gate_state.specs.declared.act.Act.TheVariants.{Other};
 ghost use Rattle.gate_state.specs.declared.act.Deed.TheVariants.{Happened};
 ghost use Rattle.gate_state.specs.declared.act.Fact.TheVariants as facts;
 ghost use Rattle.gate_state.specs.declared.state.State.{State as StateOf};
-ghost use Rattle.gate_queue.specs.Judging.{IsJudgement, IsMeant};
+ghost use Rattle.gate_queue.specs.Judging.{IsJudgement, IsMeant, IsRetry};
 ghost use Rattle.gate_queue.specs.Machine as machine;
 ghost use Rattle.gate_queue.specs.Machine.{RefusalMayWantMemory, DeedTakesNoMemory, DeskTakesNoMemory, FactTakesNoMemory, denial, bad_settings, deed_row, fact_row, is_ordered, is_staged_with, of_open_change, opening_row, review_row};
 
@@ -24,6 +24,7 @@ pub fn judge(state: &State, alloc: Global, act: &Act) -> Result<Verdict, AllocEr
     ensures value { IfOk result (λ verdict. IsJudgement state.now act.now verdict) }
     ensures refused { IfErr result (λ _. (rule : Rule) → denial state.now act.now ≡ Some rule
         → RefusalMayWantMemory act.now (Some rule)) }
+    ensures cause { IfErr result (λ _. RefusalMayWantMemory act.now (denial state.now act.now) ⊎ IsRetry act.now) }
     ensures no_memory { DeskTakesNoMemory state.now.desk act.now → IsOk result }
 {
     match act {
@@ -38,6 +39,7 @@ pub fn judge(state: &State, alloc: Global, act: &Act) -> Result<Verdict, AllocEr
 // What is judged of an act that no rule denies and that brings no settings.
 fn judge_meaning(desk: &Desk, alloc: Global, act: &Act) -> Result<Verdict, AllocError>
     ensures value { IfOk result (IsMeant (look desk.now) act.now) }
+    ensures cause { IfErr result (λ _. IsRetry act.now) }
     ensures no_memory { DeskTakesNoMemory desk.now act.now → IsOk result }
 {
     Ok(match repeated_act(desk, alloc, act)? {

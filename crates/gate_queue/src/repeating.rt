@@ -1,4 +1,4 @@
-ghost use Rattle.std.specs.Prelude.{◌≡◌, IfOk, IfSome, Ok, Some, None};
+ghost use Rattle.std.specs.Prelude.{◌≡◌, IfErr, IfOk, IfSome, Ok, Some, None};
 ghost use Rattle.std.specs.Option.{unwrap_or};
 ghost use Rattle.gate_rules.specs.View.{look};
 ghost use Rattle.gate_text.specs.declared.command.Command.TheVariants as command;
@@ -18,6 +18,7 @@ use std::alloc::{AllocError, Global};
 pub fn repeated_act(desk: &Desk, alloc: Global, act: &Act) -> Result<Option<Act>, AllocError>
     ensures value { IfOk result (λ repeated. unwrap_or repeated act.now ≡ machine.meaning (look desk.now) act.now) }
     ensures retry { IfOk result (λ repeated. IfSome repeated (λ _. IsRetry act.now)) }
+    ensures cause { IfErr result (λ _. IsRetry act.now) }
     ensures no_memory { machine.DeskTakesNoMemory desk.now act.now → result ≡ Ok None }
 {
     match act {
