@@ -15,5 +15,4 @@ pub mod Responding
 pub mod Sending
 pub mod Served
 pub mod Serving
-pub mod Sessions
 pub mod Told

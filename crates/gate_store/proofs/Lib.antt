@@ -1,5 +1,4 @@
 pub mod Deliveries
 pub mod Firsts
-pub mod Outlasting
 pub mod Runs
 pub mod Telling
