@@ -4,7 +4,7 @@ ghost use Rattle.gate_sql.specs.Files.{StandIn};
 ghost use Rattle.gate_sql.specs.Shown.{shown};
 ghost use Rattle.gate_sql.specs.Versions.{OpensAs};
 ghost use Rattle.gate_store.specs.Run.{IsOfBooks};
-ghost use Rattle.gate_tables.specs.Tables.{is_honest, is_shielded, is_sound};
+ghost use Rattle.gate_tables.specs.Tables.{Outlasts, is_honest, is_shielded, is_sound};
 ghost use Rattle.gate_tables.specs.Schemas.{HasTables};
 ghost use Rattle.sqlite.specs.Closing.{IsCopied};
 ghost use Rattle.sqlite.specs.Files.{IsClosed, IsOpened, file_state, over_files};
@@ -90,8 +90,7 @@ fn book_over<S: Alter + Drop>(
 ) -> Result<SqlBook<S>, JobFault>
     requires { connection.in_transaction ≡ false }
     ensures stands { IfOk result (λ book. is_sound S.Store book → OpensAs (state S.Store connection).now (shown S.Store book)) }
-    ensures honest { IfOk result (λ book. is_honest S.Store book → is_honest S.Store connection) }
-    ensures shield { IfOk result (λ book. is_shielded S.Store connection → is_shielded S.Store book) }
+    ensures outlasts { IfOk result (λ book. Outlasts S.Store connection book) }
     ensures stays { IfOk result (λ book. is_honest S.Store book → is_sound S.Store book) }
     ensures fault { IfErr result (IsOfRecords (HasTables (state S.Store connection).now)) }
 {

@@ -21,7 +21,8 @@ fn report_over<B: Book + Drop, R: Read, W: Write>(
     writer: &mut W,
 ) -> Result<(), HookFault>
     ensures reported { (input : List ℕ) × Consumes (R.remaining reader.old) (R.remaining reader.new) input
-        × ((last : B) × (B.is_sound last → IsReported (B.shows book) result input (R.remaining reader.new) (W.contents writer.old) (W.contents writer.new))) }
+        × ((last : B) × (B.is_sound last
+        → IsReported (B.shows book) result input (R.remaining reader.new) (W.contents writer.old) (W.contents writer.new))) }
     ensures end { OnOk result (IsAtEnd (R.remaining reader.new)) }
     ensures cause { IfErr result (MayEnd B.may_answer) }
 {

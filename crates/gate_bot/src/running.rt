@@ -26,8 +26,12 @@ fn run_over<B: Book, R: Read, W: Write>(
 ) -> (Result<u64, HookFault>, B)
     ensures served { (input : List ℕ) × Consumes (R.remaining reader.old) (R.remaining reader.new) input
         × IsWithinLimit result.0 input
-        × (B.is_sound result.1 → IsServed result.0 (B.shows book) input (R.remaining reader.new) (B.shows result.1) (W.contents writer.old) (W.contents writer.new))
-        × (B.is_sound book → B.is_honest result.1 → Serves (B.is_sound result.1) result.0 (B.shows book) input (R.remaining reader.new) (B.shows result.1) (W.contents writer.old) (W.contents writer.new)) }
+        × (B.is_sound result.1
+        → IsServed result.0 (B.shows book) input (R.remaining reader.new) (B.shows result.1) (W.contents writer.old)
+        (W.contents writer.new))
+        × (B.is_sound book → B.is_honest result.1
+        → Serves (B.is_sound result.1) result.0 (B.shows book) input (R.remaining reader.new) (B.shows result.1) (W.contents writer.old)
+        (W.contents writer.new)) }
     ensures end { OnOk result.0 (IsAtEnd (R.remaining reader.new)) }
     ensures cause { IfErr result.0 (MayEnd B.may_answer) }
     ensures honest { B.is_honest result.1 → B.is_honest book }
@@ -49,7 +53,8 @@ pub fn run<R: Read, W: Write>(
     ensures served { HasNotBegun result (R.remaining reader.old) (R.remaining reader.new) (W.contents writer.old) (W.contents writer.new)
         ⊎ ((input : List ℕ) × Consumes (R.remaining reader.old) (R.remaining reader.new) input
         × IsWithinLimit result input
-        × ((new : Records) × IsServed result no_records input (R.remaining reader.new) new (W.contents writer.old) (W.contents writer.new))) }
+        × ((new : Records) × IsServed result no_records input (R.remaining reader.new) new (W.contents writer.old)
+        (W.contents writer.new))) }
 
     // It succeeds at the end of the input alone.
     ensures end { OnOk result (IsAtEnd (R.remaining reader.new)) }
@@ -82,7 +87,8 @@ pub fn run_in_file<S: Start, R: Read, W: Write>(
     ensures served { IfOk result (λ ended. (input : List ℕ) × Consumes (R.remaining reader.old) (R.remaining reader.new) input
         × IsWithinLimit ended.0 input
         × (is_honest over_files ended.1 → (old : Records) × StandIn (image_at S.Start) old
-        × Serves (is_sound over_files ended.1) ended.0 old input (R.remaining reader.new) (shown over_files ended.1) (W.contents writer.old) (W.contents writer.new))) }
+        × Serves (is_sound over_files ended.1) ended.0 old input (R.remaining reader.new) (shown over_files ended.1) (W.contents writer.old)
+        (W.contents writer.new))) }
 
     // It succeeds at the end of the input alone.
     ensures end { IfOk result (λ ended. OnOk ended.0 (IsAtEnd (R.remaining reader.new))) }
@@ -91,7 +97,8 @@ pub fn run_in_file<S: Start, R: Read, W: Write>(
     ensures cause { IfOk result (λ ended. IfErr ended.0 (MayEnd IsOfBooks)) }
 
     // A file that can't be opened costs no line of the input.
-    ensures unopened { IfErr result (λ fault. IsOfFiles fault × (R.remaining reader.new ≡ R.remaining reader.old) × (W.contents writer.new ≡ W.contents writer.old)) }
+    ensures unopened { IfErr result (λ fault. IsOfFiles fault × (R.remaining reader.new ≡ R.remaining reader.old)
+        × (W.contents writer.new ≡ W.contents writer.old)) }
 {
     match book_in_file(rt, file, start) {
         Ok(book) => Ok(run_over(rt.alloc(), book, reader, writer)),

@@ -111,8 +111,10 @@ fn serve_with<B: Book, R: Read, W: Write, A: Acceptor<R, W>, L: Log>(
         × AreEndedInTurn (λ connection. connection.written) connections (A.ended acceptor.old) (A.ended acceptor.new)
         × AreEndedInTurn (λ connection. connection.left) connections (A.unread acceptor.old) (A.unread acceptor.new)
         × All (IsTakenAsNeeded (option_copied service.entry.token)) connections
-        × (B.is_sound keeper.new → AreServedInTurn (option_copied service.entry.token) connections (B.shows keeper.old) (B.shows keeper.new))
-        × (B.is_honest keeper.new → AreServedOver B.shows B.is_sound (option_copied service.entry.token) connections keeper.old keeper.new) }
+        × (B.is_sound keeper.new
+        → AreServedInTurn (option_copied service.entry.token) connections (B.shows keeper.old) (B.shows keeper.new))
+        × (B.is_honest keeper.new
+        → AreServedOver B.shows B.is_sound (option_copied service.entry.token) connections keeper.old keeper.new) }
     ensures cause { IfErr result (λ fault. fault ≡ JobFault.Accept) }
 {
     let Service { token, count, .. } = service;

@@ -12,5 +12,6 @@ pub mod OneWish
 pub mod Progress
 pub mod ReadTokens
 pub mod Responding
+pub mod Sessions
 pub mod Splitting
 pub mod Taking

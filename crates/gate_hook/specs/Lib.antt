@@ -15,4 +15,5 @@ pub mod Responding
 pub mod Sending
 pub mod Served
 pub mod Serving
+pub mod Sessions
 pub mod Told

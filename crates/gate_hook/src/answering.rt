@@ -1,5 +1,6 @@
 ghost use Rattle.std.specs.Prelude.{◌≡◌, false, ◌++◌, ◌∷◌, [], IfOk, IfErr, OnOk, Ok, ◌⊎◌};
 ghost use Rattle.std.specs.String.{string_bytes};
+ghost use Rattle.gate_store.specs.Outlasting.{Outlasts};
 ghost use Rattle.gate_store.specs.Run.{AgreesOnFull, IsOfKeepers, StaysOpen, meets_full};
 ghost use Rattle.gate_hook.specs.Lines.{text_answered, after_reading};
 
@@ -14,14 +15,15 @@ pub fn delivery_answer<B: Book>(
     keeper: &mut Keeper<B>,
     delivery: &Delivery,
 ) -> Result<String, Fault>
-    ensures text { B.is_sound keeper.new → IfOk result (λ text. string_bytes text ≡ text_answered (B.shows keeper.old) (Ok delivery.now) ++ 10 ∷ []) }
-    ensures records { B.is_sound keeper.new → OnOk result (B.shows keeper.new ≡ after_reading (B.shows keeper.old) (Ok delivery.now)) }
+    ensures text { B.is_sound keeper.new
+        → IfOk result (λ text. string_bytes text ≡ text_answered (B.shows keeper.old) (Ok delivery.now) ++ 10 ∷ []) }
+    ensures records { B.is_sound keeper.new
+        → OnOk result (B.shows keeper.new ≡ after_reading (B.shows keeper.old) (Ok delivery.now)) }
     ensures stops { B.is_sound keeper.new → IfErr result (λ fault. (B.shows keeper.new ≡ B.shows keeper.old)
-        ⊎ ((fault ≡ Fault.Memory) × (B.shows keeper.new ≡ after_reading (B.shows keeper.old) (Ok delivery.now)) × (meets_full (B.shows keeper.old) delivery.now ≡ false))) }
+        ⊎ ((fault ≡ Fault.Memory) × (B.shows keeper.new ≡ after_reading (B.shows keeper.old) (Ok delivery.now))
+        × (meets_full (B.shows keeper.old) delivery.now ≡ false))) }
     ensures full { B.is_sound keeper.new → AgreesOnFull result (meets_full (B.shows keeper.old) delivery.now) }
-    ensures was { B.is_sound keeper.new → B.is_sound keeper.old }
-    ensures honest { B.is_honest keeper.new → B.is_honest keeper.old }
-    ensures shield { B.is_shielded keeper.old → B.is_shielded keeper.new }
+    ensures outlasts { Outlasts B.Book keeper.old keeper.new }
     ensures stays { B.is_honest keeper.new → StaysOpen result (B.is_sound keeper.new) }
     ensures cause { IfErr result (IsOfKeepers B.may_answer) }
 {

@@ -10,7 +10,8 @@ use gate_store::law_of_deliveries;
 /// refused bears it. And if what is asked for is a delivery of which no act meets a full gate, as `serve_one` and `serve_guarded` say of
 /// each that they answered, the headline holds of the delivery, and so does all that the history tells.
 pub fn law_of_requests()
-    ensures one { (token : Option (List ℕ)) (input : List ℕ) (wish other : Result RequestOf RefusalOf) → Asks token input wish → Asks token input other → wish ≡ other }
+    ensures one { (token : Option (List ℕ)) (input : List ℕ) (wish other : Result RequestOf RefusalOf)
+        → Asks token input wish → Asks token input other → wish ≡ other }
     ensures token { LawOfTokens }
     ensures headline { LawOfRequests }
     ensures history { LawOfRequestHistories }

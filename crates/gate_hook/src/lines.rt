@@ -1,9 +1,11 @@
-ghost use Rattle.std.specs.Prelude.{◌≡◌, ◌+◌, ◌<◌, ◌≤◌, ◌^◌, ◌++◌, ◌∷◌, ℕ, false, [], List, Option, length, IfOk, IfErr, OnOk, Ok};
+ghost use Rattle.std.specs.Prelude.{◌≡◌, ◌+◌, ◌<◌, ◌≤◌, ◌^◌, ◌++◌, ◌∷◌, ℕ, false, [], List, length, IfOk, IfErr, OnOk, Ok};
 ghost use Rattle.std.specs.String.{string_bytes};
 ghost use Rattle.std.specs.Io.KnownBytes.{Consumes, IsAtEnd};
-ghost use Rattle.gate_store.specs.Run.{Records, IsOfKeepers, StaysOpen};
+ghost use Rattle.gate_store.specs.Outlasting.{Outlasts, RemainsSound};
+ghost use Rattle.gate_store.specs.Run.{IsOfKeepers, StaysOpen};
 ghost use Rattle.gate_hook.specs.Lines.{line_text, after_line, line_meets_full, MayEnd, Serves, StopsAtLine, IsServed, IsWithinLimit};
-ghost use Rattle.gate_hook.specs.Serving.{IsAnswered, IsOfGate, IsTold, IsUpTo, MayStop, StaysSound, TakesByte, TakesBytes};
+ghost use Rattle.gate_hook.specs.Serving.{IsOfGate, MayStop, StaysSound};
+ghost use Rattle.gate_hook.specs.Sessions.{AnswersLine, HasBegun, ServesInput, ServesLast, ServesLines, TakesAll, TakesOne, TellsLast, Turns};
 
 use crate::answering::delivery_answer;
 use crate::fault::HookFault;
@@ -28,14 +30,15 @@ const MAX_INPUT: u64 = 4_294_967_296;
 
 // The text of the answer to a line, with its line feed.
 fn line_answer<B: Book>(alloc: Global, keeper: &mut Keeper<B>, line: &Line) -> Result<String, Fault>
-    ensures text { B.is_sound keeper.new → IfOk result (λ text. string_bytes text ≡ line_text (B.shows keeper.old) line.now ++ 10 ∷ []) }
-    ensures records { B.is_sound keeper.new → OnOk result (B.shows keeper.new ≡ after_line (B.shows keeper.old) line.now) }
+    ensures text { B.is_sound keeper.new
+        → IfOk result (λ text. string_bytes text ≡ line_text (B.shows keeper.old) line.now ++ 10 ∷ []) }
+    ensures records { B.is_sound keeper.new
+        → OnOk result (B.shows keeper.new ≡ after_line (B.shows keeper.old) line.now) }
     ensures room { B.is_sound keeper.new → OnOk result (line_meets_full (B.shows keeper.old) line.now ≡ false) }
-    ensures stops { B.is_sound keeper.new → IfErr result (λ fault. StopsAtLine fault (B.shows keeper.old) line.now (B.shows keeper.new)) }
-    ensures was { B.is_sound keeper.new → B.is_sound keeper.old }
-    ensures honest { B.is_honest keeper.new → B.is_honest keeper.old }
-    ensures shield { B.is_shielded keeper.old → B.is_shielded keeper.new }
-    ensures stays { (B.is_honest keeper.old → B.is_sound keeper.old) → B.is_honest keeper.new → StaysOpen result (B.is_sound keeper.new) }
+    ensures stops { B.is_sound keeper.new
+        → IfErr result (λ fault. StopsAtLine fault (B.shows keeper.old) line.now (B.shows keeper.new)) }
+    ensures outlasts { Outlasts B.Book keeper.old keeper.new }
+    ensures stays { RemainsSound B.Book keeper.old keeper.new (StaysOpen result) }
     ensures cause { IfErr result (IsOfKeepers B.may_answer) }
 {
     if line.is_too_long() {
@@ -73,17 +76,14 @@ struct Session<'k, 'w, B: Book, W> {
 impl<B: Book, W: Write> Session<'_, '_, B, W> {
     // Answers the line that is open: its text goes out whole, and a part of it if the writer refuses the rest.
     fn answer_line(&mut self, alloc: Global) -> Result<(), HookFault>
-        ensures answered { B.is_sound self.new.keeper.now → IsAnswered result (B.shows self.old.keeper.now) self.old.line (B.shows self.new.keeper.now) (W.contents self.old.writer.now) (W.contents self.new.writer.now) }
-        ensures was { B.is_sound self.new.keeper.now → B.is_sound self.old.keeper.now }
-        ensures honest { B.is_honest self.new.keeper.now → B.is_honest self.old.keeper.now }
-        ensures shield { B.is_shielded self.old.keeper.now → B.is_shielded self.new.keeper.now }
-        ensures stays { (B.is_honest self.old.keeper.now → B.is_sound self.old.keeper.now) → B.is_honest self.new.keeper.now → StaysSound result (B.is_sound self.new.keeper.now) }
-        ensures unwritten { IfErr result (λ fault. IsOfGate fault → W.contents self.new.writer.now ≡ W.contents self.old.writer.now) }
+        ensures answered { AnswersLine B.Book W.contents self.old self.new result }
+        ensures turns { Turns B.Book self.old self.new }
+        ensures stays { RemainsSound B.Book self.old.keeper.now self.new.keeper.now (StaysSound result) }
+        ensures unwritten { IfErr result (λ fault. IsOfGate fault
+            → W.contents self.new.writer.now ≡ W.contents self.old.writer.now) }
         ensures cause { IfErr result (MayStop B.may_answer) }
         ensures line { self.new.line ≡ self.old.line }
         ensures count { self.new.count ≡ self.old.count }
-        ensures same_keeper { self.new.keeper.ghost_name ≡ self.old.keeper.ghost_name }
-        ensures same_writer { self.new.writer.ghost_name ≡ self.old.writer.ghost_name }
     {
         let text = line_answer(alloc, self.keeper, &self.line)?;
         send(self.writer, text.as_bytes())
@@ -92,18 +92,11 @@ impl<B: Book, W: Write> Session<'_, '_, B, W> {
     // Takes one byte: a line feed ends the line that is open, which is answered; any other byte goes on with it.
     fn take_byte(&mut self, alloc: Global, byte: u8) -> Result<(), HookFault>
         requires { self.old.count < 2 ^ 32 }
-        ensures taken { (opened : Records) (input : List ℕ) (before : Option (List ℕ))
-            → IsUpTo (B.is_sound self.old.keeper.now) opened input (B.shows self.old.keeper.now) self.old.line self.old.count before (W.contents self.old.writer.now)
-            → TakesByte (B.is_sound self.new.keeper.now) ((B.is_honest self.old.keeper.now → B.is_sound self.old.keeper.now) × B.is_honest self.new.keeper.now)
-            result opened input byte (B.shows self.new.keeper.now) self.new.line self.new.count before (W.contents self.new.writer.now) }
-        ensures was { B.is_sound self.new.keeper.now → B.is_sound self.old.keeper.now }
-        ensures honest { B.is_honest self.new.keeper.now → B.is_honest self.old.keeper.now }
-        ensures shield { B.is_shielded self.old.keeper.now → B.is_shielded self.new.keeper.now }
-        ensures stays { (B.is_honest self.old.keeper.now → B.is_sound self.old.keeper.now) → B.is_honest self.new.keeper.now → StaysSound result (B.is_sound self.new.keeper.now) }
+        ensures taken { TakesOne B.Book W.contents self.old self.new result byte }
+        ensures turns { Turns B.Book self.old self.new }
+        ensures stays { RemainsSound B.Book self.old.keeper.now self.new.keeper.now (StaysSound result) }
         ensures cause { IfErr result (MayStop B.may_answer) }
         ensures count { self.new.count ≤ self.old.count + 1 }
-        ensures same_keeper { self.new.keeper.ghost_name ≡ self.old.keeper.ghost_name }
-        ensures same_writer { self.new.writer.ghost_name ≡ self.old.writer.ghost_name }
     {
         if byte != b'\n' {
             self.line.add(byte);
@@ -122,18 +115,11 @@ impl<B: Book, W: Write> Session<'_, '_, B, W> {
     // Takes the bytes of a chunk, in order.
     fn take_chunk(&mut self, alloc: Global, bytes: &[u8]) -> Result<(), HookFault>
         requires { self.old.count + length bytes.now ≤ 2 ^ 32 }
-        ensures taken { (opened : Records) (input : List ℕ) (before : Option (List ℕ))
-            → IsUpTo (B.is_sound self.old.keeper.now) opened input (B.shows self.old.keeper.now) self.old.line self.old.count before (W.contents self.old.writer.now)
-            → TakesBytes (B.is_sound self.new.keeper.now) ((B.is_honest self.old.keeper.now → B.is_sound self.old.keeper.now) × B.is_honest self.new.keeper.now)
-            result opened input bytes.now (B.shows self.new.keeper.now) self.new.line self.new.count before (W.contents self.new.writer.now) }
-        ensures was { B.is_sound self.new.keeper.now → B.is_sound self.old.keeper.now }
-        ensures honest { B.is_honest self.new.keeper.now → B.is_honest self.old.keeper.now }
-        ensures shield { B.is_shielded self.old.keeper.now → B.is_shielded self.new.keeper.now }
-        ensures stays { (B.is_honest self.old.keeper.now → B.is_sound self.old.keeper.now) → B.is_honest self.new.keeper.now → StaysSound result (B.is_sound self.new.keeper.now) }
+        ensures taken { TakesAll B.Book W.contents self.old self.new result bytes.now }
+        ensures turns { Turns B.Book self.old self.new }
+        ensures stays { RemainsSound B.Book self.old.keeper.now self.new.keeper.now (StaysSound result) }
         ensures cause { IfErr result (MayStop B.may_answer) }
         ensures count { self.new.count ≤ self.old.count + length bytes.now }
-        ensures same_keeper { self.new.keeper.ghost_name ≡ self.old.keeper.ghost_name }
-        ensures same_writer { self.new.writer.ghost_name ≡ self.old.writer.ghost_name }
     {
         for byte in bytes {
             match self.take_byte(alloc, *byte) {
@@ -148,21 +134,11 @@ impl<B: Book, W: Write> Session<'_, '_, B, W> {
     fn finish(&mut self, alloc: Global) -> Result<u64, HookFault>
         requires { self.old.count ≤ 2 ^ 32 }
         ensures within { (input : List ℕ) → length input ≤ MAX_INPUT → IsWithinLimit result input }
-        ensures served { (opened : Records) (input : List ℕ) (left before : Option (List ℕ))
-            → IsUpTo (B.is_sound self.old.keeper.now) opened input (B.shows self.old.keeper.now) self.old.line self.old.count before (W.contents self.old.writer.now)
-            → IsAtEnd left → B.is_sound self.new.keeper.now
-            → IsServed result opened input left (B.shows self.new.keeper.now) before (W.contents self.new.writer.now) }
-        ensures told { (opened : Records) (input : List ℕ) (left before : Option (List ℕ))
-            → IsUpTo (B.is_sound self.old.keeper.now) opened input (B.shows self.old.keeper.now) self.old.line self.old.count before (W.contents self.old.writer.now)
-            → IsAtEnd left → (B.is_honest self.old.keeper.now → B.is_sound self.old.keeper.now) → B.is_honest self.new.keeper.now
-            → IsTold result opened input left before (W.contents self.new.writer.now) }
-        ensures was { B.is_sound self.new.keeper.now → B.is_sound self.old.keeper.now }
-        ensures honest { B.is_honest self.new.keeper.now → B.is_honest self.old.keeper.now }
-        ensures shield { B.is_shielded self.old.keeper.now → B.is_shielded self.new.keeper.now }
-        ensures stays { (B.is_honest self.old.keeper.now → B.is_sound self.old.keeper.now) → B.is_honest self.new.keeper.now → StaysSound result (B.is_sound self.new.keeper.now) }
+        ensures served { ServesLast B.Book W.contents self.old self.new result }
+        ensures told { TellsLast B.Book W.contents self.old self.new result }
+        ensures turns { Turns B.Book self.old self.new }
+        ensures stays { RemainsSound B.Book self.old.keeper.now self.new.keeper.now (StaysSound result) }
         ensures cause { IfErr result (MayEnd B.may_answer) }
-        ensures same_keeper { self.new.keeper.ghost_name ≡ self.old.keeper.ghost_name }
-        ensures same_writer { self.new.writer.ghost_name ≡ self.old.writer.ghost_name }
     {
         if self.line.is_empty() {
             return Ok(self.count);
@@ -175,21 +151,13 @@ impl<B: Book, W: Write> Session<'_, '_, B, W> {
 
     // Takes the whole input of a reader, chunk by chunk.
     fn take_input<R: Read>(&mut self, alloc: Global, reader: &mut R) -> Result<u64, HookFault>
-        requires { IsUpTo (B.is_sound self.old.keeper.now) (B.shows self.old.keeper.now) [] (B.shows self.old.keeper.now) self.old.line self.old.count (W.contents self.old.writer.now) (W.contents self.old.writer.now) }
-        ensures served { (input : List ℕ) × Consumes (R.remaining reader.old) (R.remaining reader.new) input
-            × IsWithinLimit result input
-            × (B.is_sound self.new.keeper.now
-            → IsServed result (B.shows self.old.keeper.now) input (R.remaining reader.new) (B.shows self.new.keeper.now) (W.contents self.old.writer.now) (W.contents self.new.writer.now))
-            × ((B.is_honest self.old.keeper.now → B.is_sound self.old.keeper.now) → B.is_honest self.new.keeper.now
-            → IsTold result (B.shows self.old.keeper.now) input (R.remaining reader.new) (W.contents self.old.writer.now) (W.contents self.new.writer.now)) }
+        requires { HasBegun B.Book W.contents self.old }
+        ensures served { ServesInput B.Book W.contents self.old self.new result
+            (R.remaining reader.old) (R.remaining reader.new) }
+        ensures turns { Turns B.Book self.old self.new }
         ensures end { OnOk result (IsAtEnd (R.remaining reader.new)) }
-        ensures was { B.is_sound self.new.keeper.now → B.is_sound self.old.keeper.now }
-        ensures honest { B.is_honest self.new.keeper.now → B.is_honest self.old.keeper.now }
-        ensures shield { B.is_shielded self.old.keeper.now → B.is_shielded self.new.keeper.now }
-        ensures stays { (B.is_honest self.old.keeper.now → B.is_sound self.old.keeper.now) → B.is_honest self.new.keeper.now → StaysSound result (B.is_sound self.new.keeper.now) }
+        ensures stays { RemainsSound B.Book self.old.keeper.now self.new.keeper.now (StaysSound result) }
         ensures cause { IfErr result (MayEnd B.may_answer) }
-        ensures same_keeper { self.new.keeper.ghost_name ≡ self.old.keeper.ghost_name }
-        ensures same_writer { self.new.writer.ghost_name ≡ self.old.writer.ghost_name }
     {
         let mut buffer = [0; CHUNK];
         let mut left = MAX_INPUT;
@@ -210,20 +178,12 @@ impl<B: Book, W: Write> Session<'_, '_, B, W> {
 
     // The same, told as `serve_lines` tells it.
     fn serve<R: Read>(&mut self, alloc: Global, reader: &mut R) -> Result<u64, HookFault>
-        requires { IsUpTo (B.is_sound self.old.keeper.now) (B.shows self.old.keeper.now) [] (B.shows self.old.keeper.now) self.old.line self.old.count (W.contents self.old.writer.now) (W.contents self.old.writer.now) }
-        ensures served { (input : List ℕ) × Consumes (R.remaining reader.old) (R.remaining reader.new) input
-            × IsWithinLimit result input
-            × (B.is_sound self.new.keeper.now
-            → IsServed result (B.shows self.old.keeper.now) input (R.remaining reader.new) (B.shows self.new.keeper.now) (W.contents self.old.writer.now) (W.contents self.new.writer.now))
-            × (B.is_sound self.old.keeper.now → B.is_honest self.new.keeper.now
-            → Serves (B.is_sound self.new.keeper.now) result (B.shows self.old.keeper.now) input (R.remaining reader.new) (B.shows self.new.keeper.now) (W.contents self.old.writer.now) (W.contents self.new.writer.now)) }
+        requires { HasBegun B.Book W.contents self.old }
+        ensures served { ServesLines B.Book W.contents self.old self.new result
+            (R.remaining reader.old) (R.remaining reader.new) }
+        ensures turns { Turns B.Book self.old self.new }
         ensures end { OnOk result (IsAtEnd (R.remaining reader.new)) }
-        ensures was { B.is_sound self.new.keeper.now → B.is_sound self.old.keeper.now }
-        ensures honest { B.is_honest self.new.keeper.now → B.is_honest self.old.keeper.now }
-        ensures shield { B.is_shielded self.old.keeper.now → B.is_shielded self.new.keeper.now }
         ensures cause { IfErr result (MayEnd B.may_answer) }
-        ensures same_keeper { self.new.keeper.ghost_name ≡ self.old.keeper.ghost_name }
-        ensures same_writer { self.new.writer.ghost_name ≡ self.old.writer.ghost_name }
     {
         self.take_input(alloc, reader)
     }
@@ -254,9 +214,11 @@ pub fn serve_lines<B: Book, R: Read, W: Write>(
     ensures served { (input : List ℕ) × Consumes (R.remaining reader.old) (R.remaining reader.new) input
         × IsWithinLimit result input
         × (B.is_sound keeper.new
-        → IsServed result (B.shows keeper.old) input (R.remaining reader.new) (B.shows keeper.new) (W.contents writer.old) (W.contents writer.new))
+        → IsServed result (B.shows keeper.old) input (R.remaining reader.new) (B.shows keeper.new)
+        (W.contents writer.old) (W.contents writer.new))
         × (B.is_sound keeper.old → B.is_honest keeper.new
-        → Serves (B.is_sound keeper.new) result (B.shows keeper.old) input (R.remaining reader.new) (B.shows keeper.new) (W.contents writer.old) (W.contents writer.new)) }
+        → Serves (B.is_sound keeper.new) result (B.shows keeper.old) input (R.remaining reader.new) (B.shows keeper.new)
+        (W.contents writer.old) (W.contents writer.new)) }
 
     // It succeeds at the end of the input alone.
     ensures end { OnOk result (IsAtEnd (R.remaining reader.new)) }
@@ -265,9 +227,7 @@ pub fn serve_lines<B: Book, R: Read, W: Write>(
     ensures cause { IfErr result (MayEnd B.may_answer) }
 
     // A book that is sound in the end was sound before, one that is honest was so, and one that was shielded still is.
-    ensures was { B.is_sound keeper.new → B.is_sound keeper.old }
-    ensures honest { B.is_honest keeper.new → B.is_honest keeper.old }
-    ensures shield { B.is_shielded keeper.old → B.is_shielded keeper.new }
+    ensures outlasts { Outlasts B.Book keeper.old keeper.new }
 {
     let mut session = Session {
         keeper,

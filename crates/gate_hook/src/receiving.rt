@@ -49,7 +49,8 @@ pub fn read_head<R: Read>(
     bytes: &mut Vec<u8>,
 ) -> Result<Option<Head>, HookFault>
     requires { bytes.old.items ≡ [] }
-    ensures { HasReadHead (option_copied token.entry) result (R.remaining reader.old) (R.remaining reader.new) bytes.new.items }
+    ensures { HasReadHead (option_copied token.entry) result (R.remaining reader.old)
+        (R.remaining reader.new) bytes.new.items }
 {
     loop {
         match head_in(alloc, token, bytes) {
@@ -78,7 +79,8 @@ pub fn read_body<R: Read>(
     size: usize,
 ) -> Result<(), HookFault>
     requires { front ≤ length bytes.old.items }
-    ensures { HasReadBody result (R.remaining reader.old) (R.remaining reader.new) bytes.old.items bytes.new.items front size }
+    ensures { HasReadBody result (R.remaining reader.old)
+        (R.remaining reader.new) bytes.old.items bytes.new.items front size }
 {
     while bytes.len() - front < size {
         let room = size - (bytes.len() - front);

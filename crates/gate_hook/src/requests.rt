@@ -1,6 +1,7 @@
 ghost use Rattle.std.specs.Prelude.{◌≡◌, ◌≤◌, ◌↔◌, ℕ, List, [], Ok, Some, None, IfSome, IsSome, length, option_copied, drop, IfOk, IfErr, OnErr, OnOk, ◌⊎◌, false};
 ghost use Rattle.std.specs.Option.{option_map};
 ghost use Rattle.std.specs.String.{string_bytes};
+ghost use Rattle.gate_store.specs.Outlasting.{Outlasts, RemainsSound};
 ghost use Rattle.gate_store.specs.Run.{Records, AgreesOnFull, IsOfBooks, IsOfKeepers, StaysOpen, after_delivery, meets_full};
 ghost use Rattle.gate_deliveries.specs.Deliveries.{delivery_of};
 ghost use Rattle.gate_hook.specs.Receiving.{HasAsked, HasTaken, IsInput};
@@ -129,14 +130,16 @@ fn answered<B: Book>(
     keeper: &mut Keeper<B>,
     delivery: &Delivery,
 ) -> Result<Response, Fault>
-    ensures response { B.is_sound keeper.new → IfOk result (λ response. IsResponse response (response_to (B.shows keeper.old) (Ok (DeliveryOf delivery.now)))) }
-    ensures records { B.is_sound keeper.new → OnOk result (B.shows keeper.new ≡ after_delivery (B.shows keeper.old) delivery.now) }
+    ensures response { B.is_sound keeper.new
+        → IfOk result
+        (λ response. IsResponse response (response_to (B.shows keeper.old) (Ok (DeliveryOf delivery.now)))) }
+    ensures records { B.is_sound keeper.new
+        → OnOk result (B.shows keeper.new ≡ after_delivery (B.shows keeper.old) delivery.now) }
     ensures stops { B.is_sound keeper.new → IfErr result (λ fault. (B.shows keeper.new ≡ B.shows keeper.old)
-        ⊎ ((fault ≡ Fault.Memory) × (B.shows keeper.new ≡ after_delivery (B.shows keeper.old) delivery.now) × (meets_full (B.shows keeper.old) delivery.now ≡ false))) }
+        ⊎ ((fault ≡ Fault.Memory) × (B.shows keeper.new ≡ after_delivery (B.shows keeper.old) delivery.now)
+        × (meets_full (B.shows keeper.old) delivery.now ≡ false))) }
     ensures full { B.is_sound keeper.new → AgreesOnFull result (meets_full (B.shows keeper.old) delivery.now) }
-    ensures was { B.is_sound keeper.new → B.is_sound keeper.old }
-    ensures honest { B.is_honest keeper.new → B.is_honest keeper.old }
-    ensures shield { B.is_shielded keeper.old → B.is_shielded keeper.new }
+    ensures outlasts { Outlasts B.Book keeper.old keeper.new }
     ensures stays { B.is_honest keeper.new → StaysOpen result (B.is_sound keeper.new) }
     ensures cause { IfErr result (IsOfKeepers B.may_answer) }
 {
@@ -172,13 +175,13 @@ fn reported<B: Book>(
     keeper: &mut Keeper<B>,
     report: Report,
 ) -> Result<Response, Fault>
-    ensures response { B.is_sound keeper.new → IfOk result (λ response. IsResponse response (response_to (B.shows keeper.old) (Ok (ReportOf report)))) }
-    ensures anyhow { IfOk result (λ response. (records : Records) × IsResponse response (response_to records (Ok (ReportOf report)))) }
+    ensures response { B.is_sound keeper.new
+        → IfOk result (λ response. IsResponse response (response_to (B.shows keeper.old) (Ok (ReportOf report)))) }
+    ensures anyhow { IfOk result (λ response. (records : Records)
+        × IsResponse response (response_to records (Ok (ReportOf report)))) }
     ensures same { B.is_sound keeper.new → B.shows keeper.new ≡ B.shows keeper.old }
-    ensures was { B.is_sound keeper.new → B.is_sound keeper.old }
-    ensures honest { B.is_honest keeper.new → B.is_honest keeper.old }
-    ensures shield { B.is_shielded keeper.old → B.is_shielded keeper.new }
-    ensures stays { (B.is_honest keeper.old → B.is_sound keeper.old) → B.is_honest keeper.new → StaysOpen result (B.is_sound keeper.new) }
+    ensures outlasts { Outlasts B.Book keeper.old keeper.new }
+    ensures stays { RemainsSound B.Book keeper.old keeper.new (StaysOpen result) }
     ensures cause { IfErr result (IsOfKeepers B.may_answer) }
     ensures fault { IfErr result IsOfBooks }
 {
@@ -196,10 +199,8 @@ fn respond<B: Book>(
 ) -> Result<Response, HookFault>
     ensures responds { B.is_sound keeper.new → Responds result (B.shows keeper.old) wish.now (B.shows keeper.new) }
     ensures anyhow { B.is_honest keeper.new → B.is_sound keeper.new ⊎ RespondsAnyhow result wish.now }
-    ensures was { B.is_sound keeper.new → B.is_sound keeper.old }
-    ensures honest { B.is_honest keeper.new → B.is_honest keeper.old }
-    ensures shield { B.is_shielded keeper.old → B.is_shielded keeper.new }
-    ensures stays { (B.is_honest keeper.old → B.is_sound keeper.old) → B.is_honest keeper.new → StaysSound result (B.is_sound keeper.new) }
+    ensures outlasts { Outlasts B.Book keeper.old keeper.new }
+    ensures stays { RemainsSound B.Book keeper.old keeper.new (StaysSound result) }
     ensures cause { IfErr result (MayFail B.may_answer) }
 {
     match wish {
@@ -220,14 +221,14 @@ fn answer<B: Book, R: Read>(
     requires { bytes.old.items ≡ [] }
     ensures consumed { HasConsumed result (R.remaining reader.old) (R.remaining reader.new) bytes.new.items }
     ensures answered { (input : List ℕ) × IsInput (R.remaining reader.old) (R.remaining reader.new) input
-        × (B.is_sound keeper.new → Answers (option_copied token.entry) result input (B.shows keeper.old) (B.shows keeper.new)) }
+        × (B.is_sound keeper.new
+        → Answers (option_copied token.entry) result input (B.shows keeper.old) (B.shows keeper.new)) }
     ensures anyhow { B.is_honest keeper.new → B.is_sound keeper.new
-        ⊎ ((input : List ℕ) × IsInput (R.remaining reader.old) (R.remaining reader.new) input × MakesAnyhow (option_copied token.entry) result input) }
+        ⊎ ((input : List ℕ) × IsInput (R.remaining reader.old) (R.remaining reader.new) input
+        × MakesAnyhow (option_copied token.entry) result input) }
     ensures taken { HasTaken (option_copied token.entry) (R.remaining reader.old) (R.remaining reader.new) }
-    ensures was { B.is_sound keeper.new → B.is_sound keeper.old }
-    ensures honest { B.is_honest keeper.new → B.is_honest keeper.old }
-    ensures shield { B.is_shielded keeper.old → B.is_shielded keeper.new }
-    ensures stays { (B.is_honest keeper.old → B.is_sound keeper.old) → B.is_honest keeper.new → StaysSound result (B.is_sound keeper.new) }
+    ensures outlasts { Outlasts B.Book keeper.old keeper.new }
+    ensures stays { RemainsSound B.Book keeper.old keeper.new (StaysSound result) }
     ensures cause { IfErr result (MayFail B.may_answer) }
 {
     let wish = match read_wish(alloc, token, reader, bytes) {
@@ -287,13 +288,15 @@ pub fn serve_guarded<B: Book, R: Read, W: Write>(
     // What is written, and the records after it, are those that the input asks for.
     ensures served { (input : List ℕ) × IsInput (R.remaining reader.old) (R.remaining reader.new) input
         × (B.is_sound keeper.new
-        → AnswersOne (option_copied token.entry) result input (B.shows keeper.old) (B.shows keeper.new) (W.contents writer.old) (W.contents writer.new)) }
+        → AnswersOne (option_copied token.entry) result input (B.shows keeper.old) (B.shows keeper.new)
+        (W.contents writer.old) (W.contents writer.new)) }
 
     // Of the input no more is taken than the answer needs, whatever comes of it.
     ensures taken { HasTaken (option_copied token.entry) (R.remaining reader.old) (R.remaining reader.new) }
 
     // Input that asks for no delivery leaves the records as they were.
-    ensures same { B.is_sound keeper.new → (input : List ℕ) → R.remaining reader.old ≡ Some input → AsksNoDelivery (option_copied token.entry) input → B.shows keeper.new ≡ B.shows keeper.old }
+    ensures same { B.is_sound keeper.new → (input : List ℕ) → R.remaining reader.old ≡ Some input
+        → AsksNoDelivery (option_copied token.entry) input → B.shows keeper.new ≡ B.shows keeper.old }
 
     // It ends by a failed read or a failed write alone.
     ensures ends { IfErr result (λ fault. (fault ≡ HookFault.Read) ⊎ (fault ≡ HookFault.Write)) }
@@ -305,13 +308,12 @@ pub fn serve_guarded<B: Book, R: Read, W: Write>(
     ensures cause { IfOk result (λ served. IfSome served.fault (IsOfKeepers B.may_answer)) }
 
     // A book that is sound in the end was sound before, one that is honest was so, and one that was shielded still is.
-    ensures was { B.is_sound keeper.new → B.is_sound keeper.old }
-    ensures honest { B.is_honest keeper.new → B.is_honest keeper.old }
-    ensures shield { B.is_shielded keeper.old → B.is_shielded keeper.new }
+    ensures outlasts { Outlasts B.Book keeper.old keeper.new }
 
     // Of a book that was sound and is honest, only `Memory` and `Store` may have shut it, and then the response is 503, or after `Write`
     // a part of it. After any other response it is still sound, so what is said above of that response holds, whatever comes later.
-    ensures stays { B.is_sound keeper.old → B.is_honest keeper.new → StaysServing result (B.is_sound keeper.new) (W.contents writer.old) (W.contents writer.new) }
+    ensures stays { B.is_sound keeper.old → B.is_honest keeper.new
+        → StaysServing result (B.is_sound keeper.new) (W.contents writer.old) (W.contents writer.new) }
 
     // A book that is honest is sound after the call, or what was sent needed none. So over a book that had been shut before, a delivery
     // gets 503, and a refusal is sent as ever. A report gets 503 too, or is of a state that was at hand.
@@ -358,13 +360,15 @@ pub fn serve_one<B: Book, R: Read, W: Write>(
     // What is written, and the records after it, are those that the input asks for.
     ensures served { (input : List ℕ) × IsInput (R.remaining reader.old) (R.remaining reader.new) input
         × (B.is_sound keeper.new
-        → AnswersOne None result input (B.shows keeper.old) (B.shows keeper.new) (W.contents writer.old) (W.contents writer.new)) }
+        → AnswersOne None result input (B.shows keeper.old) (B.shows keeper.new)
+        (W.contents writer.old) (W.contents writer.new)) }
 
     // Of the input no more is taken than the answer needs, whatever comes of it.
     ensures taken { HasTaken None (R.remaining reader.old) (R.remaining reader.new) }
 
     // Input that asks for no delivery leaves the records as they were.
-    ensures same { B.is_sound keeper.new → (input : List ℕ) → R.remaining reader.old ≡ Some input → AsksNoDelivery None input → B.shows keeper.new ≡ B.shows keeper.old }
+    ensures same { B.is_sound keeper.new → (input : List ℕ) → R.remaining reader.old ≡ Some input
+        → AsksNoDelivery None input → B.shows keeper.new ≡ B.shows keeper.old }
 
     // It ends by a failed read or a failed write alone.
     ensures ends { IfErr result (λ fault. (fault ≡ HookFault.Read) ⊎ (fault ≡ HookFault.Write)) }
@@ -376,13 +380,12 @@ pub fn serve_one<B: Book, R: Read, W: Write>(
     ensures cause { IfOk result (λ served. IfSome served.fault (IsOfKeepers B.may_answer)) }
 
     // A book that is sound in the end was sound before, one that is honest was so, and one that was shielded still is.
-    ensures was { B.is_sound keeper.new → B.is_sound keeper.old }
-    ensures honest { B.is_honest keeper.new → B.is_honest keeper.old }
-    ensures shield { B.is_shielded keeper.old → B.is_shielded keeper.new }
+    ensures outlasts { Outlasts B.Book keeper.old keeper.new }
 
     // Of a book that was sound and is honest, only `Memory` and `Store` may have shut it, and then the response is 503, or after `Write`
     // a part of it. After any other response it is still sound, so what is said above of that response holds, whatever comes later.
-    ensures stays { B.is_sound keeper.old → B.is_honest keeper.new → StaysServing result (B.is_sound keeper.new) (W.contents writer.old) (W.contents writer.new) }
+    ensures stays { B.is_sound keeper.old → B.is_honest keeper.new
+        → StaysServing result (B.is_sound keeper.new) (W.contents writer.old) (W.contents writer.new) }
 
     // A book that is honest is sound after the call, or what was sent needed none. So over a book that had been shut before, a delivery
     // gets 503, and a refusal is sent as ever. A report gets 503 too, or is of a state that was at hand.

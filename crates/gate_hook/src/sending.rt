@@ -9,7 +9,8 @@ use std::io::Write;
 /// write included; a part of the text may be written then.
 pub fn send<W: Write>(writer: &mut W, text: &[u8]) -> Result<(), HookFault>
     ensures ok { OnOk result (Appends (W.contents writer.old) (W.contents writer.new) text.now) }
-    ensures err { IfErr result (λ fault. (fault ≡ HookFault.Write) × IsCutOff text.now (W.contents writer.old) (W.contents writer.new)) }
+    ensures err { IfErr result (λ fault. (fault ≡ HookFault.Write)
+        × IsCutOff text.now (W.contents writer.old) (W.contents writer.new)) }
 {
     let mut sent = 0;
     while sent < text.len() {

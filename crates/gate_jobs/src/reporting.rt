@@ -4,6 +4,7 @@ ghost use Rattle.std.specs.String.{string_bytes};
 ghost use Rattle.gate_jobs.specs.Report.{IsMade, IsReported};
 ghost use Rattle.gate_hook.specs.Lines.{MayEnd, after_lines, lines_of};
 ghost use Rattle.gate_report.specs.Queue.{queue_text_of};
+ghost use Rattle.gate_store.specs.Outlasting.{Outlasts};
 ghost use Rattle.gate_store.specs.Run.{IsOfBooks, IsOfKeepers};
 
 use gate_hook::{HookFault, send, serve_lines};
@@ -25,7 +26,7 @@ fn text_of(alloc: Global, gate: &Gate) -> Result<String, Fault>
 fn queue_of<B: Book>(alloc: Global, keeper: &mut Keeper<B>) -> Result<String, Fault>
     ensures text { B.is_sound keeper.new → IfOk result (λ text. string_bytes text ≡ queue_text_of (B.shows keeper.old).state) }
     ensures same { B.is_sound keeper.new → B.shows keeper.new ≡ B.shows keeper.old }
-    ensures was { B.is_sound keeper.new → B.is_sound keeper.old }
+    ensures outlasts { Outlasts B.Book keeper.old keeper.new }
     ensures cause { IfErr result (IsOfKeepers B.may_answer) }
     ensures fault { IfErr result IsOfBooks }
 {
@@ -44,7 +45,7 @@ fn text_after<B: Book, R: Read>(
     ensures made { (input : List ℕ) × Consumes (R.remaining reader.old) (R.remaining reader.new) input
         × (B.is_sound keeper.new → IsMade (B.shows keeper.old) result input (R.remaining reader.new) (B.shows keeper.new)) }
     ensures end { OnOk result (IsAtEnd (R.remaining reader.new)) }
-    ensures was { B.is_sound keeper.new → B.is_sound keeper.old }
+    ensures outlasts { Outlasts B.Book keeper.old keeper.new }
     ensures cause { IfErr result (MayEnd B.may_answer) }
 {
     if let Err(fault) = serve_lines(alloc, keeper, reader, &mut io::sink()) {
@@ -78,8 +79,8 @@ pub fn report<B: Book, R: Read, W: Write>(
     // A fault of the gate is one that the keeper may answer.
     ensures cause { IfErr result (MayEnd B.may_answer) }
 
-    // A book that is sound in the end was sound before.
-    ensures was { B.is_sound keeper.new → B.is_sound keeper.old }
+    // A book that is sound in the end was sound before, one that is honest was so, and one that was shielded still is.
+    ensures outlasts { Outlasts B.Book keeper.old keeper.new }
 {
     match text_after(alloc, keeper, reader) {
         Ok(text) => send(writer, text.as_bytes()),

@@ -9,6 +9,7 @@ ghost use Rattle.gate_hook.specs.Receiving.{HasTaken, IsInput};
 ghost use Rattle.gate_hook.specs.Responding.{IsTranscript};
 ghost use Rattle.gate_hook.specs.Sending.{IsCutOff};
 ghost use Rattle.gate_hook.specs.Served.{AnswersAnyhow, AnswersOne, StaysServing};
+ghost use Rattle.gate_store.specs.Outlasting.{Outlasts};
 
 use crate::accepting::Acceptor;
 use crate::fault::JobFault;
@@ -42,7 +43,8 @@ fn token_told(read: Result<Option<Token>, HookFault>) -> Result<Token, JobFault>
 /// which nothing is.
 pub fn announce<W: Write>(alloc: Global, port: u16, writer: &mut W) -> Result<(), HookFault>
     ensures ok { OnOk result (Appends (W.contents writer.old) (W.contents writer.new) (greeting port)) }
-    ensures err { IfErr result (λ fault. ((fault ≡ HookFault.Write) × IsCutOff (greeting port) (W.contents writer.old) (W.contents writer.new))
+    ensures err { IfErr result (λ fault. ((fault ≡ HookFault.Write)
+        × IsCutOff (greeting port) (W.contents writer.old) (W.contents writer.new))
         ⊎ ((fault ≡ HookFault.Gate Fault.Memory) × (W.contents writer.new ≡ W.contents writer.old))) }
 {
     let line = format!(in alloc; "listening on 127.0.0.1:{port}\n")?;
@@ -62,7 +64,8 @@ pub fn serve_request<B: Book, R: Read, W: Write>(
     // As at `serve_guarded`: what is written and the records after it, and what is taken.
     ensures served { (input : List ℕ) × IsInput (R.remaining reader.old) (R.remaining reader.new) input
         × (B.is_sound keeper.new
-        → AnswersOne (option_copied token.entry) result input (B.shows keeper.old) (B.shows keeper.new) (W.contents writer.old) (W.contents writer.new)) }
+        → AnswersOne (option_copied token.entry) result input (B.shows keeper.old) (B.shows keeper.new) (W.contents writer.old)
+        (W.contents writer.new)) }
     ensures taken { HasTaken (option_copied token.entry) (R.remaining reader.old) (R.remaining reader.new) }
 
     // Whatever comes of it, the transcript has what was taken of the input, and the response, and nothing else.
@@ -70,12 +73,11 @@ pub fn serve_request<B: Book, R: Read, W: Write>(
         (R.remaining reader.old) (R.remaining reader.new) (W.contents writer.old) (W.contents writer.new) }
 
     // A book that is sound in the end was sound before, one that is honest was so, and one that was shielded still is.
-    ensures was { B.is_sound keeper.new → B.is_sound keeper.old }
-    ensures honest { B.is_honest keeper.new → B.is_honest keeper.old }
-    ensures shield { B.is_shielded keeper.old → B.is_shielded keeper.new }
+    ensures outlasts { Outlasts B.Book keeper.old keeper.new }
 
     // Of a book that a fault may have shut.
-    ensures stays { B.is_sound keeper.old → B.is_honest keeper.new → StaysServing result (B.is_sound keeper.new) (W.contents writer.old) (W.contents writer.new) }
+    ensures stays { B.is_sound keeper.old → B.is_honest keeper.new
+        → StaysServing result (B.is_sound keeper.new) (W.contents writer.old) (W.contents writer.new) }
     ensures anyhow { B.is_honest keeper.new → B.is_sound keeper.new
         ⊎ ((input : List ℕ) × IsInput (R.remaining reader.old) (R.remaining reader.new) input
         × AnswersAnyhow (option_copied token.entry) result input (W.contents writer.old) (W.contents writer.new)) }
@@ -91,7 +93,8 @@ fn serve_next<B: Book, R: Read, W: Write, A: Acceptor<R, W>, L: Log>(
     log: &mut L,
     acceptor: &mut A,
 ) -> Result<(), JobFault>
-    ensures served { IfOk result (λ _. (connection : Connection) × ComesFirst (A.waiting acceptor.old) (A.waiting acceptor.new) connection.unread connection.blank
+    ensures served { IfOk result (λ _. (connection : Connection)
+        × ComesFirst (A.waiting acceptor.old) (A.waiting acceptor.new) connection.unread connection.blank
         × AddsText (A.ended acceptor.old) (A.ended acceptor.new) connection.written
         × AddsText (A.unread acceptor.old) (A.unread acceptor.new) connection.left
         × IsTakenAsNeeded (option_copied token.entry) connection
@@ -100,9 +103,7 @@ fn serve_next<B: Book, R: Read, W: Write, A: Acceptor<R, W>, L: Log>(
     ensures none { OnErr result ((keeper.new ≡ keeper.old) × (A.waiting acceptor.new ≡ A.waiting acceptor.old)
         × (A.ended acceptor.new ≡ A.ended acceptor.old) × (A.unread acceptor.new ≡ A.unread acceptor.old)) }
     ensures cause { IfErr result (λ fault. fault ≡ JobFault.Accept) }
-    ensures was { B.is_sound keeper.new → B.is_sound keeper.old }
-    ensures honest { B.is_honest keeper.new → B.is_honest keeper.old }
-    ensures shield { B.is_shielded keeper.old → B.is_shielded keeper.new }
+    ensures outlasts { Outlasts B.Book keeper.old keeper.new }
 {
     match acceptor.accept() {
         Ok((mut reader, mut writer)) => {
@@ -149,9 +150,7 @@ pub fn serve<B: Book, R: Read, W: Write, A: Acceptor<R, W>, L: Log>(
     ensures cause { IfErr result (λ fault. fault ≡ JobFault.Accept) }
 
     // A book that is sound in the end was sound before, one that is honest was so, and one that was shielded still is.
-    ensures was { B.is_sound keeper.new → B.is_sound keeper.old }
-    ensures honest { B.is_honest keeper.new → B.is_honest keeper.old }
-    ensures shield { B.is_shielded keeper.old → B.is_shielded keeper.new }
+    ensures outlasts { Outlasts B.Book keeper.old keeper.new }
 {
     for _ in 0..count {
         match serve_next(alloc, keeper, token, log, acceptor) {

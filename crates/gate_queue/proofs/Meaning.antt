@@ -3,13 +3,14 @@ use Rattle.std.proofs.Common.{◌≡◌, ℕ, List, ◌∷◌, Option, Some, Non
 use Rattle.std.specs.FinMap as finite
 use Rattle.std.specs.List.{All}
 use Rattle.std.specs.Option.{option_and_then, option_or}
-use Rattle.gate_queue.specs.Vocabulary.{Command, Retry, Known, Look, first_failing, asks, is_known, is_open, last_command, look, Change, Repeat, Rule, UnknownChange, NotOpen, Act, On, Said, Order, Land, State}
+use Rattle.gate_queue.specs.Vocabulary.{Command, Retry, Known, DeskView, Look, first_failing, asks, is_known, is_open, last_command, look, Change, Repeat, Rule, UnknownChange, NotOpen, Act, On, Said, Order, Land, State}
 use Rattle.gate_rules.specs.Rules.{admits, need_of_retry, is_delegate, repeated_rules}
 use Rattle.gate_rules.specs.declared.change.Repeat.TheVariants as repeat
 use Rattle.gate_rules.specs.declared.rule.Rule.TheVariants.{NotPermitted}
 use Rattle.gate_state.specs.Acts.{ActKeepsLimits}
 use Rattle.gate_queue.specs.History.{Event, IsRightOrder}
-use Rattle.gate_queue.specs.Machine.{broken, missing, denial, repeated, meaning, done, unless_denied, after}
+use Rattle.gate_queue.specs.Judging.{IsRetry}
+use Rattle.gate_queue.specs.Machine.{DeskTakesNoMemory, broken, missing, denial, repeated, meaning, done, unless_denied, after}
 use Rattle.gate_state.specs.State.{IsChange, RepeatKeepsLimits, IsState}
 use Rattle.gate_queue.proofs.Wording.{none_both}
 use Rattle.gate_queue.proofs.Choosing.{by_option}
@@ -67,6 +68,11 @@ kept_limits s is n =
 pub meaning_limits : (s : State) → IsState s → (act : Act) → ActKeepsLimits act → ActKeepsLimits (meaning (look s.desk) act)
 meaning_limits s is act limits =
     means ActKeepsLimits (look s.desk) act limits (λ n person at. repeated_limits n person (last_command (look s.desk) n) (kept_limits s is n))
+
+-- MEMORY: a `retry` takes some.
+pub retry_takes : (desk : DeskView) (act : Act) → IsRetry act → DeskTakesNoMemory desk act → ⊥
+retry_takes desk (On n (Said person (Known Retry))) is takes = takes
+retry_takes desk other is takes = is
 
 -- AN ORDER is right by the act if it is by what the act means: no command orders a landing.
 spoken_right : (events : List Event) (n : ℕ) (person : List ℕ) (command : Command) (act : Act) (order : Order) → IsRightOrder events (On n (Said person (Known command))) order → IsRightOrder events act order

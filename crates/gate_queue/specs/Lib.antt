@@ -1,6 +1,7 @@
 -- What the contracts of this crate cite. For a reader, in this order:
 --     Vocabulary the words that the others are written in
 --     Machine    the rules of facts, what each act does to the desk and the queue, its orders, and a step
+--     Judging    what is judged of an act before it steps
 --     States     that each act leads from a state to a state
 --     Following  what each deed on a change does to the batches, one by one
 --     MayChange  which people, changes and batches an act may change, and that all others stay as they are
@@ -12,6 +13,7 @@
 pub mod Before
 pub mod Following
 pub mod History
+pub mod Judging
 pub mod Machine
 pub mod MayChange
 pub mod Progress

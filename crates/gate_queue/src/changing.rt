@@ -63,7 +63,8 @@ fn keep(
     why: Why,
 ) -> Result<Orders, AllocError>
     ensures desk { OnOk result (desk.new ≡ with_change desk.old number change) }
-    ensures orders { IfOk result (λ orders. orders ≡ notice_if (was_approved && not (is_some change.approved)) number why) }
+    ensures orders { IfOk result
+        (λ orders. orders ≡ notice_if (was_approved && not (is_some change.approved)) number why) }
 {
     let has_ended = was_approved && change.approved.is_none();
     keep_ended(desk, alloc, number, has_ended, change, why)
@@ -144,7 +145,8 @@ pub fn release(
 }
 
 fn release_all(desk: &mut Desk, alloc: Global, changes: &[ChangeNo], have_landed: bool)
-    ensures { desk.new ≡ machine.all_altered (if have_landed then machine.landed else machine.with_landing false) desk.old changes.now }
+    ensures { desk.new ≡ machine.all_altered
+        (if have_landed then machine.landed else machine.with_landing false) desk.old changes.now }
 {
     for number in changes {
         release_one(desk, alloc, *number, have_landed);
@@ -239,7 +241,8 @@ pub fn open(
     author: &Name,
     head: Commit,
 ) -> Result<(), AllocError>
-    ensures { OnOk result (desk.new ≡ with_change desk.old number (machine.opened author.now head (finite.get desk.old.changes number))) }
+    ensures { OnOk result (desk.new ≡ with_change desk.old number
+        (machine.opened author.now head (finite.get desk.old.changes number))) }
 {
     let author = author.copy(alloc)?;
     let opened = match desk.change(number) {
@@ -289,7 +292,8 @@ pub fn push(
     head: Commit,
 ) -> Result<Orders, AllocError>
     ensures desk { OnOk result (desk.new ≡ altered desk.old number (machine.pushed head)) }
-    ensures orders { IfOk result (λ orders. orders ≡ notice_of desk.old number why.Pushed (ends_either (machine.pushed head))) }
+    ensures orders { IfOk result
+        (λ orders. orders ≡ notice_of desk.old number why.Pushed (ends_either (machine.pushed head))) }
     ensures no_memory { IsTrue (is_head (look desk.old) number head) → IsOk result }
 {
     let Some(change) = desk.change(number) else {
@@ -329,7 +333,8 @@ fn end_both(change: &mut Change) -> bool
 /// Closes a change, which ends its approval and its try. What has succeeded on its head is forgotten.
 pub fn close(desk: &mut Desk, alloc: Global, number: ChangeNo) -> Result<Orders, AllocError>
     ensures desk { OnOk result (desk.new ≡ altered desk.old number machine.closed) }
-    ensures orders { IfOk result (λ orders. orders ≡ notice_of desk.old number why.Closed (ends_either machine.closed)) }
+    ensures orders { IfOk result
+        (λ orders. orders ≡ notice_of desk.old number why.Closed (ends_either machine.closed)) }
     ensures no_memory { notice_of desk.old number why.Closed (ends_either machine.closed) ≡ [] → IsOk result }
 {
     let has_ended = desk.shut(number, |change| shut(change, alloc));
@@ -354,7 +359,9 @@ pub fn add_label(
     label: &Label,
 ) -> Result<Orders, AllocError>
     ensures desk { OnOk result (desk.new ≡ altered desk.old number (machine.labeled desk.old.settings label.now)) }
-    ensures orders { IfOk result (λ orders. orders ≡ notice_of desk.old number why.Labeled (ends_approval (machine.labeled desk.old.settings label.now))) }
+    ensures orders { IfOk result
+        (λ orders. orders ≡ notice_of desk.old number why.Labeled
+        (ends_approval (machine.labeled desk.old.settings label.now))) }
 {
     let Some(change) = desk.change(number) else {
         return Ok(no_orders(alloc));
@@ -402,8 +409,11 @@ pub fn review(
     person: &Name,
     approves: bool,
 ) -> Result<Orders, AllocError>
-    ensures desk { OnOk result (desk.new ≡ altered desk.old number (machine.reviewed desk.old.settings person.now approves)) }
-    ensures orders { IfOk result (λ orders. orders ≡ notice_of desk.old number why.Reviews (ends_approval (machine.reviewed desk.old.settings person.now approves))) }
+    ensures desk { OnOk result (desk.new ≡ altered desk.old number
+        (machine.reviewed desk.old.settings person.now approves)) }
+    ensures orders { IfOk result
+        (λ orders. orders ≡ notice_of desk.old number why.Reviews
+        (ends_approval (machine.reviewed desk.old.settings person.now approves))) }
 {
     let Some(change) = desk.change(number) else {
         return Ok(no_orders(alloc));

@@ -6,14 +6,16 @@ ghost use Rattle.gate_state.specs.State.{IsState};
 ghost use Rattle.gate_state.specs.Acts.{ActKeepsLimits};
 ghost use Rattle.gate_state.specs.declared.reply.Reply.TheVariants.{Denied};
 ghost use Rattle.gate_queue.specs.History.{Entry, Legal, EntryTells, entry_of};
+ghost use Rattle.gate_queue.specs.Judging.{IsJudgement, IsRetry};
 ghost use Rattle.gate_queue.specs.Machine.{DeskTakesNoMemory, QueueTakesNoMemory, RefusalMayWantMemory, Step, denial, empty_state};
 ghost use Rattle.gate_state.specs.Queue as queue_specs;
 ghost use Rattle.gate_state.specs.Service.{QueueIsInOrder};
 ghost use Rattle.gate_state.specs.Room.{HasRoom, is_full};
 
 use crate::fault::Fault;
-use crate::judging::rule_of;
+use crate::judging::{judge, rule_of};
 use crate::stepping::step;
+use crate::verdict::Judged;
 use gate_rules::{Change, Desk, Rule};
 use gate_state::{Act, Batch, MAX_NEXT, Queue, Reply, State};
 use gate_text::ChangeNo;
@@ -98,6 +100,43 @@ impl Gate {
         MAX_NEXT < self.state.queue.next + NEEDED
     }
 
+    /// What becomes of an act when it steps: the first rule of its row that fails, or what it means if all hold; on a full gate
+    /// too. `AllocError` if there is no memory to read settings, to copy a label or a status that the rule names, or to copy
+    /// what a `retry` repeats.
+    pub fn judge<'a>(&self, alloc: Global, act: &'a Act) -> Result<Judged<'a>, AllocError>
+        ensures act { IfOk result (λ judged. judged.act.now ≡ act.now) }
+        ensures verdict { IfOk result (λ judged. IsJudgement self.now act.now judged.verdict) }
+
+        // `AllocError` comes only if the rule may want memory, as those on settings may, or of a `retry`; and of a `retry` that a
+        // rule denies only if the rule may.
+        ensures cause { IfErr result (λ _. RefusalMayWantMemory act.now (denial self.now act.now) ⊎ IsRetry act.now) }
+        ensures refused { IfErr result (λ _. (rule : Rule) → denial self.now act.now ≡ Some rule
+            → RefusalMayWantMemory act.now (Some rule)) }
+        ensures no_memory { DeskTakesNoMemory self.now.desk act.now → IsOk result }
+    {
+        let verdict = judge(&self.state, alloc, act)?;
+        Ok(Judged { act, verdict })
+    }
+
+    /// Lets an act that keeps its limits step by what this gate, which isn't full, has judged of it. It answers the gate after it
+    /// and the reply. `AllocError` if there is no memory for it; then the gate is spent. A denied act takes no memory.
+    pub fn perform(self, alloc: Global, judged: Judged) -> Result<(Gate, Reply), AllocError>
+        requires limits { ActKeepsLimits judged.act.now }
+        requires judged { IsJudgement self judged.act.now judged.verdict }
+        requires room { HasRoom self.queue }
+        ensures step { IfOk result (λ done. Step self judged.entry.act.now done.1 done.0) }
+        ensures history { IfOk result (λ done. (history : List Entry) → Legal history self
+            → EntryTells history self (entry_of judged.entry.act.now done.1) done.0) }
+        ensures denied { IfOk result (λ done. (rule : Rule) → done.1 ≡ Denied rule → done.0 ≡ self) }
+        ensures refused { IfErr result (λ _. denial self judged.entry.act.now ≡ None) }
+        ensures no_memory { DeskTakesNoMemory self.desk judged.entry.act.now
+            → QueueTakesNoMemory self judged.entry.act.now → IsOk result }
+    {
+        let Gate { state } = self;
+        let (state, reply) = step(state, alloc, judged.act, judged.verdict)?;
+        Ok((Gate { state }, reply))
+    }
+
     /// Lets an act that keeps its limits step, and answers the gate after it and the reply. `Full` if the next number is
     /// above 8,999,999,999,999,996, whatever the act is; else the one fault is `Memory`. After a fault the gate is spent.
     pub fn act(self, alloc: Global, act: &Act) -> Result<(Gate, Reply), Fault>
@@ -107,7 +146,8 @@ impl Gate {
         ensures step { IfOk result (λ done. Step self act.now done.1 done.0) }
 
         // What the entry tells, after every history that led to the state.
-        ensures history { IfOk result (λ done. (history : List Entry) → Legal history self → EntryTells history self (entry_of act.now done.1) done.0) }
+        ensures history { IfOk result (λ done. (history : List Entry) → Legal history self
+            → EntryTells history self (entry_of act.now done.1) done.0) }
 
         // An act that a rule denies changes nothing, and its reply has no orders.
         ensures denied { IfOk result (λ done. (rule : Rule) → done.1 ≡ Denied rule → done.0 ≡ self) }
@@ -115,19 +155,18 @@ impl Gate {
         // The faults. An act that a rule denies meets `Memory` only if the rule itself may want memory.
         ensures full { (result ≡ Err Fault.Full) ↔ (is_full self.queue ≡ true) }
         ensures cause { IfErr result (λ fault. (fault ≡ Fault.Memory) ⊎ (fault ≡ Fault.Full)) }
-        ensures refused { IfErr result (λ fault. fault ≡ Fault.Memory → (rule : Rule) → denial self act.now ≡ Some rule → RefusalMayWantMemory act.now (Some rule)) }
+        ensures refused { IfErr result (λ fault. fault ≡ Fault.Memory → (rule : Rule) → denial self act.now ≡ Some rule
+            → RefusalMayWantMemory act.now (Some rule)) }
 
         // An act that allocates nothing is always answered, if the gate isn't full.
-        ensures no_memory { HasRoom self.queue → DeskTakesNoMemory self.desk act.now → QueueTakesNoMemory self act.now → IsOk result }
+        ensures no_memory { HasRoom self.queue → DeskTakesNoMemory self.desk act.now → QueueTakesNoMemory self act.now
+            → IsOk result }
     {
         if self.is_full() {
             return Err(Fault::Full);
         }
-        let Gate { state } = self;
-        match step(state, alloc, act) {
-            Ok((state, reply)) => Ok((Gate { state }, reply)),
-            Err(_) => Err(Fault::Memory),
-        }
+        let judged = self.judge(alloc, act)?;
+        Ok(self.perform(alloc, judged)?)
     }
 
     /// The rule that would deny the act: the first of its row that fails, and nothing if all hold; on a full gate too.

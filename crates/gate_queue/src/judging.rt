@@ -1,18 +1,74 @@
-ghost use Rattle.std.specs.Prelude.{◌≡◌, ◌||◌, [], IfOk, IfErr, IsOk};
+ghost use Rattle.std.specs.Prelude.{◌≡◌, ◌||◌, ◌⊎◌, [], Ok, Some, IfOk, IfErr, IsOk};
 ghost use Rattle.gate_text.specs.Settings.{settings_of};
 ghost use Rattle.gate_rules.specs.Rules.{first_failing};
 ghost use Rattle.gate_rules.specs.View.{is_open_head, look};
 ghost use Rattle.gate_rules.specs.Rules.{MayWantMemory};
+ghost use Rattle.gate_rules.specs.declared.rule.Rule.{Rule};
 ghost use Rattle.gate_state.specs.declared.act.Act.TheVariants.{Other};
 ghost use Rattle.gate_state.specs.declared.act.Deed.TheVariants.{Happened};
 ghost use Rattle.gate_state.specs.declared.act.Fact.TheVariants as facts;
+ghost use Rattle.gate_state.specs.declared.state.State.{State as StateOf};
+ghost use Rattle.gate_queue.specs.Judging.{IsJudgement, IsMeant, IsRetry};
 ghost use Rattle.gate_queue.specs.Machine as machine;
 ghost use Rattle.gate_queue.specs.Machine.{RefusalMayWantMemory, DeedTakesNoMemory, DeskTakesNoMemory, FactTakesNoMemory, denial, bad_settings, deed_row, fact_row, is_ordered, is_staged_with, of_open_change, opening_row, review_row};
 
+use crate::repeating::repeated_act;
+use crate::verdict::Verdict;
 use gate_rules::{Desk, Rule};
-use gate_state::{Act, ChangeFact, Deed, Fact, Lane, Queue, Stage};
-use gate_text::{ChangeNo, Commit, Name, SettingsFault, Text, read_settings};
+use gate_state::{Act, ChangeFact, Deed, Fact, Lane, Queue, Stage, State};
+use gate_text::{ChangeNo, Commit, Name, Settings, SettingsFault, Text, read_settings};
 use std::alloc::{AllocError, Global};
+
+/// What is judged of an act: the rule that denies it, or what it means if none does. `AllocError` if there is no memory for it.
+pub fn judge(state: &State, alloc: Global, act: &Act) -> Result<Verdict, AllocError>
+    ensures value { IfOk result (λ verdict. IsJudgement state.now act.now verdict) }
+    ensures refused { IfErr result (λ _. (rule : Rule) → denial state.now act.now ≡ Some rule
+        → RefusalMayWantMemory act.now (Some rule)) }
+    ensures cause { IfErr result (λ _. RefusalMayWantMemory act.now (denial state.now act.now) ⊎ IsRetry act.now) }
+    ensures no_memory { DeskTakesNoMemory state.now.desk act.now → IsOk result }
+{
+    match act {
+        Act::Other(Fact::Settings { text }) => judge_settings(alloc, text),
+        _ => match rule_of(&state.desk, &state.queue, alloc, act)? {
+            Some(rule) => Ok(Verdict::Denied(rule)),
+            None => judge_meaning(&state.desk, alloc, act),
+        },
+    }
+}
+
+// What is judged of an act that no rule denies and that brings no settings.
+fn judge_meaning(desk: &Desk, alloc: Global, act: &Act) -> Result<Verdict, AllocError>
+    ensures value { IfOk result (IsMeant (look desk.now) act.now) }
+    ensures cause { IfErr result (λ _. IsRetry act.now) }
+    ensures no_memory { DeskTakesNoMemory desk.now act.now → IsOk result }
+{
+    Ok(match repeated_act(desk, alloc, act)? {
+        Some(repeated) => Verdict::Repeats(repeated),
+        None => Verdict::Stands,
+    })
+}
+
+// What is judged of a text of settings.
+fn judge_settings(alloc: Global, text: &Text) -> Result<Verdict, AllocError>
+    ensures { IfOk result (λ verdict. (state : StateOf) → IsJudgement state (Other (facts.Settings text.now)) verdict) }
+{
+    match settings_in(alloc, text)? {
+        Ok(settings) => Ok(Verdict::Sets(settings)),
+        Err(rule) => Ok(Verdict::Denied(rule)),
+    }
+}
+
+// The settings of a text, or the rule that denies it.
+fn settings_in(alloc: Global, text: &Text) -> Result<Result<Settings, Rule>, AllocError>
+    ensures settings { IfOk result (λ read. IfOk read (λ settings. settings_of text.now ≡ Ok settings)) }
+    ensures rule { IfOk result (λ read. IfErr read (λ rule. bad_settings (settings_of text.now) ≡ Some rule)) }
+{
+    match read_settings(alloc, text.as_str()) {
+        Ok(settings) => Ok(Ok(settings)),
+        Err(SettingsFault::Memory) => Err(AllocError),
+        Err(fault) => Ok(Err(Rule::BadSettings(fault.number()))),
+    }
+}
 
 /// The rule that denies an act: the first of its row that fails, and nothing if all hold. `AllocError` if there is
 /// no memory to read settings, or to copy a label or a status that the rule names.
@@ -23,7 +79,8 @@ pub fn rule_of(
     act: &Act,
 ) -> Result<Option<Rule>, AllocError>
     ensures value { IfOk result (λ rule. rule ≡ denial (record { desk = desk.now; queue = queue.now }) act.now) }
-    ensures cause { IfErr result (λ _. RefusalMayWantMemory act.now (denial (record { desk = desk.now; queue = queue.now }) act.now)) }
+    ensures cause { IfErr result
+        (λ _. RefusalMayWantMemory act.now (denial (record { desk = desk.now; queue = queue.now }) act.now)) }
     ensures no_memory { DeskTakesNoMemory desk.now act.now → IsOk result }
 {
     match act {
@@ -70,8 +127,11 @@ fn fact_rule(
     alloc: Global,
     fact: &Fact,
 ) -> Result<Option<Rule>, AllocError>
-    ensures value { IfOk result (λ rule. rule ≡ denial (record { desk = desk.now; queue = queue.now }) (Other fact.now)) }
-    ensures cause { IfErr result (λ _. RefusalMayWantMemory (Other fact.now) (denial (record { desk = desk.now; queue = queue.now }) (Other fact.now))) }
+    ensures value { IfOk result
+        (λ rule. rule ≡ denial (record { desk = desk.now; queue = queue.now }) (Other fact.now)) }
+    ensures cause { IfErr result
+        (λ _. RefusalMayWantMemory (Other fact.now)
+        (denial (record { desk = desk.now; queue = queue.now }) (Other fact.now))) }
     ensures no_memory { FactTakesNoMemory desk.now fact.now → IsOk result }
 {
     match fact {
@@ -182,10 +242,9 @@ fn opening_rule(desk: &Desk, change: ChangeNo) -> Option<Rule>
 fn settings_rule(alloc: Global, text: &Text) -> Result<Option<Rule>, AllocError>
     ensures { IfOk result (λ rule. rule ≡ bad_settings (settings_of text.now)) }
 {
-    match read_settings(alloc, text.as_str()) {
+    match settings_in(alloc, text)? {
         Ok(_) => Ok(None),
-        Err(SettingsFault::Memory) => Err(AllocError),
-        Err(fault) => Ok(Some(Rule::BadSettings(fault.number()))),
+        Err(rule) => Ok(Some(rule)),
     }
 }
 

@@ -16,6 +16,7 @@ mod settings;
 mod stepping;
 mod ticking;
 mod touching;
+mod verdict;
 
 pub use before::Before;
 pub use fault::Fault;
@@ -26,6 +27,7 @@ pub use laws::{
     law_of_the_last, law_of_the_queue, law_of_time_outs, law_of_untouched, law_of_waiting,
 };
 pub use settings::LosesApproval;
+pub use verdict::{Judged, Verdict};
 
 // What a gate takes and gives, and what it is made of and shows, so that who uses it needs no other crate for that.
 pub use gate_state::{

@@ -60,8 +60,14 @@ pub fn follow(
     before: Mark,
 ) -> Result<Queue, AllocError>
     requires { HasRoom queue }
-    ensures value { IfOk result (λ after. after ≡ tried_by before.trying (trying_on desk.now change) change (followed before.approved (approved_on desk.now change) (not (int_eq before.priority (priority_on desk.now change))) (machine.size_on desk.now) (priority_on desk.now change) change queue)) }
-    ensures no_memory { (needs_no_move before.approved (approved_on desk.now change) (not (int_eq before.priority (priority_on desk.now change))) && beq before.trying (trying_on desk.now change)) ≡ true → IsOk result }
+    ensures value { IfOk result
+        (λ after. after ≡ tried_by before.trying (trying_on desk.now change) change
+        (followed before.approved (approved_on desk.now change)
+        (not (int_eq before.priority (priority_on desk.now change))) (machine.size_on desk.now)
+        (priority_on desk.now change) change queue)) }
+    ensures no_memory { (needs_no_move before.approved (approved_on desk.now change)
+        (not (int_eq before.priority (priority_on desk.now change)))
+        && beq before.trying (trying_on desk.now change)) ≡ true → IsOk result }
 {
     let now = mark_on(desk, change);
     let queue = follow_approval(queue, alloc, desk, change, before, now)?;
@@ -78,9 +84,12 @@ fn follow_approval(
     now: Mark,
 ) -> Result<Queue, AllocError>
     requires { HasRoom queue }
-    ensures value { IfOk result (λ after. after ≡ followed before.approved now.approved (not (int_eq before.priority now.priority)) (machine.size_on desk.now) now.priority change queue) }
+    ensures value { IfOk result
+        (λ after. after ≡ followed before.approved now.approved (not (int_eq before.priority now.priority))
+        (machine.size_on desk.now) now.priority change queue) }
     ensures room { IfOk result (λ after. HasRoomFor 1 after) }
-    ensures no_memory { needs_no_move before.approved now.approved (not (int_eq before.priority now.priority)) ≡ true → IsOk result }
+    ensures no_memory { needs_no_move before.approved now.approved (not (int_eq before.priority now.priority)) ≡ true
+        → IsOk result }
 {
     if !before.approved {
         if now.approved {
@@ -106,7 +115,9 @@ fn enqueue_anew(
     priority: i32,
 ) -> Result<Queue, AllocError>
     requires { HasRoom queue }
-    ensures value { IfOk result (λ after. after ≡ queue_specs.enqueued (machine.size_on desk.now) priority change (queue_specs.taken_out Staging (machine.all_but change) queue)) }
+    ensures value { IfOk result
+        (λ after. after ≡ queue_specs.enqueued (machine.size_on desk.now) priority change
+        (queue_specs.taken_out Staging (machine.all_but change) queue)) }
     ensures room { IfOk result (λ after. HasRoomFor 1 after) }
 {
     let queue = queue.take_out(Branch::Staging, &AllBut { change })?;
@@ -122,7 +133,8 @@ fn enqueue(
     priority: i32,
 ) -> Result<Queue, AllocError>
     requires { HasRoomFor 2 queue }
-    ensures value { IfOk result (λ after. after ≡ queue_specs.enqueued (machine.size_on desk.now) priority change queue) }
+    ensures value { IfOk result
+        (λ after. after ≡ queue_specs.enqueued (machine.size_on desk.now) priority change queue) }
     ensures room { IfOk result (λ after. HasRoomFor 1 after) }
 {
     queue.enqueue(alloc, change, priority, size_on(desk))

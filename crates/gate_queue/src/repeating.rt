@@ -1,10 +1,11 @@
-ghost use Rattle.std.specs.Prelude.{◌≡◌, IfOk, Ok, Some, None};
+ghost use Rattle.std.specs.Prelude.{◌≡◌, IfErr, IfOk, IfSome, Ok, Some, None};
 ghost use Rattle.std.specs.Option.{unwrap_or};
 ghost use Rattle.gate_rules.specs.View.{look};
 ghost use Rattle.gate_text.specs.declared.command.Command.TheVariants as command;
 ghost use Rattle.gate_text.specs.declared.command.Spoken.TheVariants.{Known};
 ghost use Rattle.gate_state.specs.declared.act.Act.TheVariants.{On};
 ghost use Rattle.gate_state.specs.declared.act.Deed.TheVariants.{Said};
+ghost use Rattle.gate_queue.specs.Judging.{IsRetry};
 ghost use Rattle.gate_queue.specs.Machine as machine;
 
 use gate_rules::{Desk, Repeat};
@@ -16,6 +17,8 @@ use std::alloc::{AllocError, Global};
 /// itself, and if there is nothing to repeat. `AllocError` if there is no memory for it; any other act takes none.
 pub fn repeated_act(desk: &Desk, alloc: Global, act: &Act) -> Result<Option<Act>, AllocError>
     ensures value { IfOk result (λ repeated. unwrap_or repeated act.now ≡ machine.meaning (look desk.now) act.now) }
+    ensures retry { IfOk result (λ repeated. IfSome repeated (λ _. IsRetry act.now)) }
+    ensures cause { IfErr result (λ _. IsRetry act.now) }
     ensures no_memory { machine.DeskTakesNoMemory desk.now act.now → result ≡ Ok None }
 {
     match act {
@@ -36,7 +39,9 @@ fn repeated_line(
     change: ChangeNo,
     person: &Name,
 ) -> Result<Option<Act>, AllocError>
-    ensures value { IfOk result (λ repeated. unwrap_or repeated (On change (Said person.now (Known command.Retry))) ≡ machine.meaning (look desk.now) (On change (Said person.now (Known command.Retry)))) }
+    ensures value { IfOk result
+        (λ repeated. unwrap_or repeated (On change (Said person.now (Known command.Retry)))
+        ≡ machine.meaning (look desk.now) (On change (Said person.now (Known command.Retry)))) }
 {
     let Some(repeat) = desk.last_command(change) else {
         return Ok(None);

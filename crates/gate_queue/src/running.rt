@@ -99,8 +99,10 @@ pub fn take_status(
     said: StatusState,
 ) -> Result<Outcome, AllocError>
     requires { HasRoom state.queue }
-    ensures value { IfOk result (λ outcome. outcome ≡ machine.told commit name.now said (machine.heads_told commit name.now said state)) }
-    ensures no_memory { is_required state.desk.settings name.now ≡ false → is_open_head commit state.desk ≡ false → IsOk result }
+    ensures value { IfOk result
+        (λ outcome. outcome ≡ machine.told commit name.now said (machine.heads_told commit name.now said state)) }
+    ensures no_memory { is_required state.desk.settings name.now ≡ false → is_open_head commit state.desk ≡ false
+        → IsOk result }
 {
     let State { mut desk, queue } = state;
     tell_heads(&mut desk, alloc, commit, name, is_good(said))?;
@@ -217,7 +219,8 @@ fn have_succeeded(reports: &Reports, names: &[Context]) -> bool
 
 // Has the running batch of a branch land, or ends it as a try that has passed, if all required statuses have succeeded.
 fn if_passed(branch: Branch, state: State, alloc: Global) -> Result<Outcome, AllocError>
-    ensures { IfOk result (λ outcome. outcome ≡ machine.if_passed branch state (queue_specs.lane_of branch state.queue).running) }
+    ensures { IfOk result
+        (λ outcome. outcome ≡ machine.if_passed branch state (queue_specs.lane_of branch state.queue).running) }
 {
     match &state.queue.lane(branch).running {
         Some(batch) if has_passed(&state.desk, &batch.stage) => match branch {

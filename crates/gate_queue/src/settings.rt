@@ -1,5 +1,4 @@
 ghost use Rattle.std.specs.Prelude.{◌≡◌, Ok, IfOk};
-ghost use Rattle.gate_text.specs.Settings.{settings_of};
 ghost use Rattle.gate_state.specs.declared.reply.Order.TheVariants.{Notice};
 ghost use Rattle.gate_state.specs.declared.reply.Why.TheVariants as why;
 ghost use Rattle.gate_queue.specs.Machine as machine;
@@ -11,7 +10,7 @@ ghost use Rattle.gate_state.specs.Room.{HasRoom, HasRoomFor};
 use crate::outcome::{Outcome, quiet};
 use gate_rules::{Change, Condition, Desk, has_too_few_reviews, is_blocked};
 use gate_state::{Approved, Branch, Order, Orders, Queue, State, Why};
-use gate_text::{ChangeNo, Settings, SettingsFault, Text, read_settings};
+use gate_text::{ChangeNo, Settings};
 use std::alloc::{AllocError, Global};
 
 /// That settings end the approval of a change: it is approved, and has a blocking label or too few reviews under them.
@@ -30,16 +29,19 @@ impl Condition for LosesApproval<'_> {
     }
 }
 
-/// Takes the settings of a text, unless they are the present ones. `AllocError` if there is no memory for it.
-pub fn accept_settings(state: State, alloc: Global, text: &Text) -> Result<Outcome, AllocError>
+/// Takes settings that a text brought, unless they are the present ones. `AllocError` if there is no memory for it.
+pub fn accept_settings(
+    state: State,
+    alloc: Global,
+    settings: Settings,
+) -> Result<Outcome, AllocError>
     requires { HasRoom state.queue }
-    ensures value { IfOk result (λ outcome. outcome ≡ machine.accepted state (settings_of text.now)) }
+    ensures value { IfOk result (λ outcome. outcome ≡ machine.accepted state (Ok settings)) }
 {
-    match read_settings(alloc, text.as_str()) {
-        Ok(settings) if are_present(&state.desk, &settings) => Ok(quiet(state, alloc)),
-        Ok(settings) => take_settings(state, alloc, settings),
-        Err(SettingsFault::Memory) => Err(AllocError),
-        Err(_) => Ok(quiet(state, alloc)),
+    if are_present(&state.desk, &settings) {
+        Ok(quiet(state, alloc))
+    } else {
+        take_settings(state, alloc, settings)
     }
 }
 

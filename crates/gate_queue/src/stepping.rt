@@ -1,57 +1,62 @@
-ghost use Rattle.std.specs.Prelude.{◌≡◌, true, false, is_none, Some, IfOk, IfErr, IsNone, IsOk};
+ghost use Rattle.std.specs.Prelude.{◌≡◌, true, false, is_none, IfOk, IfErr, IsNone, IsOk};
 ghost use Rattle.gate_rules.specs.View.{look};
-ghost use Rattle.gate_rules.specs.declared.rule.Rule.{Rule};
 ghost use Rattle.gate_state.specs.declared.act.Act.TheVariants.{On, Other};
+ghost use Rattle.gate_queue.specs.Judging.{IsJudgement, brought};
 ghost use Rattle.gate_queue.specs.Machine as machine;
-ghost use Rattle.gate_queue.specs.Machine.{DeedTakesNoMemory, DeskTakesNoMemory, QueueTakesNoMemory, RefusalMayWantMemory, Step, broken, denial, effect, is_unmoved_on};
+ghost use Rattle.gate_queue.specs.Machine.{DeedTakesNoMemory, DeskTakesNoMemory, QueueTakesNoMemory, Step, broken, denial, effect, is_unmoved_on};
 ghost use Rattle.gate_state.specs.Queue.{staged};
+ghost use Rattle.gate_state.specs.declared.reply.Reply.TheVariants.{Done};
 ghost use Rattle.gate_state.specs.declared.reply.Why.TheVariants as why;
 ghost use Rattle.gate_state.specs.Room.{HasRoom, HasRoomFor};
 
-use crate::judging::{has_ordered, rule_of};
+use crate::judging::has_ordered;
 use crate::marks::{follow, mark_on};
 use crate::outcome::{Outcome, quiet};
 use crate::performing::perform;
-use crate::repeating::repeated_act;
 use crate::running::{fail, send_back, take_status};
 use crate::settings::accept_settings;
 use crate::ticking::tick;
+use crate::verdict::Verdict;
 use gate_rules::Desk;
 use gate_state::{Act, Branch, Deed, Fact, Lane, Queue, Reply, Stage, State, Tried, Why};
 use gate_text::{ChangeNo, Commit};
 use std::alloc::{AllocError, Global};
 
-/// Lets an act step: the state after it, and its reply. `AllocError` if there is no memory for it.
-pub fn step(state: State, alloc: Global, act: &Act) -> Result<(State, Reply), AllocError>
-    requires { HasRoom state.queue }
-    ensures step { IfOk result (λ done. Step state act.now done.1 done.0) }
-    ensures refused { IfErr result (λ _. (rule : Rule) → denial state act.now ≡ Some rule → RefusalMayWantMemory act.now (Some rule)) }
-    ensures no_memory { DeskTakesNoMemory state.desk act.now → QueueTakesNoMemory state act.now → IsOk result }
-{
-    if let Some(rule) = rule_of(&state.desk, &state.queue, alloc, act)? {
-        return Ok((state, Reply::Denied(rule)));
-    }
-    let outcome = act_as_meant(state, alloc, act)?;
-    Ok((outcome.state, Reply::Done(outcome.orders)))
-}
-
-// What an act that no rule denies comes to. A `retry` comes to what the repeated command does.
-fn act_as_meant(state: State, alloc: Global, act: &Act) -> Result<Outcome, AllocError>
+/// Lets an act step by what was judged of it: the state after it, and its reply. `AllocError` if there is no memory for it; an act
+/// that a rule denies takes none.
+pub fn step(
+    state: State,
+    alloc: Global,
+    act: &Act,
+    verdict: Verdict,
+) -> Result<(State, Reply), AllocError>
     requires room { HasRoom state.queue }
-    requires holds { IsNone (denial state act.now) }
-    ensures value { IfOk result (λ outcome. outcome ≡ machine.acted state act.now) }
+    requires judged { IsJudgement state act.now verdict }
+    ensures step { IfOk result (λ done. Step state act.now done.1 done.0) }
+    ensures holds { IfErr result (λ _. IsNone (denial state act.now)) }
     ensures no_memory { DeskTakesNoMemory state.desk act.now → QueueTakesNoMemory state act.now → IsOk result }
 {
-    match repeated_act(&state.desk, alloc, act)? {
-        Some(repeated) => act_on(state, alloc, &repeated),
-        None => act_on(state, alloc, act),
+    match verdict {
+        Verdict::Denied(rule) => Ok((state, Reply::Denied(rule))),
+        Verdict::Sets(settings) => Ok(done(accept_settings(state, alloc, settings)?)),
+        Verdict::Repeats(repeated) => Ok(done(act_on(state, alloc, &repeated)?)),
+        Verdict::Stands => Ok(done(act_on(state, alloc, act)?)),
     }
 }
 
-// What an act comes to that no rule denies and that means itself.
+// The state and the reply that are the outcome of an act.
+fn done(outcome: Outcome) -> (State, Reply)
+    ensures state { result.0 ≡ outcome.state }
+    ensures reply { result.1 ≡ Done outcome.orders }
+{
+    (outcome.state, Reply::Done(outcome.orders))
+}
+
+// What an act comes to that no rule denies, that means itself and that brings no settings.
 fn act_on(state: State, alloc: Global, act: &Act) -> Result<Outcome, AllocError>
     requires room { HasRoom state.queue }
     requires holds { IsNone (denial state act.now) }
+    requires brings { IsNone (brought act.now) }
     ensures value { IfOk result (λ outcome. outcome ≡ machine.done state act.now) }
     ensures no_memory { DeskTakesNoMemory state.desk act.now → QueueTakesNoMemory state act.now → IsOk result }
 {
@@ -71,7 +76,8 @@ fn act_on_change(
     requires room { HasRoom state.queue }
     requires holds { IsNone (broken (look state.desk) (On change deed.now)) }
     ensures value { IfOk result (λ outcome. outcome ≡ machine.about state change deed.now) }
-    ensures no_memory { DeedTakesNoMemory state.desk change deed.now → is_unmoved_on state.desk (effect state.desk change deed.now) change ≡ true → IsOk result }
+    ensures no_memory { DeedTakesNoMemory state.desk change deed.now
+        → is_unmoved_on state.desk (effect state.desk change deed.now) change ≡ true → IsOk result }
 {
     let State { mut desk, queue } = state;
     let before = mark_on(&desk, change);
@@ -83,12 +89,14 @@ fn act_on_change(
     })
 }
 
-// What a fact comes to that is about no change, and that no rule denies.
+// What a fact comes to that is about no change, that no rule denies and that brings no settings.
 fn take_fact(state: State, alloc: Global, fact: &Fact) -> Result<Outcome, AllocError>
     requires room { HasRoom state.queue }
     requires holds { IsNone (denial state (Other fact.now)) }
+    requires brings { IsNone (brought (Other fact.now)) }
     ensures value { IfOk result (λ outcome. outcome ≡ machine.fact_done state fact.now) }
-    ensures no_memory { DeskTakesNoMemory state.desk (Other fact.now) → QueueTakesNoMemory state (Other fact.now) → IsOk result }
+    ensures no_memory { DeskTakesNoMemory state.desk (Other fact.now) → QueueTakesNoMemory state (Other fact.now)
+        → IsOk result }
 {
     match fact {
         Fact::Role { person, role } => {
@@ -96,7 +104,7 @@ fn take_fact(state: State, alloc: Global, fact: &Fact) -> Result<Outcome, AllocE
             desk.set_role(alloc, person, *role)?;
             Ok(quiet(State { desk, queue }, alloc))
         }
-        Fact::Settings { text } => accept_settings(state, alloc, text),
+        Fact::Settings { .. } => unreachable!(),
         Fact::Base { commit } => Ok(quiet(move_base(state, alloc, *commit)?, alloc)),
         Fact::Staged { batch, commit } => Ok(quiet(stage(state, alloc, *batch, *commit), alloc)),
         Fact::Conflict { batch } => fail_ordered(state, alloc, *batch),
@@ -168,7 +176,8 @@ fn ordered_on(queue: &Queue, number: u64) -> Branch
 
 // The host has made the staging commit of the batch that it was ordered to stage.
 fn stage(state: State, alloc: Global, number: u64, commit: Commit) -> State
-    ensures { result ≡ machine.with_queue state (staged (machine.ordered_on number state.queue) state.desk.clock commit state.queue) }
+    ensures { result ≡ machine.with_queue state
+        (staged (machine.ordered_on number state.queue) state.desk.clock commit state.queue) }
 {
     let State { desk, queue } = state;
     let branch = ordered_on(&queue, number);
@@ -179,7 +188,8 @@ fn stage(state: State, alloc: Global, number: u64, commit: Commit) -> State
 // The host can't merge the changes of the batch that it was ordered to stage.
 fn fail_ordered(state: State, alloc: Global, number: u64) -> Result<Outcome, AllocError>
     requires { HasRoom state.queue }
-    ensures { IfOk result (λ outcome. outcome ≡ machine.failing (machine.ordered_on number state.queue) why.Conflict state) }
+    ensures { IfOk result
+        (λ outcome. outcome ≡ machine.failing (machine.ordered_on number state.queue) why.Conflict state) }
 {
     let branch = ordered_on(&state.queue, number);
     fail(branch, state, alloc, Why::Conflict)

@@ -19,8 +19,11 @@ use std::alloc::{AllocError, Global};
 pub fn tick(state: State, alloc: Global, now: u64) -> Result<Outcome, AllocError>
     requires clock { state.desk.clock ≤ now }
     requires room { HasRoom state.queue }
-    ensures value { IfOk result (λ outcome. outcome ≡ machine.then_next (machine.on_both (machine.timed_out now) (machine.with_desk state (with_clock state.desk now))) (machine.on_both (machine.starting now))) }
-    ensures no_memory { IsIdle now state.desk state.queue.staging → IsIdle now state.desk state.queue.trying → IsOk result }
+    ensures value { IfOk result
+        (λ outcome. outcome ≡ machine.then_next (machine.on_both (machine.timed_out now)
+        (machine.with_desk state (with_clock state.desk now))) (machine.on_both (machine.starting now))) }
+    ensures no_memory { IsIdle now state.desk state.queue.staging → IsIdle now state.desk state.queue.trying
+        → IsOk result }
 {
     let State { mut desk, queue } = state;
     desk.set_clock(now);
@@ -33,7 +36,8 @@ pub fn tick(state: State, alloc: Global, now: u64) -> Result<Outcome, AllocError
 fn end_on_time(state: State, alloc: Global, now: u64) -> Result<Outcome, AllocError>
     requires { HasRoom state.queue }
     ensures value { IfOk result (λ outcome. outcome ≡ machine.on_both (machine.timed_out now) state) }
-    ensures no_memory { machine.has_overdue now state.desk.settings state.queue.staging ≡ false → machine.has_overdue now state.desk.settings state.queue.trying ≡ false → result ≡ Ok (machine.quiet state) }
+    ensures no_memory { machine.has_overdue now state.desk.settings state.queue.staging ≡ false
+        → machine.has_overdue now state.desk.settings state.queue.trying ≡ false → result ≡ Ok (machine.quiet state) }
 {
     let first = time_out(Branch::Staging, state, alloc, now)?;
     let next = time_out(Branch::Trying, first.state, alloc, now)?;
@@ -44,7 +48,8 @@ fn end_on_time(state: State, alloc: Global, now: u64) -> Result<Outcome, AllocEr
 fn time_out(branch: Branch, state: State, alloc: Global, now: u64) -> Result<Outcome, AllocError>
     requires { HasRoomToEnd branch state.queue }
     ensures value { IfOk result (λ outcome. outcome ≡ machine.timed_out now branch state) }
-    ensures no_memory { machine.has_overdue now state.desk.settings (lane_of branch state.queue) ≡ false → result ≡ Ok (machine.quiet state) }
+    ensures no_memory { machine.has_overdue now state.desk.settings (lane_of branch state.queue) ≡ false
+        → result ≡ Ok (machine.quiet state) }
 {
     if has_overdue(&state.desk, now, state.queue.lane(branch)) {
         fail(branch, state, alloc, Why::TimedOut)
@@ -79,7 +84,8 @@ fn is_overdue(desk: &Desk, now: u64, stage: &Stage) -> bool
 // Orders the first waiting batch of each branch, if none runs there.
 fn start_all(state: State, alloc: Global, now: u64) -> Result<Outcome, AllocError>
     ensures value { IfOk result (λ outcome. outcome ≡ machine.on_both (machine.starting now) state) }
-    ensures no_memory { machine.stage_orders state.desk state.queue.staging ≡ [] → machine.stage_orders state.desk state.queue.trying ≡ [] → IsOk result }
+    ensures no_memory { machine.stage_orders state.desk state.queue.staging ≡ []
+        → machine.stage_orders state.desk state.queue.trying ≡ [] → IsOk result }
 {
     let first = start(Branch::Staging, state, alloc, now)?;
     let next = start(Branch::Trying, first.state, alloc, now)?;

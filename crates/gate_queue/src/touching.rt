@@ -106,7 +106,9 @@ fn front(alloc: Global, lane: &Lane) -> Result<Vec<u64>, AllocError>
 /// The numbers of the batches of a branch that lose a change if only the chosen ones stay. `AllocError` if there is no memory for
 /// them.
 pub fn that_lose<C: Choice>(alloc: Global, lane: &Lane, choice: &C) -> Result<Vec<u64>, AllocError>
-    ensures { IfOk result (λ numbers. numbers.items ≡ touching.numbers_so (lanes.loses (λ change. C.chooses change choice.now)) (lanes.batches_of lane.now)) }
+    ensures { IfOk result
+        (λ numbers. numbers.items ≡ touching.numbers_so (lanes.loses
+        (λ change. C.chooses change choice.now)) (lanes.batches_of lane.now)) }
 {
     let mut numbers = Vec::new(alloc);
     push_losing(&mut numbers, lane, choice)?;
@@ -132,7 +134,8 @@ pub fn that_may_settle(
 
 // Adds the numbers of the batches of a branch that lose a change if only the chosen ones stay.
 fn push_losing<C: Choice>(numbers: &mut Vec<u64>, lane: &Lane, choice: &C) -> Result<(), AllocError>
-    ensures { OnOk result (numbers.new.items ≡ numbers.old.items ++ touching.numbers_so (lanes.loses (λ change. C.chooses change choice.now)) (lanes.batches_of lane.now)) }
+    ensures { OnOk result (numbers.new.items ≡ numbers.old.items ++ touching.numbers_so (lanes.loses
+        (λ change. C.chooses change choice.now)) (lanes.batches_of lane.now)) }
 {
     if let Some(batch) = &lane.running {
         push_if_losing(numbers, batch, choice)?;
@@ -147,7 +150,8 @@ fn push_that_lose<C: Choice>(
     batches: &[Batch],
     choice: &C,
 ) -> Result<(), AllocError>
-    ensures { OnOk result (numbers.new.items ≡ numbers.old.items ++ touching.numbers_so (lanes.loses (λ change. C.chooses change choice.now)) batches.now) }
+    ensures { OnOk result (numbers.new.items ≡ numbers.old.items ++ touching.numbers_so (lanes.loses
+        (λ change. C.chooses change choice.now)) batches.now) }
 {
     for batch in batches {
         push_if_losing(numbers, batch, choice)?;
@@ -161,7 +165,8 @@ fn push_if_losing<C: Choice>(
     batch: &Batch,
     choice: &C,
 ) -> Result<(), AllocError>
-    ensures { OnOk result (numbers.new.items ≡ numbers.old.items ++ touching.numbers_so (lanes.loses (λ change. C.chooses change choice.now)) (batch.now ∷ [])) }
+    ensures { OnOk result (numbers.new.items ≡ numbers.old.items ++ touching.numbers_so (lanes.loses
+        (λ change. C.chooses change choice.now)) (batch.now ∷ [])) }
 {
     if batch.loses(choice) {
         numbers.push(batch.number)?;

@@ -40,8 +40,10 @@ pub fn changes_since(
     before: &Before,
     gate: &Gate,
 ) -> Result<Vec<RowChange>, AllocError>
-    ensures value { (old : StateOf) → AreStates before.now old gate.now → IfOk result (λ changes. changes.items ≡ parts.changes_since before.now gate.now) }
-    ensures leads { (old : StateOf) (rows : RowsOf) → AreStates before.now old gate.now → AreSame rows (encoding.rows_of old)
+    ensures value { (old : StateOf) → AreStates before.now old gate.now
+        → IfOk result (λ changes. changes.items ≡ parts.changes_since before.now gate.now) }
+    ensures leads { (old : StateOf) (rows : RowsOf) → AreStates before.now old gate.now
+        → AreSame rows (encoding.rows_of old)
         → IfOk result (λ changes. AreSame (applied changes.items rows) (encoding.rows_of gate.now)) }
 {
     law_of_keys_since();
@@ -79,10 +81,14 @@ fn push_table<R: Keyed>(
     old: List<R>,
     new: List<R>,
 ) -> Result<(), AllocError>
-    ensures gone { (was now : ListOf R) → AreApart R.form was → AreApart R.form now → IsPermutation was old → IsPermutation now new
-        → OnOk result (deletions.new.items ≡ deletions.old.items ++ map R.deletion (gone R.form (by_key R.form was) (by_key R.form now))) }
-    ensures put { (was now : ListOf R) → AreApart R.form was → AreApart R.form now → IsPermutation was old → IsPermutation now new
-        → OnOk result (puts.new.items ≡ puts.old.items ++ map R.put (differing R.form (by_key R.form was) (by_key R.form now))) }
+    ensures gone { (was now : ListOf R) → AreApart R.form was → AreApart R.form now → IsPermutation was old
+        → IsPermutation now new
+        → OnOk result (deletions.new.items
+        ≡ deletions.old.items ++ map R.deletion (gone R.form (by_key R.form was) (by_key R.form now))) }
+    ensures put { (was now : ListOf R) → AreApart R.form was → AreApart R.form now → IsPermutation was old
+        → IsPermutation now new
+        → OnOk result (puts.new.items
+        ≡ puts.old.items ++ map R.put (differing R.form (by_key R.form was) (by_key R.form now))) }
 {
     let old = sorted_by_key(old);
     let new = sorted_by_key(new);
@@ -91,7 +97,8 @@ fn push_table<R: Keyed>(
 }
 
 fn sorted_by_key<R: Keyed>(rows: List<R>) -> Vec<R>
-    ensures { (those : ListOf R) → AreApart R.form those → IsPermutation those rows → result.items ≡ by_key R.form those }
+    ensures { (those : ListOf R) → AreApart R.form those → IsPermutation those rows
+        → result.items ≡ by_key R.form those }
 {
     let mut rows = rows.into_vec();
     rows.sort_unstable_by(|row, other| row.compare_keys(other));
@@ -105,7 +112,9 @@ fn push_gone<R: Keyed>(
     old: &[R],
     new: &[R],
 ) -> Result<(), AllocError>
-    ensures { OnOk result (deletions.new.items ≡ deletions.old.items ++ map R.deletion (unmatched R.form (λ r x. has_key R.form (key_of R.form r) x) old.now new.now)) }
+    ensures { OnOk result (deletions.new.items
+        ≡ deletions.old.items
+        ++ map R.deletion (unmatched R.form (λ r x. has_key R.form (key_of R.form r) x) old.now new.now)) }
 {
     let mut rest = new;
     for row in old {
@@ -123,7 +132,8 @@ fn push_differing<R: Keyed>(
     old: &[R],
     new: Vec<R>,
 ) -> Result<(), AllocError>
-    ensures { OnOk result (puts.new.items ≡ puts.old.items ++ map R.put (unmatched R.form (is_same R.form) new.items old.now)) }
+    ensures { OnOk result
+        (puts.new.items ≡ puts.old.items ++ map R.put (unmatched R.form (is_same R.form) new.items old.now)) }
 {
     let mut rest = old;
     for row in new {

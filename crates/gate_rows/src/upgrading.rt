@@ -79,7 +79,8 @@ fn push_mark(
     wanted: &mut Vec<WantedRow>,
     row: MarkRow,
 ) -> Result<(), AllocError>
-    ensures { OnOk result (IsPermutation (row ∷ (kept.old.items ++ map as_mark wanted.old.items)) (kept.new.items ++ map as_mark wanted.new.items)) }
+    ensures { OnOk result (IsPermutation (row ∷ (kept.old.items ++ map as_mark wanted.old.items))
+        (kept.new.items ++ map as_mark wanted.new.items)) }
 {
     match wanted_kind(&row) {
         Some(kind) => {
@@ -96,8 +97,10 @@ fn push_mark(
 
 // Which list of the settings a mark of version 1 is in, if it is in one.
 fn wanted_kind(row: &MarkRow) -> Option<i64>
-    ensures some { IfSome result (λ kind. IsListKind kind × (row.now.change_no ≡ pos 0) × (row.now.kind ≡ first_kind kind)) }
-    ensures none { result ≡ None → row.now.change_no ≡ pos 0 → (kind : ℤ) → IsListKind kind → row.now.kind ≢ first_kind kind }
+    ensures some { IfSome result
+        (λ kind. IsListKind kind × (row.now.change_no ≡ pos 0) × (row.now.kind ≡ first_kind kind)) }
+    ensures none { result ≡ None → row.now.change_no ≡ pos 0 → (kind : ℤ) → IsListKind kind
+        → row.now.kind ≢ first_kind kind }
 {
     match (row.change_no, row.kind) {
         (0, 6) => Some(1),

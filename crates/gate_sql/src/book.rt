@@ -11,9 +11,10 @@ ghost use Rattle.gate_sql.specs.Faults.{MayRefuse};
 ghost use Rattle.gate_sql.specs.Shown.{shown, Holds, IsHeld};
 ghost use Rattle.gate_sql.specs.Versions.{OpensAs, StandsFor};
 ghost use Rattle.gate_tables.specs.Schemas.{HasTables, IsFound, lacks_wanted};
-ghost use Rattle.gate_tables.specs.Tables.{is_honest, is_shielded, is_sound, rows_in, answers_in, IsBook};
+ghost use Rattle.gate_tables.specs.Tables.{HandsBack, ShowsTheSame, WasSound, Outlasts, is_honest, is_shielded, is_sound, rows_in, answers_in, IsBook};
 ghost use Rattle.gate_answers.specs.Answers.{answer_text_of};
 ghost use Rattle.gate_answers.specs.Reading.{answer_of};
+ghost use Rattle.gate_store.specs.Premise.{PremiseLasts};
 ghost use Rattle.gate_store.specs.Run.{IsOfBooks, kept_under, with_answer};
 ghost use Rattle.sqlite.specs.Held.{state};
 
@@ -74,14 +75,12 @@ impl<S: Alter> SqlBook<S> {
         ensures value { IfOk result (λ book. is_sound S.Store book → shown S.Store book ≡ record { state = empty_state 1; kept = empty }) }
         ensures holds { IfOk result (λ book. is_sound S.Store book → Holds S.Store book) }
         ensures taken { (state S.Store connection).now.schema ≢ schema_of [] → IsErrAnd result (λ refused. refused.fault ≡ Fault.Store) }
-        ensures same { IfErr result (λ refused. is_sound S.Store refused.connection → (state S.Store refused.connection).now ≡ (state S.Store connection).now) }
+        ensures same { IfErr result (λ refused. HandsBack S.Store connection refused.connection) }
         ensures mode { IfErr result (λ refused. refused.connection.in_transaction ≡ false) }
         ensures fault { IfErr result (λ refused. IsOfBooks refused.fault) }
-        ensures was { IfOk result (λ book. is_sound S.Store book → is_sound S.Store connection) }
-        ensures honest { IfOk result (λ book. is_honest S.Store book → is_honest S.Store connection) }
-        ensures shield { IfOk result (λ book. is_shielded S.Store connection → is_shielded S.Store book) }
+        ensures outlasts { IfOk result (λ book. Outlasts S.Store connection book) }
         ensures stays { IfOk result (λ book. is_honest S.Store book → is_sound S.Store book) }
-        ensures was_refused { IfErr result (λ refused. is_sound S.Store refused.connection → is_sound S.Store connection) }
+        ensures was_refused { IfErr result (λ refused. WasSound S.Store connection refused.connection) }
     {
         if !is_blank(connection.schema()) {
             return Err(Refused {
@@ -125,15 +124,15 @@ impl<S: Alter> SqlBook<S> {
         requires { connection.in_transaction ≡ false }
         ensures stands { IfOk result (λ book. is_sound S.Store book → OpensAs (state S.Store connection).now (shown S.Store book)) }
         ensures holds { IfOk result (λ book. is_sound S.Store book → Holds S.Store book) }
-        ensures others { (state S.Store connection).now.schema ≢ schema_of [] → ¬ HasTables (state S.Store connection).now → IsErrAnd result (λ refused. IsOfBooks refused.fault) }
-        ensures same { IfErr result (λ refused. is_sound S.Store refused.connection → (state S.Store refused.connection).now ≡ (state S.Store connection).now) }
+        ensures others { (state S.Store connection).now.schema ≢ schema_of [] → ¬ HasTables (state S.Store connection).now
+            → IsErrAnd result (λ refused. IsOfBooks refused.fault) }
+        ensures same { IfErr result (λ refused. HandsBack S.Store connection refused.connection) }
         ensures mode { IfErr result (λ refused. refused.connection.in_transaction ≡ false) }
-        ensures fault { IfErr result (λ refused. IsOfBooks refused.fault ⊎ ((refused.fault ≡ Fault.Foreign) × HasTables (state S.Store connection).now)) }
-        ensures was { IfOk result (λ book. is_sound S.Store book → is_sound S.Store connection) }
-        ensures honest { IfOk result (λ book. is_honest S.Store book → is_honest S.Store connection) }
-        ensures shield { IfOk result (λ book. is_shielded S.Store connection → is_shielded S.Store book) }
+        ensures fault { IfErr result (λ refused. IsOfBooks refused.fault
+            ⊎ ((refused.fault ≡ Fault.Foreign) × HasTables (state S.Store connection).now)) }
+        ensures outlasts { IfOk result (λ book. Outlasts S.Store connection book) }
         ensures stays { IfOk result (λ book. is_honest S.Store book → is_sound S.Store book) }
-        ensures was_refused { IfErr result (λ refused. is_sound S.Store refused.connection → is_sound S.Store connection) }
+        ensures was_refused { IfErr result (λ refused. WasSound S.Store connection refused.connection) }
     {
         match found_in(alloc, connection.schema()) {
             Ok(found) => open_found(alloc, connection, found),
@@ -199,12 +198,11 @@ impl<S: Alter> Book for SqlBook<S> {
         answer: &Answer,
     ) -> Result<(), Fault>
         requires free { is_sound S.Store self.old → kept_under (shown S.Store self.old) id.now ≡ None }
-        ensures ok { is_sound S.Store self.new → OnOk result (shown S.Store self.new ≡ with_answer (shown S.Store self.old) gate.now id.now answer.now) }
+        ensures ok { is_sound S.Store self.new
+            → OnOk result (shown S.Store self.new ≡ with_answer (shown S.Store self.old) gate.now id.now answer.now) }
         ensures err { is_sound S.Store self.new → OnErr result (shown S.Store self.new ≡ shown S.Store self.old) }
         ensures holds { is_sound S.Store self.new → Holds S.Store self.new }
-        ensures was { is_sound S.Store self.new → is_sound S.Store self.old }
-        ensures honest { is_honest S.Store self.new → is_honest S.Store self.old }
-        ensures shield { is_shielded S.Store self.old → is_shielded S.Store self.new }
+        ensures outlasts { PremiseLasts (is_sound S.Store) (is_honest S.Store) (is_shielded S.Store) self.old self.new }
         ensures stays { is_honest S.Store self.new → OnOk result (is_sound S.Store self.new) }
         ensures cause { IfErr result IsOfBooks }
         ensures fault { IfErr result IsOfBooks }
@@ -242,12 +240,11 @@ impl<S: Alter> Book for SqlBook<S> {
         requires stands { is_sound S.Store self.old → IsBefore before.now (shown S.Store self.old).state gate.now }
         requires text { text.now ≡ answer_text_of answer.now }
         requires reads { answer_of text.now ≡ answer.now }
-        ensures ok { is_sound S.Store self.new → OnOk result (shown S.Store self.new ≡ with_answer (shown S.Store self.old) gate.now id.now answer.now) }
+        ensures ok { is_sound S.Store self.new
+            → OnOk result (shown S.Store self.new ≡ with_answer (shown S.Store self.old) gate.now id.now answer.now) }
         ensures err { is_sound S.Store self.new → OnErr result (shown S.Store self.new ≡ shown S.Store self.old) }
         ensures holds { is_sound S.Store self.new → Holds S.Store self.new }
-        ensures was { is_sound S.Store self.new → is_sound S.Store self.old }
-        ensures honest { is_honest S.Store self.new → is_honest S.Store self.old }
-        ensures shield { is_shielded S.Store self.old → is_shielded S.Store self.new }
+        ensures outlasts { PremiseLasts (is_sound S.Store) (is_honest S.Store) (is_shielded S.Store) self.old self.new }
         ensures stays { is_honest S.Store self.new → OnOk result (is_sound S.Store self.new) }
         ensures cause { IfErr result IsOfBooks }
         ensures fault { IfErr result IsOfBooks }
@@ -279,14 +276,13 @@ fn open_found<S: Alter>(
     ensures stands { IfOk result (λ book. is_sound S.Store book → OpensAs (state S.Store connection).now (shown S.Store book)) }
     ensures holds { IfOk result (λ book. is_sound S.Store book → Holds S.Store book) }
     ensures others { found ≡ Found.Others → IsErrAnd result (λ refused. refused.fault ≡ Fault.Store) }
-    ensures same { IfErr result (λ refused. is_sound S.Store refused.connection → (state S.Store refused.connection).now ≡ (state S.Store connection).now) }
+    ensures same { IfErr result (λ refused. HandsBack S.Store connection refused.connection) }
     ensures mode { IfErr result (λ refused. refused.connection.in_transaction ≡ false) }
-    ensures fault { IfErr result (λ refused. IsOfBooks refused.fault ⊎ ((refused.fault ≡ Fault.Foreign) × HasTables (state S.Store connection).now)) }
-    ensures was { IfOk result (λ book. is_sound S.Store book → is_sound S.Store connection) }
-    ensures honest { IfOk result (λ book. is_honest S.Store book → is_honest S.Store connection) }
-    ensures shield { IfOk result (λ book. is_shielded S.Store connection → is_shielded S.Store book) }
+    ensures fault { IfErr result (λ refused. IsOfBooks refused.fault
+        ⊎ ((refused.fault ≡ Fault.Foreign) × HasTables (state S.Store connection).now)) }
+    ensures outlasts { IfOk result (λ book. Outlasts S.Store connection book) }
     ensures stays { IfOk result (λ book. is_honest S.Store book → is_sound S.Store book) }
-    ensures was_refused { IfErr result (λ refused. is_sound S.Store refused.connection → is_sound S.Store connection) }
+    ensures was_refused { IfErr result (λ refused. WasSound S.Store connection refused.connection) }
 {
     match found {
         Found::Nothing => SqlBook::new(alloc, connection),
@@ -307,14 +303,12 @@ fn adopt<S: Alter>(
     requires version { first ≡ lacks_wanted (state S.Store connection).now.schema }
     ensures stands { IfOk result (λ book. is_sound S.Store book → StandsFor (state S.Store connection).now (shown S.Store book)) }
     ensures holds { IfOk result (λ book. is_sound S.Store book → Holds S.Store book) }
-    ensures same { IfErr result (λ refused. is_sound S.Store refused.connection → (state S.Store refused.connection).now ≡ (state S.Store connection).now) }
+    ensures same { IfErr result (λ refused. HandsBack S.Store connection refused.connection) }
     ensures mode { IfErr result (λ refused. refused.connection.in_transaction ≡ false) }
     ensures fault { IfErr result (λ refused. MayRefuse refused.fault) }
-    ensures was { IfOk result (λ book. is_sound S.Store book → is_sound S.Store connection) }
-    ensures honest { IfOk result (λ book. is_honest S.Store book → is_honest S.Store connection) }
-    ensures shield { IfOk result (λ book. is_shielded S.Store connection → is_shielded S.Store book) }
+    ensures outlasts { IfOk result (λ book. Outlasts S.Store connection book) }
     ensures stays { IfOk result (λ book. is_honest S.Store book → is_sound S.Store book) }
-    ensures was_refused { IfErr result (λ refused. is_sound S.Store refused.connection → is_sound S.Store connection) }
+    ensures was_refused { IfErr result (λ refused. WasSound S.Store connection refused.connection) }
 {
     law_of_rows();
     let (found, contents) = match FoundTables::open(alloc, connection) {
@@ -374,10 +368,8 @@ fn changes_to<S: Alter>(
 ) -> Result<Vec<RowChange>, TablesFault>
     ensures led { is_sound S.Store tables.new → IsHeld (rows_in S.Store tables.old) (answers_in S.Store tables.old)
         → IfOk result (λ changes. AreSame (applied changes.items (rows_in S.Store tables.old)) (encoding.rows_of gate.now)) }
-    ensures same { is_sound S.Store tables.new → (rows_in S.Store tables.new ≡ rows_in S.Store tables.old) × (answers_in S.Store tables.new ≡ answers_in S.Store tables.old) }
-    ensures was { is_sound S.Store tables.new → is_sound S.Store tables.old }
-    ensures honest { is_honest S.Store tables.new → is_honest S.Store tables.old }
-    ensures shield { is_shielded S.Store tables.old → is_shielded S.Store tables.new }
+    ensures same { is_sound S.Store tables.new → ShowsTheSame S.Store tables.old tables.new }
+    ensures outlasts { Outlasts S.Store tables.old tables.new }
     ensures book { is_sound S.Store tables.new → IsBook (state S.Store tables.new) }
 {
     law_of_changed_rows();

@@ -3,7 +3,7 @@ ghost use Rattle.gate_sql.specs.Faults.{MayRefuse, told_of_files};
 ghost use Rattle.gate_sql.specs.Files.{StandIn, held_by};
 ghost use Rattle.gate_sql.specs.Shown.{shown};
 ghost use Rattle.gate_sql.specs.Versions.{OpensAs};
-ghost use Rattle.gate_tables.specs.Tables.{is_honest, is_shielded, is_sound};
+ghost use Rattle.gate_tables.specs.Tables.{Outlasts, is_honest, is_shielded, is_sound};
 ghost use Rattle.sqlite.specs.Files.{Finds, IsOpened, file_state, image_of, over_files};
 ghost use Rattle.sqlite.specs.Held.{state};
 ghost use Rattle.sqlite.specs.State.{HasCleanDisk};
@@ -78,8 +78,7 @@ fn connected<D: Disk + Drop>(
 fn opened<S: Alter + Drop>(alloc: Global, connection: Connection<S>) -> Result<SqlBook<S>, Fault>
     requires { connection.in_transaction ≡ false }
     ensures stands { IfOk result (λ book. is_sound S.Store book → OpensAs (state S.Store connection).now (shown S.Store book)) }
-    ensures honest { IfOk result (λ book. is_honest S.Store book → is_honest S.Store connection) }
-    ensures shield { IfOk result (λ book. is_shielded S.Store connection → is_shielded S.Store book) }
+    ensures outlasts { IfOk result (λ book. Outlasts S.Store connection book) }
     ensures stays { IfOk result (λ book. is_honest S.Store book → is_sound S.Store book) }
     ensures fault { IfErr result MayRefuse }
 {

@@ -114,7 +114,8 @@ fn first_gate(alloc: Global, rows: Rows) -> Result<Gate, Fault>
 
 // The row changes that lead from the rows of a gate in version 1 to those in version 2.
 fn upgrade(alloc: Global, gate: &Gate) -> Result<Vec<RowChange>, AllocError>
-    ensures { IfOk result (λ changes. (rows : RowsOf) → AreSame rows (first_rows.in_first (encoding.rows_of gate.now)) → AreSame (applied changes.items rows) (encoding.rows_of gate.now)) }
+    ensures { IfOk result (λ changes. (rows : RowsOf) → AreSame rows (first_rows.in_first (encoding.rows_of gate.now))
+        → AreSame (applied changes.items rows) (encoding.rows_of gate.now)) }
 {
     law_of_differences();
     law_of_keys_of(gate);

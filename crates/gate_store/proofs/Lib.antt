@@ -1,4 +1,5 @@
 pub mod Deliveries
 pub mod Firsts
+pub mod Outlasting
 pub mod Runs
 pub mod Telling

@@ -104,6 +104,13 @@ pub record HistoryTells (old : Records) (deliveries : List Delivery) (new : Reco
   pub entries : Each Tells history old.state (acts_of_all (first_in old deliveries))
   pub legal : Legal (history_after history old.state (acts_of_all (first_in old deliveries))) new.state
 
+-- The same whatever history led to the old state: of acts one after the other, and of deliveries.
+abbrev pub AllTell : State → List Act → Type 0
+AllTell s acts = (history : List Entry) → Legal history s → Each Tells history s acts
+
+abbrev pub HistoriesTell : Records → List Delivery → Records → Type 0
+HistoriesTell old deliveries new = (history : List Entry) → Legal history old.state → HistoryTells old deliveries new history
+
 -- EVERY LIST OF DELIVERIES, in the words of the run alone: if none meets a full gate, and each reading of the clock is within its
 -- limit, as that of every value of the type `Delivery` is, then their answers and the records after them are told so.
 abbrev pub KeepLimits : List Delivery → Type 0

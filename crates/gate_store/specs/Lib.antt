@@ -2,6 +2,12 @@
 --     Headline   what is promised over every list of deliveries, in three sentences
 --     Run        the records, what deliveries are answered one after the other, the records after them, and the faults
 --     Looking    what a look at the gate shows
+--     Premise    what becomes of the premise of a book over a call
+--     Outlasting the same, as a clause of each call
+-- For private clauses: Leading.
 pub mod Headline
+pub mod Leading
 pub mod Looking
+pub mod Outlasting
+pub mod Premise
 pub mod Run

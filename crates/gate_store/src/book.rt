@@ -2,6 +2,7 @@ ghost use Rattle.std.specs.Prelude.{◌≡◌, None, IfOk, IfErr, OnOk, OnErr};
 ghost use Rattle.gate_queue.specs.Before.{IsBefore};
 ghost use Rattle.gate_answers.specs.Answers.{answer_text_of};
 ghost use Rattle.gate_answers.specs.Reading.{answer_of};
+ghost use Rattle.gate_store.specs.Premise.{PremiseLasts};
 ghost use Rattle.gate_store.specs.Run.{Records, IsOfBooks, kept_under, with_answer};
 
 use gate_answers::Answer;
@@ -37,9 +38,7 @@ pub trait Book {
     fn load(&mut self, alloc: Global) -> Result<Gate, Fault>
         ensures gate { is_sound self.new → IfOk result (λ gate. gate ≡ (shows self.old).state) }
         ensures same { is_sound self.new → shows self.new ≡ shows self.old }
-        ensures was { is_sound self.new → is_sound self.old }
-        ensures honest { is_honest self.new → is_honest self.old }
-        ensures shield { is_shielded self.old → is_shielded self.new }
+        ensures outlasts { PremiseLasts is_sound is_honest is_shielded self.old self.new }
         ensures stays { is_honest self.new → OnOk result (is_sound self.new) }
         ensures cause { IfErr result may_answer }
         ensures fault { IfErr result IsOfBooks };
@@ -48,9 +47,7 @@ pub trait Book {
     fn kept(&mut self, alloc: Global, id: &DeliveryId) -> Result<Option<Answer>, Fault>
         ensures answer { is_sound self.new → IfOk result (λ answer. answer ≡ kept_under (shows self.old) id.now) }
         ensures same { is_sound self.new → shows self.new ≡ shows self.old }
-        ensures was { is_sound self.new → is_sound self.old }
-        ensures honest { is_honest self.new → is_honest self.old }
-        ensures shield { is_shielded self.old → is_shielded self.new }
+        ensures outlasts { PremiseLasts is_sound is_honest is_shielded self.old self.new }
         ensures stays { is_honest self.new → OnOk result (is_sound self.new) }
         ensures cause { IfErr result may_answer }
         ensures fault { IfErr result IsOfBooks };
@@ -64,11 +61,10 @@ pub trait Book {
         answer: &Answer,
     ) -> Result<(), Fault>
         requires free { is_sound self.old → kept_under (shows self.old) id.now ≡ None }
-        ensures ok { is_sound self.new → OnOk result (shows self.new ≡ with_answer (shows self.old) gate.now id.now answer.now) }
+        ensures ok { is_sound self.new
+            → OnOk result (shows self.new ≡ with_answer (shows self.old) gate.now id.now answer.now) }
         ensures err { is_sound self.new → OnErr result (shows self.new ≡ shows self.old) }
-        ensures was { is_sound self.new → is_sound self.old }
-        ensures honest { is_honest self.new → is_honest self.old }
-        ensures shield { is_shielded self.old → is_shielded self.new }
+        ensures outlasts { PremiseLasts is_sound is_honest is_shielded self.old self.new }
         ensures stays { is_honest self.new → OnOk result (is_sound self.new) }
         ensures cause { IfErr result may_answer }
         ensures fault { IfErr result IsOfBooks };
@@ -88,11 +84,10 @@ pub trait Book {
         requires stands { is_sound self.old → IsBefore before.now (shows self.old).state gate.now }
         requires text { text.now ≡ answer_text_of answer.now }
         requires reads { answer_of text.now ≡ answer.now }
-        ensures ok { is_sound self.new → OnOk result (shows self.new ≡ with_answer (shows self.old) gate.now id.now answer.now) }
+        ensures ok { is_sound self.new
+            → OnOk result (shows self.new ≡ with_answer (shows self.old) gate.now id.now answer.now) }
         ensures err { is_sound self.new → OnErr result (shows self.new ≡ shows self.old) }
-        ensures was { is_sound self.new → is_sound self.old }
-        ensures honest { is_honest self.new → is_honest self.old }
-        ensures shield { is_shielded self.old → is_shielded self.new }
+        ensures outlasts { PremiseLasts is_sound is_honest is_shielded self.old self.new }
         ensures stays { is_honest self.new → OnOk result (is_sound self.new) }
         ensures cause { IfErr result may_answer }
         ensures fault { IfErr result IsOfBooks }

@@ -8,8 +8,10 @@ ghost use Rattle.gate_queue.specs.Before.{IsBefore};
 ghost use Rattle.gate_queue.specs.History.{Entry, Legal, StateTells};
 ghost use Rattle.gate_answers.specs.Answers.{answer_text_of};
 ghost use Rattle.gate_answers.specs.Reading.{answer_of};
-ghost use Rattle.gate_store.specs.Headline.{Each, Headline, HistoryTells, Tells, acts_of_all, first_in};
-ghost use Rattle.gate_store.specs.Run.{AgreesOnFull, IsFullBefore, IsOfActs, IsOfBooks, IsOfKeepers, IsOpenUnless, NoneMeetsFull, StaysOpen, StopsBefore, acts_in, acts_meet_full, after_all, after_deliveries, after_delivery, answer_to, answers_to, kept_under, meets_full, new_acts, replies_to, stepped, with_answer};
+ghost use Rattle.gate_store.specs.Headline.{AllTell, HistoriesTell, Each, Headline, Tells, acts_of_all, first_in};
+ghost use Rattle.gate_store.specs.Leading.{Delivers, Steps};
+ghost use Rattle.gate_store.specs.Outlasting.{Outlasts, RemainsSound};
+ghost use Rattle.gate_store.specs.Run.{AgreesOnFull, IsFullBefore, IsOfActs, IsOfBooks, IsOfKeepers, IsOpenUnless, NoneMeetsFull, StaysOpen, StopsBefore, acts_in, acts_meet_full, after_all, after_deliveries, after_delivery, answer_to, answers_to, kept_under, meets_full, replies_to, with_answer};
 
 use crate::book::Book;
 use crate::stepping::step_all;
@@ -38,7 +40,8 @@ impl<B: Book> Model for Keeper<B> {
     ghost view = { λ keeper. keeper.book };
 
     // A gate that is at hand is the one that the book shows.
-    ghost invariant = { λ keeper. IfSome keeper.gate (λ gate. B.is_sound keeper.book → gate ≡ (B.shows keeper.book).state) };
+    ghost invariant = { λ keeper. IfSome keeper.gate
+        (λ gate. B.is_sound keeper.book → gate ≡ (B.shows keeper.book).state) };
 }
 
 impl<B: Book> Keeper<B> {
@@ -65,14 +68,13 @@ impl<B: Book> Keeper<B> {
         ensures gate { B.is_sound self.new → IfOk result (λ gate. gate ≡ (B.shows self.old).state) }
 
         // People, changes and their marks are those of the history, whatever history led to the state.
-        ensures history { B.is_sound self.new → IfOk result (λ gate. (history : List Entry) → Legal history (B.shows self.old).state → StateTells history gate) }
+        ensures history { B.is_sound self.new → IfOk result (λ gate. (history : List Entry)
+            → Legal history (B.shows self.old).state → StateTells history gate) }
 
         // It changes nothing.
         ensures same { B.is_sound self.new → B.shows self.new ≡ B.shows self.old }
-        ensures was { B.is_sound self.new → B.is_sound self.old }
-        ensures honest { B.is_honest self.new → B.is_honest self.old }
-        ensures shield { B.is_shielded self.old → B.is_shielded self.new }
-        ensures stays { (B.is_honest self.old → B.is_sound self.old) → B.is_honest self.new → OnOk result (B.is_sound self.new) }
+        ensures outlasts { Outlasts B.Book self.old self.new }
+        ensures stays { RemainsSound B.Book self.old self.new (OnOk result) }
         ensures cause { IfErr result (λ fault. (fault ≡ Fault.Memory) ⊎ B.may_answer fault) }
         ensures fault { IfErr result IsOfBooks }
     {
@@ -83,7 +85,7 @@ impl<B: Book> Keeper<B> {
     /// The gate, lent. It changes nothing but that a gate is at hand then, so the book is asked for it once, and no copy is made. The
     /// faults are those of `gate`.
     pub fn look(&mut self, alloc: Global) -> Result<&Gate, Fault>
-        ensures* rests { sem 𝓛 (Rests (the_row B.row B.Book) self.entry (λ new. Looked B.shows B.is_sound B.is_honest B.is_shielded self.old new result)) }
+        ensures* rests { sem 𝓛 (Rests (the_row B.row B.Book) self.entry (λ new. Looked B.Book self.old new result)) }
         ensures cause { IfErr result (λ fault. (fault ≡ Fault.Memory) ⊎ B.may_answer fault) }
         ensures fault { IfErr result IsOfBooks }
     {
@@ -99,10 +101,8 @@ impl<B: Book> Keeper<B> {
     fn copy_gate(&mut self, alloc: Global) -> Result<Gate, Fault>
         ensures gate { B.is_sound self.new → IfOk result (λ gate. gate ≡ (B.shows self.old).state) }
         ensures same { B.is_sound self.new → B.shows self.new ≡ B.shows self.old }
-        ensures was { B.is_sound self.new → B.is_sound self.old }
-        ensures honest { B.is_honest self.new → B.is_honest self.old }
-        ensures shield { B.is_shielded self.old → B.is_shielded self.new }
-        ensures stays { (B.is_honest self.old → B.is_sound self.old) → B.is_honest self.new → OnOk result (B.is_sound self.new) }
+        ensures outlasts { Outlasts B.Book self.old self.new }
+        ensures stays { RemainsSound B.Book self.old self.new (OnOk result) }
         ensures cause { IfErr result (λ fault. (fault ≡ Fault.Memory) ⊎ B.may_answer fault) }
         ensures fault { IfErr result IsOfBooks }
     {
@@ -119,20 +119,22 @@ impl<B: Book> Keeper<B> {
     /// meets a full gate, `Memory`, or one that the book may answer.
     pub fn deliver(&mut self, alloc: Global, delivery: &Delivery) -> Result<Answer, Fault>
         // The answer and the records are those of the run.
-        ensures answer { B.is_sound self.new → IfOk result (λ answer. answer ≡ answer_to (B.shows self.old) delivery.now) }
-        ensures book { B.is_sound self.new → OnOk result (B.shows self.new ≡ after_delivery (B.shows self.old) delivery.now) }
+        ensures answer { B.is_sound self.new
+            → IfOk result (λ answer. answer ≡ answer_to (B.shows self.old) delivery.now) }
+        ensures book { B.is_sound self.new
+            → OnOk result (B.shows self.new ≡ after_delivery (B.shows self.old) delivery.now) }
 
         // The headline for this delivery, and all that the history tells.
-        ensures headline { B.is_sound self.new → IfOk result (λ answer. Headline (B.shows self.old) (delivery.now ∷ []) (answer ∷ []) (B.shows self.new)) }
-        ensures history { B.is_sound self.new → OnOk result ((history : List Entry) → Legal history (B.shows self.old).state → HistoryTells (B.shows self.old) (delivery.now ∷ []) (B.shows self.new) history) }
+        ensures headline { B.is_sound self.new
+            → IfOk result (λ answer. Headline (B.shows self.old) (delivery.now ∷ []) (answer ∷ []) (B.shows self.new)) }
+        ensures history { B.is_sound self.new
+            → OnOk result (HistoriesTell (B.shows self.old) (delivery.now ∷ []) (B.shows self.new)) }
 
         // A fault changes nothing.
         ensures err { B.is_sound self.new → OnErr result (B.shows self.new ≡ B.shows self.old) }
         ensures full { B.is_sound self.new → AgreesOnFull result (meets_full (B.shows self.old) delivery.now) }
         ensures cause { IfErr result (IsOfKeepers B.may_answer) }
-        ensures was { B.is_sound self.new → B.is_sound self.old }
-        ensures honest { B.is_honest self.new → B.is_honest self.old }
-        ensures shield { B.is_shielded self.old → B.is_shielded self.new }
+        ensures outlasts { Outlasts B.Book self.old self.new }
         ensures stays { B.is_honest self.new → StaysOpen result (B.is_sound self.new) }
     {
         self.answer(alloc, delivery)
@@ -142,20 +144,23 @@ impl<B: Book> Keeper<B> {
     /// kept. So after any fault nothing has changed, and if there is no memory for the text, the delivery hasn't acted.
     pub fn deliver_text(&mut self, alloc: Global, delivery: &Delivery) -> Result<String, Fault>
         // The text and the records are those of the run.
-        ensures answer { B.is_sound self.new → IfOk result (λ text. string_bytes text ≡ answer_text_of (answer_to (B.shows self.old) delivery.now)) }
-        ensures book { B.is_sound self.new → OnOk result (B.shows self.new ≡ after_delivery (B.shows self.old) delivery.now) }
+        ensures answer { B.is_sound self.new
+            → IfOk result (λ text. string_bytes text ≡ answer_text_of (answer_to (B.shows self.old) delivery.now)) }
+        ensures book { B.is_sound self.new
+            → OnOk result (B.shows self.new ≡ after_delivery (B.shows self.old) delivery.now) }
 
         // The headline for this delivery, and all that the history tells.
-        ensures headline { B.is_sound self.new → OnOk result (Headline (B.shows self.old) (delivery.now ∷ []) (answer_to (B.shows self.old) delivery.now ∷ []) (B.shows self.new)) }
-        ensures history { B.is_sound self.new → OnOk result ((history : List Entry) → Legal history (B.shows self.old).state → HistoryTells (B.shows self.old) (delivery.now ∷ []) (B.shows self.new) history) }
+        ensures headline { B.is_sound self.new
+            → OnOk result (Headline (B.shows self.old) (delivery.now ∷ [])
+            (answer_to (B.shows self.old) delivery.now ∷ []) (B.shows self.new)) }
+        ensures history { B.is_sound self.new
+            → OnOk result (HistoriesTell (B.shows self.old) (delivery.now ∷ []) (B.shows self.new)) }
 
         // A fault changes nothing.
         ensures err { B.is_sound self.new → OnErr result (B.shows self.new ≡ B.shows self.old) }
         ensures full { B.is_sound self.new → AgreesOnFull result (meets_full (B.shows self.old) delivery.now) }
         ensures cause { IfErr result (IsOfKeepers B.may_answer) }
-        ensures was { B.is_sound self.new → B.is_sound self.old }
-        ensures honest { B.is_honest self.new → B.is_honest self.old }
-        ensures shield { B.is_shielded self.old → B.is_shielded self.new }
+        ensures outlasts { Outlasts B.Book self.old self.new }
         ensures stays { B.is_honest self.new → StaysOpen result (B.is_sound self.new) }
     {
         self.text(alloc, delivery)
@@ -166,23 +171,28 @@ impl<B: Book> Keeper<B> {
     pub fn run(&mut self, alloc: Global, deliveries: &[Delivery]) -> (Vec<Answer>, Option<Fault>)
         // The answers are those of the run on the deliveries that were answered, also if a fault has shut the book after that. If it is
         // still sound, so are the records.
-        ensures answers { B.is_honest self.new → result.0.items ≡ answers_to (B.shows self.old) (take (length result.0.items) deliveries.now) }
-        ensures book { B.is_sound self.new → B.shows self.new ≡ after_deliveries (B.shows self.old) (take (length result.0.items) deliveries.now) }
+        ensures answers { B.is_honest self.new
+            → result.0.items ≡ answers_to (B.shows self.old) (take (length result.0.items) deliveries.now) }
+        ensures book { B.is_sound self.new
+            → B.shows self.new ≡ after_deliveries (B.shows self.old) (take (length result.0.items) deliveries.now) }
 
         // The headline for these, and all that the history tells.
-        ensures headline { B.is_honest self.new → Headline (B.shows self.old) (take (length result.0.items) deliveries.now) result.0.items (after_deliveries (B.shows self.old) (take (length result.0.items) deliveries.now)) }
-        ensures history { B.is_honest self.new → (history : List Entry) → Legal history (B.shows self.old).state
-            → HistoryTells (B.shows self.old) (take (length result.0.items) deliveries.now) (after_deliveries (B.shows self.old) (take (length result.0.items) deliveries.now)) history }
+        ensures headline { B.is_honest self.new
+            → Headline (B.shows self.old) (take (length result.0.items) deliveries.now) result.0.items
+            (after_deliveries (B.shows self.old) (take (length result.0.items) deliveries.now)) }
+        ensures history { B.is_honest self.new
+            → HistoriesTell (B.shows self.old) (take (length result.0.items) deliveries.now)
+            (after_deliveries (B.shows self.old) (take (length result.0.items) deliveries.now)) }
 
         // All are answered, or the fault came at the next one. No delivery that is answered met a full gate, and at `Full` the next
         // one does.
         ensures stops { StopsBefore result.1 (drop (length result.0.items) deliveries.now) }
-        ensures room { B.is_honest self.new → NoneMeetsFull (B.shows self.old) (take (length result.0.items) deliveries.now) }
-        ensures full { B.is_sound self.new → IsFullBefore result.1 (B.shows self.new) (drop (length result.0.items) deliveries.now) }
+        ensures room { B.is_honest self.new
+            → NoneMeetsFull (B.shows self.old) (take (length result.0.items) deliveries.now) }
+        ensures full { B.is_sound self.new
+            → IsFullBefore result.1 (B.shows self.new) (drop (length result.0.items) deliveries.now) }
         ensures cause { IfSome result.1 (IsOfKeepers B.may_answer) }
-        ensures was { B.is_sound self.new → B.is_sound self.old }
-        ensures honest { B.is_honest self.new → B.is_honest self.old }
-        ensures shield { B.is_shielded self.old → B.is_shielded self.new }
+        ensures outlasts { Outlasts B.Book self.old self.new }
 
         // Of a book that was sound and is honest, only `Memory` and `Store` may have shut it.
         ensures stays { B.is_sound self.old → B.is_honest self.new → IsOpenUnless result.1 (B.is_sound self.new) }
@@ -192,16 +202,20 @@ impl<B: Book> Keeper<B> {
 
     // Answers deliveries in order, and stops at the first fault. It makes room for an answer before it answers.
     fn answer_all(&mut self, alloc: Global, deliveries: &[Delivery]) -> (Vec<Answer>, Option<Fault>)
-        ensures answers { B.is_honest self.new → result.0.items ≡ answers_to (B.shows self.old) (take (length result.0.items) deliveries.now) }
-        ensures book { B.is_sound self.new → B.shows self.new ≡ after_deliveries (B.shows self.old) (take (length result.0.items) deliveries.now) }
-        ensures history { B.is_honest self.new → (history : List Entry) → Legal history (B.shows self.old).state → Each Tells history (B.shows self.old).state (acts_of_all (first_in (B.shows self.old) (take (length result.0.items) deliveries.now))) }
+        ensures answers { B.is_honest self.new
+            → result.0.items ≡ answers_to (B.shows self.old) (take (length result.0.items) deliveries.now) }
+        ensures book { B.is_sound self.new
+            → B.shows self.new ≡ after_deliveries (B.shows self.old) (take (length result.0.items) deliveries.now) }
+        ensures history { B.is_honest self.new
+            → AllTell (B.shows self.old).state (acts_of_all
+            (first_in (B.shows self.old) (take (length result.0.items) deliveries.now))) }
         ensures stops { StopsBefore result.1 (drop (length result.0.items) deliveries.now) }
-        ensures room { B.is_honest self.new → NoneMeetsFull (B.shows self.old) (take (length result.0.items) deliveries.now) }
-        ensures full { B.is_sound self.new → IsFullBefore result.1 (B.shows self.new) (drop (length result.0.items) deliveries.now) }
+        ensures room { B.is_honest self.new
+            → NoneMeetsFull (B.shows self.old) (take (length result.0.items) deliveries.now) }
+        ensures full { B.is_sound self.new
+            → IsFullBefore result.1 (B.shows self.new) (drop (length result.0.items) deliveries.now) }
         ensures cause { IfSome result.1 (IsOfKeepers B.may_answer) }
-        ensures was { B.is_sound self.new → B.is_sound self.old }
-        ensures honest { B.is_honest self.new → B.is_honest self.old }
-        ensures shield { B.is_shielded self.old → B.is_shielded self.new }
+        ensures outlasts { Outlasts B.Book self.old self.new }
         ensures stays { B.is_sound self.old → B.is_honest self.new → IsOpenUnless result.1 (B.is_sound self.new) }
     {
         let mut answers = Vec::new(alloc);
@@ -219,16 +233,9 @@ impl<B: Book> Keeper<B> {
 
     // Answers a delivery from the records, or lets it act.
     fn answer(&mut self, alloc: Global, delivery: &Delivery) -> Result<Answer, Fault>
-        ensures answer { B.is_sound self.new → IfOk result (λ answer. answer ≡ answer_to (B.shows self.old) delivery.now) }
-        ensures book { B.is_sound self.new → OnOk result (B.shows self.new ≡ after_delivery (B.shows self.old) delivery.now) }
-        ensures history { B.is_sound self.new → OnOk result ((history : List Entry) → Legal history (B.shows self.old).state → Each Tells history (B.shows self.old).state (new_acts (B.shows self.old) delivery.now)) }
-        ensures err { B.is_sound self.new → OnErr result (B.shows self.new ≡ B.shows self.old) }
-        ensures full { B.is_sound self.new → AgreesOnFull result (meets_full (B.shows self.old) delivery.now) }
-        ensures cause { IfErr result (IsOfKeepers B.may_answer) }
-        ensures was { B.is_sound self.new → B.is_sound self.old }
-        ensures honest { B.is_honest self.new → B.is_honest self.old }
-        ensures shield { B.is_shielded self.old → B.is_shielded self.new }
-        ensures stays { B.is_honest self.new → StaysOpen result (B.is_sound self.new) }
+        ensures answer { B.is_sound self.new
+            → IfOk result (λ answer. answer ≡ answer_to (B.shows self.old) delivery.now) }
+        ensures delivers { Delivers B.Book self.old self.new delivery.now result }
     {
         if let Some(answer) = self.book.kept(alloc, &delivery.id)? {
             return Ok(answer);
@@ -239,16 +246,9 @@ impl<B: Book> Keeper<B> {
 
     // The same, by the text of the answer.
     fn text(&mut self, alloc: Global, delivery: &Delivery) -> Result<String, Fault>
-        ensures answer { B.is_sound self.new → IfOk result (λ text. string_bytes text ≡ answer_text_of (answer_to (B.shows self.old) delivery.now)) }
-        ensures book { B.is_sound self.new → OnOk result (B.shows self.new ≡ after_delivery (B.shows self.old) delivery.now) }
-        ensures history { B.is_sound self.new → OnOk result ((history : List Entry) → Legal history (B.shows self.old).state → Each Tells history (B.shows self.old).state (new_acts (B.shows self.old) delivery.now)) }
-        ensures err { B.is_sound self.new → OnErr result (B.shows self.new ≡ B.shows self.old) }
-        ensures full { B.is_sound self.new → AgreesOnFull result (meets_full (B.shows self.old) delivery.now) }
-        ensures cause { IfErr result (IsOfKeepers B.may_answer) }
-        ensures was { B.is_sound self.new → B.is_sound self.old }
-        ensures honest { B.is_honest self.new → B.is_honest self.old }
-        ensures shield { B.is_shielded self.old → B.is_shielded self.new }
-        ensures stays { B.is_honest self.new → StaysOpen result (B.is_sound self.new) }
+        ensures answer { B.is_sound self.new
+            → IfOk result (λ text. string_bytes text ≡ answer_text_of (answer_to (B.shows self.old) delivery.now)) }
+        ensures delivers { Delivers B.Book self.old self.new delivery.now result }
     {
         if let Some(kept) = self.book.kept(alloc, &delivery.id)? {
             return Ok(answer_text(alloc, &kept)?);
@@ -261,17 +261,10 @@ impl<B: Book> Keeper<B> {
     fn step(&mut self, alloc: Global, delivery: &Delivery) -> Result<Acted, Fault>
         requires free { B.is_sound self.old → kept_under (B.shows self.old) delivery.now.id ≡ None }
         requires sound { B.is_honest self.old → B.is_sound self.old }
-        ensures answer { B.is_sound self.new → IfOk result (λ acted. acted.answer ≡ replies_to (B.shows self.old).state (acts_in delivery.now)) }
+        ensures answer { B.is_sound self.new
+            → IfOk result (λ acted. acted.answer ≡ replies_to (B.shows self.old).state (acts_in delivery.now)) }
         ensures text { IfOk result (λ acted. string_bytes acted.text ≡ answer_text_of acted.answer) }
-        ensures book { B.is_sound self.new → OnOk result (B.shows self.new ≡ stepped (B.shows self.old) delivery.now) }
-        ensures history { B.is_sound self.new → OnOk result ((history : List Entry) → Legal history (B.shows self.old).state → Each Tells history (B.shows self.old).state (acts_in delivery.now)) }
-        ensures err { B.is_sound self.new → OnErr result (B.shows self.new ≡ B.shows self.old) }
-        ensures full { B.is_sound self.new → AgreesOnFull result (acts_meet_full (B.shows self.old).state (acts_in delivery.now)) }
-        ensures cause { IfErr result (IsOfKeepers B.may_answer) }
-        ensures was { B.is_sound self.new → B.is_sound self.old }
-        ensures honest { B.is_honest self.new → B.is_honest self.old }
-        ensures shield { B.is_shielded self.old → B.is_shielded self.new }
-        ensures stays { B.is_honest self.new → StaysOpen result (B.is_sound self.new) }
+        ensures steps { Steps B.Book self.old self.new delivery.now result }
     {
         let acts = acts_of(alloc, delivery)?;
         let gate = take_gate(&mut self.gate, &mut self.book, alloc)?;
@@ -293,11 +286,10 @@ impl<B: Book> Keeper<B> {
         requires stands { B.is_sound self.old → IsBefore before.now (B.shows self.old).state gate }
         requires text { string_bytes acted.now.text ≡ answer_text_of acted.now.answer }
         requires reads { answer_of (string_bytes acted.now.text) ≡ acted.now.answer }
-        ensures ok { B.is_sound self.new → OnOk result (B.shows self.new ≡ with_answer (B.shows self.old) gate id.now acted.now.answer) }
+        ensures ok { B.is_sound self.new
+            → OnOk result (B.shows self.new ≡ with_answer (B.shows self.old) gate id.now acted.now.answer) }
         ensures err { B.is_sound self.new → OnErr result (B.shows self.new ≡ B.shows self.old) }
-        ensures was { B.is_sound self.new → B.is_sound self.old }
-        ensures honest { B.is_honest self.new → B.is_honest self.old }
-        ensures shield { B.is_shielded self.old → B.is_shielded self.new }
+        ensures outlasts { Outlasts B.Book self.old self.new }
         ensures stays { B.is_honest self.new → OnOk result (B.is_sound self.new) }
         ensures cause { IfErr result B.may_answer }
         ensures fault { IfErr result IsOfBooks }
@@ -325,7 +317,8 @@ fn act_all(gate: Gate, alloc: Global, acts: &[Act]) -> Result<(Gate, Before, Act
     ensures reads { IfOk result (λ done. answer_of (string_bytes done.2.text) ≡ done.2.answer) }
     ensures gate { IfOk result (λ done. done.0 ≡ after_all gate acts.now) }
     ensures before { IfOk result (λ done. IsBefore done.1 gate done.0) }
-    ensures history { IfOk result (λ _. (history : List Entry) → Legal history gate → Each Tells history gate acts.now) }
+    ensures history { IfOk result (λ _. (history : List Entry) → Legal history gate
+        → Each Tells history gate acts.now) }
     ensures full { AgreesOnFull result (acts_meet_full gate acts.now) }
     ensures cause { IfErr result IsOfActs }
 {
@@ -344,10 +337,8 @@ fn take_gate<B: Book>(
     ensures gate { B.is_sound book.new → IfOk result (λ gate. gate ≡ (B.shows book.old).state) }
     ensures taken { at_hand.new ≡ None }
     ensures same { B.is_sound book.new → B.shows book.new ≡ B.shows book.old }
-    ensures was { B.is_sound book.new → B.is_sound book.old }
-    ensures honest { B.is_honest book.new → B.is_honest book.old }
-    ensures shield { B.is_shielded book.old → B.is_shielded book.new }
-    ensures stays { (B.is_honest book.old → B.is_sound book.old) → B.is_honest book.new → OnOk result (B.is_sound book.new) }
+    ensures outlasts { Outlasts B.Book book.old book.new }
+    ensures stays { RemainsSound B.Book book.old book.new (OnOk result) }
     ensures cause { IfErr result B.may_answer }
     ensures fault { IfErr result IsOfBooks }
 {

@@ -23,7 +23,8 @@ pub fn step_all(gate: Gate, alloc: Global, acts: &[Act]) -> Result<(Gate, Before
     ensures before { IfOk result (λ done. IsBefore done.1 gate done.0) }
 
     // Each entry tells, after every history that led to the state.
-    ensures history { IfOk result (λ _. (history : List Entry) → Legal history gate → Each Tells history gate acts.now) }
+    ensures history { IfOk result (λ _. (history : List Entry) → Legal history gate
+        → Each Tells history gate acts.now) }
 
     // The faults.
     ensures full { AgreesOnFull result (acts_meet_full gate acts.now) }
@@ -50,7 +51,8 @@ fn step_one(
     requires { ActKeepsLimits act.now }
     ensures reply { OnOk result (replies.new ≡ replies.old ++ reply_to gate act.now ∷ []) }
     ensures gate { IfOk result (λ next. next ≡ after gate act.now) }
-    ensures before { OnOk result ((first : State) → IsBefore before.old first gate → IsBefore before.new first (after gate act.now)) }
+    ensures before { OnOk result ((first : State) → IsBefore before.old first gate
+        → IsBefore before.new first (after gate act.now)) }
     ensures history { OnOk result ((history : List Entry) → Legal history gate → Tells history gate act.now) }
     ensures full { AgreesOnFull result (is_full gate.queue) }
     ensures at_once { IsTrue (is_full gate.queue) → result ≡ Err Fault.Full }
@@ -59,8 +61,9 @@ fn step_one(
     if gate.is_full() {
         return Err(Fault::Full);
     }
-    before.note(alloc, &gate, act)?;
-    let (gate, reply) = gate.act(alloc, act)?;
+    let judged = gate.judge(alloc, act)?;
+    before.note(alloc, &gate, &judged)?;
+    let (gate, reply) = gate.perform(alloc, judged)?;
     replies.push(reply)?;
     Ok(gate)
 }

@@ -8,12 +8,13 @@
 --     Apart       items with keys of their own
 --     Applied     what row changes make of rows
 --     Differences the row changes that lead from rows to others
--- For the code: Faults; Answers, Batches, Changes, Desk, Marks, Members, People, Statuses, Wanted, the statements on each table; Casts,
--- Creation, Effects, Kept, Known, Texts, what statements do; Plain, which schemas are compared.
+-- For the code: Calls, the words of private clauses; Faults; Answers, Batches, Changes, Desk, Marks, Members, People, Statuses, Wanted,
+-- the statements on each table; Casts, Creation, Effects, Kept, Known, Texts, what statements do; Plain, which schemas are compared.
 pub mod Answers
 pub mod Apart
 pub mod Applied
 pub mod Batches
+pub mod Calls
 pub mod Casts
 pub mod Changes
 pub mod Contents

@@ -32,11 +32,27 @@ module _ {S : Type 0} (g : Ghosts S) where
   abbrev pub is_shielded : Held S → Type 0
   is_shielded h = (state g h).IsShielded
 
+  -- what every call says of this: what is sound after it was sound before, what is honest was honest, and what was shielded still is
+  pub record Outlasts (old new : Held S) : Type 0 where
+    pub was : is_sound new → is_sound old
+    pub honest : is_honest new → is_honest old
+    pub shield : is_shielded old → is_shielded new
+
   abbrev pub rows_in : Held S → Rows
   rows_in h = rows_at (state g h).now.trees
 
   abbrev pub answers_in : Held S → FinMap (slice_cmp nat_cmp) (List ℕ)
   answers_in h = answers_at (state g h).now.trees
+
+  abbrev pub ShowsTheSame : Held S → Held S → Type 0
+  ShowsTheSame old new = (rows_in new ≡ rows_in old) × (answers_in new ≡ answers_in old)
+
+  -- A connection that is handed back, if it is sound: it was sound, and its database is as it was.
+  abbrev pub WasSound : Held S → Held S → Type 0
+  WasSound old back = is_sound back → is_sound old
+
+  abbrev pub HandsBack : Held S → Held S → Type 0
+  HandsBack old back = is_sound back → (state g back).now ≡ (state g old).now
 
 -- each answer is of two texts, and no identifier comes twice
 pub record AreAnswers (db : Trees) : Type 0 where

@@ -1,8 +1,8 @@
-ghost use Rattle.std.specs.Prelude.{◌≡◌, false, map, IsTrue, IfOk, OnOk};
+ghost use Rattle.std.specs.Prelude.{◌≡◌, false, map, IfOk};
 ghost use Rattle.std.specs.FinMap.{get};
+ghost use Rattle.gate_tables.specs.Calls.{AsksTables, Finds, IsOpenIfOk, LeavesIf, Moves};
 ghost use Rattle.gate_tables.specs.Contents.{answers_at};
-ghost use Rattle.gate_tables.specs.Database.{all_schema};
-ghost use Rattle.gate_tables.specs.Effects.{Adds, Asks, GoesOn, IsInside, IsReady, Lasts, Leaves, Reads, Tells};
+ghost use Rattle.gate_tables.specs.Effects.{Adds, GoesOn, IsReady, Lasts, Reads};
 ghost use Rattle.gate_tables.specs.Forms.{answers};
 ghost use Rattle.gate_tables.specs.Tables.{AreAnswers, answer_of};
 ghost use Rattle.sqlite.specs.Held.{state};
@@ -22,8 +22,7 @@ pub(crate) fn put_answer<S: Alter>(
     body: &str,
 ) -> Result<(), TablesFault>
     ensures same_reference { tx.new.conn.ghost_name ≡ tx.old.conn.ghost_name }
-    ensures added { HasCleanDisk (state S.Store tx.new.conn.now) → OnOk result (IsInside all_schema (state S.Store tx.old.conn.now)
-        → IsInside all_schema (state S.Store tx.new.conn.now) × Adds answers (id.now, body.now) (state S.Store tx.old.conn.now).now.trees (state S.Store tx.new.conn.now).now.trees) }
+    ensures added { Moves S.Store tx.old.conn.now tx.new.conn.now result (Adds answers (id.now, body.now)) }
     ensures goes_on { GoesOn (state S.Store tx.old.conn.now) (state S.Store tx.new.conn.now) }
 {
     run(
@@ -50,9 +49,8 @@ pub(crate) fn read_answers<S: Alter>(
     tx: &mut Transaction<'_, S>,
 ) -> Result<List<(Text, Text)>, TablesFault>
     ensures same_reference { tx.new.conn.ghost_name ≡ tx.old.conn.ghost_name }
-    ensures read { HasCleanDisk (state S.Store tx.new.conn.now) → (state S.Store tx.old.conn.now).now.schema ≡ all_schema
-        → IfOk result (Tells (Reads answers) (state S.Store tx.old.conn.now) (state S.Store tx.new.conn.now)) }
-    ensures asks { Asks ((state S.Store tx.old.conn.now).now.schema ≡ all_schema) (state S.Store tx.old.conn.now) (state S.Store tx.new.conn.now) }
+    ensures read { Finds S.Store tx.old.conn.now tx.new.conn.now result (Reads answers) }
+    ensures asks { AsksTables S.Store tx.old.conn.now tx.new.conn.now }
 {
     let rows = select_inside(tx, "SELECT id, body, rowid FROM answers")?;
     check_rowids(rows.as_slice(), 2)?;
@@ -63,10 +61,12 @@ pub(crate) fn read_answers<S: Alter>(
 fn ask<S: Alter>(conn: &mut Connection<S>, id: &str) -> Result<Vec<Row>, TablesFault>
     requires mode { conn.old.in_transaction ≡ false }
     ensures mode { conn.new.in_transaction ≡ false }
-    ensures found { HasCleanDisk (state S.Store conn.new) → IsReady (state S.Store conn.old) → AreAnswers (state S.Store conn.old).now.trees → IfOk result (λ rows. answer_of rows.items ≡ get (answers_at (state S.Store conn.old).now.trees) id.now) }
-    ensures left { HasCleanDisk (state S.Store conn.new) → IsReady (state S.Store conn.old) → Leaves (state S.Store conn.old) (state S.Store conn.new) }
+    ensures found { HasCleanDisk (state S.Store conn.new) → IsReady (state S.Store conn.old)
+        → AreAnswers (state S.Store conn.old).now.trees
+        → IfOk result (λ rows. answer_of rows.items ≡ get (answers_at (state S.Store conn.old).now.trees) id.now) }
+    ensures left { LeavesIf S.Store conn.old conn.new (IsReady (state S.Store conn.old)) }
     ensures lasts { Lasts (state S.Store conn.old) (state S.Store conn.new) }
-    ensures stays { HasCleanDisk (state S.Store conn.new) → OnOk result (IsTrue (state S.Store conn.new).is_open) }
+    ensures stays { IsOpenIfOk S.Store conn.new result }
 {
     select(conn, "SELECT body FROM answers WHERE id = ?1", params![id])
 }
@@ -88,10 +88,12 @@ pub(crate) fn find_answer<S: Alter>(
 ) -> Result<Option<Text>, TablesFault>
     requires mode { conn.old.in_transaction ≡ false }
     ensures mode { conn.new.in_transaction ≡ false }
-    ensures found { HasCleanDisk (state S.Store conn.new) → IsReady (state S.Store conn.old) → AreAnswers (state S.Store conn.old).now.trees → IfOk result (λ answer. answer ≡ get (answers_at (state S.Store conn.old).now.trees) id.now) }
-    ensures left { HasCleanDisk (state S.Store conn.new) → IsReady (state S.Store conn.old) → Leaves (state S.Store conn.old) (state S.Store conn.new) }
+    ensures found { HasCleanDisk (state S.Store conn.new) → IsReady (state S.Store conn.old)
+        → AreAnswers (state S.Store conn.old).now.trees
+        → IfOk result (λ answer. answer ≡ get (answers_at (state S.Store conn.old).now.trees) id.now) }
+    ensures left { LeavesIf S.Store conn.old conn.new (IsReady (state S.Store conn.old)) }
     ensures lasts { Lasts (state S.Store conn.old) (state S.Store conn.new) }
-    ensures stays { HasCleanDisk (state S.Store conn.new) → OnOk result (IsTrue (state S.Store conn.new).is_open) }
+    ensures stays { IsOpenIfOk S.Store conn.new result }
 {
     let rows = ask(conn, id)?;
     first_body(rows.as_slice())

@@ -1,4 +1,5 @@
-ghost use Rattle.std.specs.Prelude.{◌≡◌, false, length, true, [], ◌∷◌, IsTrue, OnOk, OnErr};
+ghost use Rattle.std.specs.Prelude.{◌≡◌, false, length, true, [], ◌∷◌, OnOk, OnErr};
+ghost use Rattle.gate_tables.specs.Calls.{IsOpenIfOk, Moves};
 ghost use Rattle.gate_tables.specs.Database.{all_schema};
 ghost use Rattle.gate_tables.specs.Effects.{Applied, Changes, Drops, GoesOn, IsInside, IsReady, Lasts, Leaves, Puts};
 ghost use Rattle.gate_tables.specs.Keys.{is_front, IsGivenAt};
@@ -22,8 +23,7 @@ use sqlite::{Alter, Connection, Transaction, params};
 // Changes the row that has the key, or adds it if there is none. To delete it and to insert it anew would cost far more.
 fn put<S: Alter, R: TableRow>(tx: &mut Transaction<'_, S>, row: &R) -> Result<(), TablesFault>
     ensures same_reference { tx.new.conn.ghost_name ≡ tx.old.conn.ghost_name }
-    ensures put { HasCleanDisk (state S.Store tx.new.conn.now) → OnOk result (IsInside all_schema (state S.Store tx.old.conn.now)
-        → IsInside all_schema (state S.Store tx.new.conn.now) × Puts R.form row.now (state S.Store tx.old.conn.now).now.trees (state S.Store tx.new.conn.now).now.trees) }
+    ensures put { Moves S.Store tx.old.conn.now tx.new.conn.now result (Puts R.form row.now) }
     ensures goes_on { GoesOn (state S.Store tx.old.conn.now) (state S.Store tx.new.conn.now) }
 {
     if row.update(tx)? > 0 {
@@ -38,9 +38,13 @@ fn delete<S: Alter, R: TableRow>(
     key: &[ValueRef<'_>],
 ) -> Result<(), TablesFault>
     ensures same_reference { tx.new.conn.ghost_name ≡ tx.old.conn.ghost_name }
-    ensures dropped { HasCleanDisk (state S.Store tx.new.conn.now) → OnOk result (IsGivenAt 0 (bound key.now) (bound key.now)
-        → is_front R.form.layout.columns (bound key.now) ≡ true → length (bound key.now) ≡ key_width R.form.layout → IsInside all_schema (state S.Store tx.old.conn.now)
-        → IsInside all_schema (state S.Store tx.new.conn.now) × Drops R.form (bound key.now) (state S.Store tx.old.conn.now).now.trees (state S.Store tx.new.conn.now).now.trees) }
+    ensures dropped { HasCleanDisk (state S.Store tx.new.conn.now)
+        → OnOk result (IsGivenAt 0 (bound key.now) (bound key.now)
+        → is_front R.form.layout.columns (bound key.now) ≡ true → length (bound key.now) ≡ key_width R.form.layout
+        → IsInside all_schema (state S.Store tx.old.conn.now)
+        → IsInside all_schema (state S.Store tx.new.conn.now)
+        × Drops R.form (bound key.now) (state S.Store tx.old.conn.now).now.trees
+        (state S.Store tx.new.conn.now).now.trees) }
     ensures goes_on { GoesOn (state S.Store tx.old.conn.now) (state S.Store tx.new.conn.now) }
 {
     run(tx, R::delete_text(), key)
@@ -49,8 +53,7 @@ fn delete<S: Alter, R: TableRow>(
 // Deletes the row of a key, if there is one.
 fn delete_by<S: Alter>(tx: &mut Transaction<'_, S>, key: &RowKey) -> Result<(), TablesFault>
     ensures same_reference { tx.new.conn.ghost_name ≡ tx.old.conn.ghost_name }
-    ensures changed { HasCleanDisk (state S.Store tx.new.conn.now) → OnOk result (IsInside all_schema (state S.Store tx.old.conn.now)
-        → IsInside all_schema (state S.Store tx.new.conn.now) × Changes (Delete key.now ∷ []) (state S.Store tx.old.conn.now).now.trees (state S.Store tx.new.conn.now).now.trees) }
+    ensures changed { Moves S.Store tx.old.conn.now tx.new.conn.now result (Changes (Delete key.now ∷ [])) }
     ensures goes_on { GoesOn (state S.Store tx.old.conn.now) (state S.Store tx.new.conn.now) }
 {
     match key {
@@ -74,8 +77,7 @@ fn delete_by<S: Alter>(tx: &mut Transaction<'_, S>, key: &RowKey) -> Result<(), 
 // Puts a row.
 fn put_row<S: Alter>(tx: &mut Transaction<'_, S>, row: &Row) -> Result<(), TablesFault>
     ensures same_reference { tx.new.conn.ghost_name ≡ tx.old.conn.ghost_name }
-    ensures changed { HasCleanDisk (state S.Store tx.new.conn.now) → OnOk result (IsInside all_schema (state S.Store tx.old.conn.now)
-        → IsInside all_schema (state S.Store tx.new.conn.now) × Changes (Put row.now ∷ []) (state S.Store tx.old.conn.now).now.trees (state S.Store tx.new.conn.now).now.trees) }
+    ensures changed { Moves S.Store tx.old.conn.now tx.new.conn.now result (Changes (Put row.now ∷ [])) }
     ensures goes_on { GoesOn (state S.Store tx.old.conn.now) (state S.Store tx.new.conn.now) }
 {
     match row {
@@ -93,8 +95,7 @@ fn put_row<S: Alter>(tx: &mut Transaction<'_, S>, row: &Row) -> Result<(), Table
 // Makes a row change.
 fn change_one<S: Alter>(tx: &mut Transaction<'_, S>, change: &RowChange) -> Result<(), TablesFault>
     ensures same_reference { tx.new.conn.ghost_name ≡ tx.old.conn.ghost_name }
-    ensures changed { HasCleanDisk (state S.Store tx.new.conn.now) → OnOk result (IsInside all_schema (state S.Store tx.old.conn.now)
-        → IsInside all_schema (state S.Store tx.new.conn.now) × Changes (change.now ∷ []) (state S.Store tx.old.conn.now).now.trees (state S.Store tx.new.conn.now).now.trees) }
+    ensures changed { Moves S.Store tx.old.conn.now tx.new.conn.now result (Changes (change.now ∷ [])) }
     ensures goes_on { GoesOn (state S.Store tx.old.conn.now) (state S.Store tx.new.conn.now) }
 {
     match change {
@@ -109,8 +110,7 @@ pub(crate) fn change_all<S: Alter>(
     changes: &[RowChange],
 ) -> Result<(), TablesFault>
     ensures same_reference { tx.new.conn.ghost_name ≡ tx.old.conn.ghost_name }
-    ensures changed { HasCleanDisk (state S.Store tx.new.conn.now) → OnOk result (IsInside all_schema (state S.Store tx.old.conn.now)
-        → IsInside all_schema (state S.Store tx.new.conn.now) × Changes changes.now (state S.Store tx.old.conn.now).now.trees (state S.Store tx.new.conn.now).now.trees) }
+    ensures changed { Moves S.Store tx.old.conn.now tx.new.conn.now result (Changes changes.now) }
     ensures goes_on { GoesOn (state S.Store tx.old.conn.now) (state S.Store tx.new.conn.now) }
 {
     for change in changes {
@@ -128,10 +128,12 @@ pub(crate) fn apply_all<S: Alter>(
 ) -> Result<(), TablesFault>
     requires mode { conn.old.in_transaction ≡ false }
     ensures mode { conn.new.in_transaction ≡ false }
-    ensures applied { HasCleanDisk (state S.Store conn.new) → OnOk result (IsReady (state S.Store conn.old) → Applied changes.now id.now body.now (state S.Store conn.old) (state S.Store conn.new)) }
-    ensures left { HasCleanDisk (state S.Store conn.new) → IsReady (state S.Store conn.old) → OnErr result (Leaves (state S.Store conn.old) (state S.Store conn.new)) }
+    ensures applied { HasCleanDisk (state S.Store conn.new) → OnOk result (IsReady (state S.Store conn.old)
+        → Applied changes.now id.now body.now (state S.Store conn.old) (state S.Store conn.new)) }
+    ensures left { HasCleanDisk (state S.Store conn.new) → IsReady (state S.Store conn.old)
+        → OnErr result (Leaves (state S.Store conn.old) (state S.Store conn.new)) }
     ensures lasts { Lasts (state S.Store conn.old) (state S.Store conn.new) }
-    ensures stays { HasCleanDisk (state S.Store conn.new) → OnOk result (IsTrue (state S.Store conn.new).is_open) }
+    ensures stays { IsOpenIfOk S.Store conn.new result }
 {
     let mut tx = conn.transaction();
     change_all(&mut tx, changes)?;

@@ -23,8 +23,11 @@ pub(crate) fn complete<S: Alter>(
     missing: bool,
 ) -> Result<(), TablesFault>
     ensures same_reference { tx.new.conn.ghost_name ≡ tx.old.conn.ghost_name }
-    ensures schema { HasCleanDisk (state S.Store tx.new.conn.now) → OnOk result (IsBegun missing (state S.Store tx.old.conn.now) → (state S.Store tx.new.conn.now).now.schema ≡ all_schema) }
-    ensures whole { HasCleanDisk (state S.Store tx.new.conn.now) → OnOk result (IsBegun missing (state S.Store tx.old.conn.now) → IsTrue (state S.Store tx.new.conn.now).is_open
+    ensures schema { HasCleanDisk (state S.Store tx.new.conn.now)
+        → OnOk result (IsBegun missing (state S.Store tx.old.conn.now)
+        → (state S.Store tx.new.conn.now).now.schema ≡ all_schema) }
+    ensures whole { HasCleanDisk (state S.Store tx.new.conn.now)
+        → OnOk result (IsBegun missing (state S.Store tx.old.conn.now) → IsTrue (state S.Store tx.new.conn.now).is_open
         → Completes missing (state S.Store tx.old.conn.now) (state S.Store tx.new.conn.now)) }
     ensures goes_on { GoesOn (state S.Store tx.old.conn.now) (state S.Store tx.new.conn.now) }
 {

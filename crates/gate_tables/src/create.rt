@@ -1,7 +1,7 @@
 ghost use Rattle.std.specs.Prelude.{◌≡◌, OnOk};
-ghost use Rattle.gate_tables.specs.Creation.{after_first};
+ghost use Rattle.gate_tables.specs.Calls.{CreatesTables};
 ghost use Rattle.gate_tables.specs.Database.{all_schema, wanted};
-ghost use Rattle.gate_tables.specs.Effects.{GoesOn, Grows, IsBare};
+ghost use Rattle.gate_tables.specs.Effects.{GoesOn, Grows};
 ghost use Rattle.gate_tables.specs.Schemas.{first_schema};
 ghost use Rattle.sqlite.specs.Held.{state};
 ghost use Rattle.sqlite.specs.State.{HasCleanDisk};
@@ -12,8 +12,7 @@ use sqlite::{Alter, Transaction};
 
 fn create_first<S: Alter>(tx: &mut Transaction<'_, S>) -> Result<(), TablesFault>
     ensures same_reference { tx.new.conn.ghost_name ≡ tx.old.conn.ghost_name }
-    ensures made { HasCleanDisk (state S.Store tx.new.conn.now) → OnOk result (IsBare (after_first 0) (state S.Store tx.old.conn.now)
-        → IsBare (after_first 4) (state S.Store tx.new.conn.now)) }
+    ensures made { CreatesTables S.Store tx.old.conn.now tx.new.conn.now result 0 4 }
     ensures goes_on { GoesOn (state S.Store tx.old.conn.now) (state S.Store tx.new.conn.now) }
 {
     run(
@@ -40,8 +39,7 @@ fn create_first<S: Alter>(tx: &mut Transaction<'_, S>) -> Result<(), TablesFault
 
 fn create_last<S: Alter>(tx: &mut Transaction<'_, S>) -> Result<(), TablesFault>
     ensures same_reference { tx.new.conn.ghost_name ≡ tx.old.conn.ghost_name }
-    ensures made { HasCleanDisk (state S.Store tx.new.conn.now) → OnOk result (IsBare (after_first 4) (state S.Store tx.old.conn.now)
-        → IsBare (after_first 8) (state S.Store tx.new.conn.now)) }
+    ensures made { CreatesTables S.Store tx.old.conn.now tx.new.conn.now result 4 8 }
     ensures goes_on { GoesOn (state S.Store tx.old.conn.now) (state S.Store tx.new.conn.now) }
 {
     run(
@@ -69,8 +67,7 @@ fn create_last<S: Alter>(tx: &mut Transaction<'_, S>) -> Result<(), TablesFault>
 // Makes the eight tables of version 1, which have no rows, in a database that has none.
 pub(crate) fn create_version_1<S: Alter>(tx: &mut Transaction<'_, S>) -> Result<(), TablesFault>
     ensures same_reference { tx.new.conn.ghost_name ≡ tx.old.conn.ghost_name }
-    ensures made { HasCleanDisk (state S.Store tx.new.conn.now) → OnOk result (IsBare (after_first 0) (state S.Store tx.old.conn.now)
-        → IsBare (after_first 8) (state S.Store tx.new.conn.now)) }
+    ensures made { CreatesTables S.Store tx.old.conn.now tx.new.conn.now result 0 8 }
     ensures goes_on { GoesOn (state S.Store tx.old.conn.now) (state S.Store tx.new.conn.now) }
 {
     create_first(tx)?;
@@ -80,10 +77,10 @@ pub(crate) fn create_version_1<S: Alter>(tx: &mut Transaction<'_, S>) -> Result<
 // Makes the table that version 2 has besides.
 pub(crate) fn create_wanted<S: Alter>(tx: &mut Transaction<'_, S>) -> Result<(), TablesFault>
     ensures same_reference { tx.new.conn.ghost_name ≡ tx.old.conn.ghost_name }
-    ensures grown { HasCleanDisk (state S.Store tx.new.conn.now) → OnOk result ((state S.Store tx.old.conn.now).now.schema ≡ first_schema
+    ensures grown { HasCleanDisk (state S.Store tx.new.conn.now)
+        → OnOk result ((state S.Store tx.old.conn.now).now.schema ≡ first_schema
         → Grows first_schema wanted all_schema (state S.Store tx.old.conn.now) (state S.Store tx.new.conn.now)) }
-    ensures made { HasCleanDisk (state S.Store tx.new.conn.now) → OnOk result (IsBare (after_first 8) (state S.Store tx.old.conn.now)
-        → IsBare (after_first 9) (state S.Store tx.new.conn.now)) }
+    ensures made { CreatesTables S.Store tx.old.conn.now tx.new.conn.now result 8 9 }
     ensures goes_on { GoesOn (state S.Store tx.old.conn.now) (state S.Store tx.new.conn.now) }
 {
     run(
@@ -96,8 +93,7 @@ pub(crate) fn create_wanted<S: Alter>(tx: &mut Transaction<'_, S>) -> Result<(),
 // Makes the nine tables, which have no rows, in a database that has none.
 pub(crate) fn create<S: Alter>(tx: &mut Transaction<'_, S>) -> Result<(), TablesFault>
     ensures same_reference { tx.new.conn.ghost_name ≡ tx.old.conn.ghost_name }
-    ensures made { HasCleanDisk (state S.Store tx.new.conn.now) → OnOk result (IsBare (after_first 0) (state S.Store tx.old.conn.now)
-        → IsBare (after_first 9) (state S.Store tx.new.conn.now)) }
+    ensures made { CreatesTables S.Store tx.old.conn.now tx.new.conn.now result 0 9 }
     ensures goes_on { GoesOn (state S.Store tx.old.conn.now) (state S.Store tx.new.conn.now) }
 {
     create_version_1(tx)?;

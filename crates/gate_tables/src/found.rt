@@ -1,6 +1,5 @@
-ghost use Rattle.std.specs.Prelude.{◌≡◌, false, IfOk, OnOk};
-ghost use Rattle.gate_tables.specs.Creation.{after_first};
-ghost use Rattle.gate_tables.specs.Effects.{IsUnused};
+ghost use Rattle.std.specs.Prelude.{◌≡◌, false, IfOk};
+ghost use Rattle.gate_tables.specs.Calls.{MakesTables};
 ghost use Rattle.gate_tables.specs.Schemas.{IsFound};
 ghost use Rattle.sqlite.specs.Held.{state};
 ghost use Rattle.sqlite.specs.State.{HasCleanDisk};
@@ -50,8 +49,7 @@ pub fn found_in(alloc: Global, schema: &Schema) -> Result<Found, TablesFault>
 fn make_first<S: Alter>(conn: &mut Connection<S>) -> Result<(), TablesFault>
     requires mode { conn.old.in_transaction ≡ false }
     ensures mode { conn.new.in_transaction ≡ false }
-    ensures made { HasCleanDisk (state S.Store conn.new) → OnOk result (IsUnused (after_first 0) (state S.Store conn.old)
-        → IsUnused (after_first 8) (state S.Store conn.new)) }
+    ensures made { MakesTables S.Store conn.old conn.new result 0 8 }
     ensures clean { HasCleanDisk (state S.Store conn.new) → HasCleanDisk (state S.Store conn.old) }
 {
     let mut tx = conn.transaction();
@@ -63,8 +61,7 @@ fn make_first<S: Alter>(conn: &mut Connection<S>) -> Result<(), TablesFault>
 fn make_wanted<S: Alter>(conn: &mut Connection<S>) -> Result<(), TablesFault>
     requires mode { conn.old.in_transaction ≡ false }
     ensures mode { conn.new.in_transaction ≡ false }
-    ensures made { HasCleanDisk (state S.Store conn.new) → OnOk result (IsUnused (after_first 8) (state S.Store conn.old)
-        → IsUnused (after_first 9) (state S.Store conn.new)) }
+    ensures made { MakesTables S.Store conn.old conn.new result 8 9 }
     ensures clean { HasCleanDisk (state S.Store conn.new) → HasCleanDisk (state S.Store conn.old) }
 {
     let mut tx = conn.transaction();

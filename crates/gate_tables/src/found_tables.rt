@@ -3,7 +3,7 @@ ghost use Rattle.gate_tables.specs.Applied.{applied};
 ghost use Rattle.gate_tables.specs.Contents.{AreSame, answers_at};
 ghost use Rattle.gate_tables.specs.Forms.{answers, rows_of};
 ghost use Rattle.gate_tables.specs.Schemas.{HasTables, stored_rows};
-ghost use Rattle.gate_tables.specs.Tables.{is_honest, is_shielded, is_sound, answers_in, rows_in};
+ghost use Rattle.gate_tables.specs.Tables.{HandsBack, WasSound, Outlasts, is_honest, is_sound, answers_in, rows_in};
 ghost use Rattle.sqlite.specs.Held.{state};
 
 use crate::change::RowChange;
@@ -44,15 +44,16 @@ impl<S: Alter> FoundTables<S> {
     ) -> Result<(FoundTables<S>, Contents), NotMade<S>>
         requires mode { connection.in_transaction ≡ false }
         requires tables { HasTables (state S.Store connection).now }
-        ensures rows { IfOk result (λ found. is_sound S.Store found.0 → AreSame (stored_rows (state S.Store found.0).now) found.1.rows) }
-        ensures answers { IfOk result (λ found. is_sound S.Store found.0 → IsPermutation (rows_of answers (state S.Store found.0).now.trees) found.1.answers) }
-        ensures found { IfOk result (λ found. is_sound S.Store found.0 → (state S.Store found.0).now ≡ (state S.Store connection).now) }
-        ensures same { IfErr result (λ refused. is_sound S.Store refused.connection → (state S.Store refused.connection).now ≡ (state S.Store connection).now) }
+        ensures rows { IfOk result (λ found. is_sound S.Store found.0
+            → AreSame (stored_rows (state S.Store found.0).now) found.1.rows) }
+        ensures answers { IfOk result (λ found. is_sound S.Store found.0
+            → IsPermutation (rows_of answers (state S.Store found.0).now.trees) found.1.answers) }
+        ensures found { IfOk result (λ found. is_sound S.Store found.0
+            → (state S.Store found.0).now ≡ (state S.Store connection).now) }
+        ensures same { IfErr result (λ refused. HandsBack S.Store connection refused.connection) }
         ensures mode { IfErr result (λ refused. refused.connection.in_transaction ≡ false) }
-        ensures was { IfOk result (λ found. is_sound S.Store found.0 → is_sound S.Store connection) }
-        ensures honest { IfOk result (λ found. is_honest S.Store found.0 → is_honest S.Store connection) }
-        ensures shield { IfOk result (λ found. is_shielded S.Store connection → is_shielded S.Store found.0) }
-        ensures was_refused { IfErr result (λ refused. is_sound S.Store refused.connection → is_sound S.Store connection) }
+        ensures outlasts { IfOk result (λ found. Outlasts S.Store connection found.0) }
+        ensures was_refused { IfErr result (λ refused. WasSound S.Store connection refused.connection) }
     {
         // That no transaction is open says that the database is as it was committed.
         if !connection.is_autocommit() {
@@ -71,15 +72,15 @@ impl<S: Alter> FoundTables<S> {
     /// at all. The answers stay. If it is refused, the database is as it was, and the connection is handed back. `Store` if the
     /// database fails, and `Memory` if there is no memory for it.
     pub fn take(self, changes: &[RowChange]) -> Result<Tables<S>, NotMade<S>>
-        ensures rows { IfOk result (λ tables. is_sound S.Store tables → AreSame (rows_in S.Store tables) (applied changes.now (stored_rows (state S.Store self).now))) }
-        ensures answers { IfOk result (λ tables. is_sound S.Store tables → answers_in S.Store tables ≡ answers_at (state S.Store self).now.trees) }
-        ensures same { IfErr result (λ refused. is_sound S.Store refused.connection → (state S.Store refused.connection).now ≡ (state S.Store self).now) }
+        ensures rows { IfOk result (λ tables. is_sound S.Store tables
+            → AreSame (rows_in S.Store tables) (applied changes.now (stored_rows (state S.Store self).now))) }
+        ensures answers { IfOk result (λ tables. is_sound S.Store tables
+            → answers_in S.Store tables ≡ answers_at (state S.Store self).now.trees) }
+        ensures same { IfErr result (λ refused. HandsBack S.Store self refused.connection) }
         ensures mode { IfErr result (λ refused. refused.connection.in_transaction ≡ false) }
-        ensures was { IfOk result (λ tables. is_sound S.Store tables → is_sound S.Store self) }
-        ensures honest { IfOk result (λ tables. is_honest S.Store tables → is_honest S.Store self) }
-        ensures shield { IfOk result (λ tables. is_shielded S.Store self → is_shielded S.Store tables) }
+        ensures outlasts { IfOk result (λ tables. Outlasts S.Store self tables) }
         ensures stays { IfOk result (λ tables. is_honest S.Store tables → is_sound S.Store tables) }
-        ensures was_refused { IfErr result (λ refused. is_sound S.Store refused.connection → is_sound S.Store self) }
+        ensures was_refused { IfErr result (λ refused. WasSound S.Store self refused.connection) }
     {
         let FoundTables { mut connection } = self;
         match take_over(&mut connection, changes) {

@@ -1,9 +1,8 @@
-ghost use Rattle.std.specs.Prelude.{◌≡◌, length, map, IfOk, OnOk};
-ghost use Rattle.gate_tables.specs.Database.{all_schema};
-ghost use Rattle.gate_tables.specs.Effects.{Asks, GoesOn, RanInside, RanOn, Reads, Tells};
+ghost use Rattle.std.specs.Prelude.{◌≡◌, length, map, IfOk};
+ghost use Rattle.gate_tables.specs.Calls.{AsksTables, Finds, Ran, RanCounting};
+ghost use Rattle.gate_tables.specs.Effects.{GoesOn, Reads};
 ghost use Rattle.gate_tables.specs.Texts.{delete_text, update_text};
 ghost use Rattle.sqlite.specs.Held.{state};
-ghost use Rattle.sqlite.specs.State.{HasCleanDisk};
 
 use crate::fault::TablesFault;
 use crate::rowids::check_rowids;
@@ -35,13 +34,14 @@ pub(crate) trait TableRow: Sized + Drop {
     // Changes the row that has the key of this one, and tells how many rows those were.
     fn update<S: Alter>(&self, tx: &mut Transaction<'_, S>) -> Result<usize, TablesFault>
         ensures same_reference { tx.new.conn.ghost_name ≡ tx.old.conn.ghost_name }
-        ensures ran { HasCleanDisk (state S.Store tx.new.conn.now) → IfOk result (λ count. RanOn count (update_text form.layout) (form.values self.now) (state S.Store tx.old.conn.now) (state S.Store tx.new.conn.now)) }
+        ensures ran { RanCounting S.Store tx.old.conn.now tx.new.conn.now result (update_text form.layout)
+            (form.values self.now) }
         ensures goes_on { GoesOn (state S.Store tx.old.conn.now) (state S.Store tx.new.conn.now) };
 
     // Adds the row.
     fn put<S: Alter>(&self, tx: &mut Transaction<'_, S>) -> Result<(), TablesFault>
         ensures same_reference { tx.new.conn.ghost_name ≡ tx.old.conn.ghost_name }
-        ensures ran { HasCleanDisk (state S.Store tx.new.conn.now) → OnOk result (RanInside form.insert (form.values self.now) (state S.Store tx.old.conn.now) (state S.Store tx.new.conn.now)) }
+        ensures ran { Ran S.Store tx.old.conn.now tx.new.conn.now result form.insert (form.values self.now) }
         ensures goes_on { GoesOn (state S.Store tx.old.conn.now) (state S.Store tx.new.conn.now) };
 
     // What a row of the answer says.
@@ -68,9 +68,8 @@ pub(crate) fn all<S: Alter, R: TableRow>(
     tx: &mut Transaction<'_, S>,
 ) -> Result<List<R>, TablesFault>
     ensures same_reference { tx.new.conn.ghost_name ≡ tx.old.conn.ghost_name }
-    ensures rows { HasCleanDisk (state S.Store tx.new.conn.now) → (state S.Store tx.old.conn.now).now.schema ≡ all_schema
-        → IfOk result (Tells (Reads R.form) (state S.Store tx.old.conn.now) (state S.Store tx.new.conn.now)) }
-    ensures asks { Asks ((state S.Store tx.old.conn.now).now.schema ≡ all_schema) (state S.Store tx.old.conn.now) (state S.Store tx.new.conn.now) }
+    ensures rows { Finds S.Store tx.old.conn.now tx.new.conn.now result (Reads R.form) }
+    ensures asks { AsksTables S.Store tx.old.conn.now tx.new.conn.now }
 {
     let rows = select_inside(tx, R::select_text())?;
     check_rowids(rows.as_slice(), R::rowid_at())?;

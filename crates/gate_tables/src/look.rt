@@ -1,7 +1,7 @@
-ghost use Rattle.std.specs.Prelude.{◌≡◌, false, IsTrue, IfOk, OnOk};
+ghost use Rattle.std.specs.Prelude.{◌≡◌, false, IsTrue, IfOk};
+ghost use Rattle.gate_tables.specs.Calls.{AsksTables, Finds, IsOpenIfOk, LeavesIf};
 ghost use Rattle.gate_tables.specs.Contents.{AreSame, rows_at};
-ghost use Rattle.gate_tables.specs.Database.{all_schema};
-ghost use Rattle.gate_tables.specs.Effects.{Asks, IsReady, Lasts, Leaves, ReadsContents, ShowsAll, Tells};
+ghost use Rattle.gate_tables.specs.Effects.{IsReady, Lasts, ReadsContents, ShowsAll};
 ghost use Rattle.gate_tables.specs.Schemas.{HasTables};
 ghost use Rattle.sqlite.specs.Held.{state};
 ghost use Rattle.sqlite.specs.State.{HasCleanDisk};
@@ -28,10 +28,11 @@ pub struct Contents {
 pub(crate) fn read<S: Alter>(alloc: Global, conn: &mut Connection<S>) -> Result<Rows, TablesFault>
     requires mode { conn.old.in_transaction ≡ false }
     ensures mode { conn.new.in_transaction ≡ false }
-    ensures rows { HasCleanDisk (state S.Store conn.new) → IsTrue (state S.Store conn.new).is_open → IsReady (state S.Store conn.old) → IfOk result (AreSame (rows_at (state S.Store conn.old).now.trees)) }
-    ensures left { HasCleanDisk (state S.Store conn.new) → IsReady (state S.Store conn.old) → Leaves (state S.Store conn.old) (state S.Store conn.new) }
+    ensures rows { HasCleanDisk (state S.Store conn.new) → IsTrue (state S.Store conn.new).is_open
+        → IsReady (state S.Store conn.old) → IfOk result (AreSame (rows_at (state S.Store conn.old).now.trees)) }
+    ensures left { LeavesIf S.Store conn.old conn.new (IsReady (state S.Store conn.old)) }
     ensures lasts { Lasts (state S.Store conn.old) (state S.Store conn.new) }
-    ensures stays { HasCleanDisk (state S.Store conn.new) → OnOk result (IsTrue (state S.Store conn.new).is_open) }
+    ensures stays { IsOpenIfOk S.Store conn.new result }
 {
     let mut tx = conn.transaction();
     let rows = read_rows(alloc, &mut tx)?;
@@ -46,9 +47,8 @@ fn read_contents<S: Alter>(
     tx: &mut Transaction<'_, S>,
 ) -> Result<Contents, TablesFault>
     ensures same_reference { tx.new.conn.ghost_name ≡ tx.old.conn.ghost_name }
-    ensures read { HasCleanDisk (state S.Store tx.new.conn.now) → (state S.Store tx.old.conn.now).now.schema ≡ all_schema
-        → IfOk result (Tells ReadsContents (state S.Store tx.old.conn.now) (state S.Store tx.new.conn.now)) }
-    ensures asks { Asks ((state S.Store tx.old.conn.now).now.schema ≡ all_schema) (state S.Store tx.old.conn.now) (state S.Store tx.new.conn.now) }
+    ensures read { Finds S.Store tx.old.conn.now tx.new.conn.now result ReadsContents }
+    ensures asks { AsksTables S.Store tx.old.conn.now tx.new.conn.now }
 {
     let rows = read_rows(alloc, tx)?;
     let answers = read_answers(alloc, tx)?;
@@ -63,8 +63,9 @@ pub(crate) fn look<S: Alter>(
 ) -> Result<Contents, TablesFault>
     requires mode { conn.old.in_transaction ≡ false }
     ensures mode { conn.new.in_transaction ≡ false }
-    ensures shown { HasCleanDisk (state S.Store conn.new) → HasTables (state S.Store conn.old).now → IfOk result (ShowsAll (state S.Store conn.old).now) }
-    ensures left { HasCleanDisk (state S.Store conn.new) → HasTables (state S.Store conn.old).now → Leaves (state S.Store conn.old) (state S.Store conn.new) }
+    ensures shown { HasCleanDisk (state S.Store conn.new) → HasTables (state S.Store conn.old).now
+        → IfOk result (ShowsAll (state S.Store conn.old).now) }
+    ensures left { LeavesIf S.Store conn.old conn.new (HasTables (state S.Store conn.old).now) }
     ensures lasts { Lasts (state S.Store conn.old) (state S.Store conn.new) }
 {
     let missing = lacks_wanted(conn.schema());

@@ -1,4 +1,5 @@
 ghost use Rattle.std.specs.Prelude.{◌≡◌, ◌↔◌, [], false, IsTrue, OnOk, OnErr};
+ghost use Rattle.gate_tables.specs.Calls.{IsOpenIfOk};
 ghost use Rattle.gate_tables.specs.Database.{all_schema, schema_of};
 ghost use Rattle.gate_tables.specs.Effects.{Brings, GoesOn, IsBegun, IsInside, Lasts, Leaves, Made, MayBeTaken, Taken};
 ghost use Rattle.gate_tables.specs.Kept.{AreKept};
@@ -32,9 +33,10 @@ pub(crate) fn make<S: Alter>(
     requires blank { (state S.Store conn.old).now.schema ≡ schema_of [] }
     ensures mode { conn.new.in_transaction ≡ false }
     ensures made { HasCleanDisk (state S.Store conn.new) → OnOk result (Made first.now (state S.Store conn.new)) }
-    ensures left { HasCleanDisk (state S.Store conn.new) → OnErr result (Leaves (state S.Store conn.old) (state S.Store conn.new)) }
+    ensures left { HasCleanDisk (state S.Store conn.new)
+        → OnErr result (Leaves (state S.Store conn.old) (state S.Store conn.new)) }
     ensures lasts { Lasts (state S.Store conn.old) (state S.Store conn.new) }
-    ensures stays { HasCleanDisk (state S.Store conn.new) → OnOk result (IsTrue (state S.Store conn.new).is_open) }
+    ensures stays { IsOpenIfOk S.Store conn.new result }
 {
     let mut tx = conn.transaction();
     create(&mut tx)?;
@@ -49,9 +51,11 @@ fn bring<S: Alter>(
     changes: &[RowChange],
 ) -> Result<(), TablesFault>
     ensures same_reference { tx.new.conn.ghost_name ≡ tx.old.conn.ghost_name }
-    ensures brought { HasCleanDisk (state S.Store tx.new.conn.now) → OnOk result (IsTrue (state S.Store tx.new.conn.now).is_open → IsBegun missing (state S.Store tx.old.conn.now)
+    ensures brought { HasCleanDisk (state S.Store tx.new.conn.now)
+        → OnOk result (IsTrue (state S.Store tx.new.conn.now).is_open → IsBegun missing (state S.Store tx.old.conn.now)
         → AreKept (state S.Store tx.old.conn.now).now.schema (state S.Store tx.old.conn.now).now.trees
-        → IsInside all_schema (state S.Store tx.new.conn.now) × Brings changes.now (state S.Store tx.old.conn.now).now (state S.Store tx.new.conn.now).now) }
+        → IsInside all_schema (state S.Store tx.new.conn.now)
+        × Brings changes.now (state S.Store tx.old.conn.now).now (state S.Store tx.new.conn.now).now) }
     ensures goes_on { GoesOn (state S.Store tx.old.conn.now) (state S.Store tx.new.conn.now) }
 {
     complete(tx, missing)?;
@@ -66,12 +70,16 @@ fn bring_all<S: Alter>(
 ) -> Result<(), TablesFault>
     requires mode { conn.old.in_transaction ≡ false }
     ensures mode { conn.new.in_transaction ≡ false }
-    ensures taken { HasCleanDisk (state S.Store conn.new) → OnOk result (missing ≡ spec.lacks_wanted (state S.Store conn.old).now.schema → IsLive (state S.Store conn.old) → MayBeTaken (state S.Store conn.old)
+    ensures taken { HasCleanDisk (state S.Store conn.new)
+        → OnOk result (missing ≡ spec.lacks_wanted (state S.Store conn.old).now.schema → IsLive (state S.Store conn.old)
+        → MayBeTaken (state S.Store conn.old)
         → Taken changes.now (state S.Store conn.old) (state S.Store conn.new)) }
-    ensures left { HasCleanDisk (state S.Store conn.new) → missing ≡ spec.lacks_wanted (state S.Store conn.old).now.schema → IsLive (state S.Store conn.old) → MayBeTaken (state S.Store conn.old)
+    ensures left { HasCleanDisk (state S.Store conn.new)
+        → missing ≡ spec.lacks_wanted (state S.Store conn.old).now.schema → IsLive (state S.Store conn.old)
+        → MayBeTaken (state S.Store conn.old)
         → OnErr result (Leaves (state S.Store conn.old) (state S.Store conn.new)) }
     ensures lasts { Lasts (state S.Store conn.old) (state S.Store conn.new) }
-    ensures stays { HasCleanDisk (state S.Store conn.new) → OnOk result (IsTrue (state S.Store conn.new).is_open) }
+    ensures stays { IsOpenIfOk S.Store conn.new result }
 {
     let mut tx = conn.transaction();
     bring(&mut tx, missing, changes)?;
@@ -85,10 +93,12 @@ pub(crate) fn take_over<S: Alter>(
 ) -> Result<(), TablesFault>
     requires mode { conn.old.in_transaction ≡ false }
     ensures mode { conn.new.in_transaction ≡ false }
-    ensures taken { HasCleanDisk (state S.Store conn.new) → OnOk result (MayBeTaken (state S.Store conn.old) → Taken changes.now (state S.Store conn.old) (state S.Store conn.new)) }
-    ensures left { HasCleanDisk (state S.Store conn.new) → MayBeTaken (state S.Store conn.old) → OnErr result (Leaves (state S.Store conn.old) (state S.Store conn.new)) }
+    ensures taken { HasCleanDisk (state S.Store conn.new) → OnOk result (MayBeTaken (state S.Store conn.old)
+        → Taken changes.now (state S.Store conn.old) (state S.Store conn.new)) }
+    ensures left { HasCleanDisk (state S.Store conn.new) → MayBeTaken (state S.Store conn.old)
+        → OnErr result (Leaves (state S.Store conn.old) (state S.Store conn.new)) }
     ensures lasts { Lasts (state S.Store conn.old) (state S.Store conn.new) }
-    ensures stays { HasCleanDisk (state S.Store conn.new) → OnOk result (IsTrue (state S.Store conn.new).is_open) }
+    ensures stays { IsOpenIfOk S.Store conn.new result }
 {
     let missing = lacks_wanted(conn.schema());
     bring_all(conn, missing, changes)

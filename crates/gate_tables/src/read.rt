@@ -1,8 +1,6 @@
-ghost use Rattle.std.specs.Prelude.{◌≡◌, IfOk};
-ghost use Rattle.gate_tables.specs.Database.{all_schema};
-ghost use Rattle.gate_tables.specs.Effects.{Asks, ReadsFirst, ReadsLast, ReadsRows, Tells};
-ghost use Rattle.sqlite.specs.Held.{state};
-ghost use Rattle.sqlite.specs.State.{HasCleanDisk};
+ghost use Rattle.std.specs.Prelude.{◌≡◌};
+ghost use Rattle.gate_tables.specs.Calls.{AsksTables, Finds};
+ghost use Rattle.gate_tables.specs.Effects.{ReadsFirst, ReadsLast, ReadsRows};
 
 use crate::fault::TablesFault;
 use crate::kind::all;
@@ -33,9 +31,8 @@ struct Last {
 
 fn read_first<S: Alter>(alloc: Global, tx: &mut Transaction<'_, S>) -> Result<First, TablesFault>
     ensures same_reference { tx.new.conn.ghost_name ≡ tx.old.conn.ghost_name }
-    ensures rows { HasCleanDisk (state S.Store tx.new.conn.now) → (state S.Store tx.old.conn.now).now.schema ≡ all_schema
-        → IfOk result (Tells ReadsFirst (state S.Store tx.old.conn.now) (state S.Store tx.new.conn.now)) }
-    ensures asks { Asks ((state S.Store tx.old.conn.now).now.schema ≡ all_schema) (state S.Store tx.old.conn.now) (state S.Store tx.new.conn.now) }
+    ensures rows { Finds S.Store tx.old.conn.now tx.new.conn.now result ReadsFirst }
+    ensures asks { AsksTables S.Store tx.old.conn.now tx.new.conn.now }
 {
     let desk = all(alloc, tx)?;
     let people = all(alloc, tx)?;
@@ -51,9 +48,8 @@ fn read_first<S: Alter>(alloc: Global, tx: &mut Transaction<'_, S>) -> Result<Fi
 
 fn read_last<S: Alter>(alloc: Global, tx: &mut Transaction<'_, S>) -> Result<Last, TablesFault>
     ensures same_reference { tx.new.conn.ghost_name ≡ tx.old.conn.ghost_name }
-    ensures rows { HasCleanDisk (state S.Store tx.new.conn.now) → (state S.Store tx.old.conn.now).now.schema ≡ all_schema
-        → IfOk result (Tells ReadsLast (state S.Store tx.old.conn.now) (state S.Store tx.new.conn.now)) }
-    ensures asks { Asks ((state S.Store tx.old.conn.now).now.schema ≡ all_schema) (state S.Store tx.old.conn.now) (state S.Store tx.new.conn.now) }
+    ensures rows { Finds S.Store tx.old.conn.now tx.new.conn.now result ReadsLast }
+    ensures asks { AsksTables S.Store tx.old.conn.now tx.new.conn.now }
 {
     let batches = all(alloc, tx)?;
     let members = all(alloc, tx)?;
@@ -73,9 +69,8 @@ pub(crate) fn read_rows<S: Alter>(
     tx: &mut Transaction<'_, S>,
 ) -> Result<Rows, TablesFault>
     ensures same_reference { tx.new.conn.ghost_name ≡ tx.old.conn.ghost_name }
-    ensures rows { HasCleanDisk (state S.Store tx.new.conn.now) → (state S.Store tx.old.conn.now).now.schema ≡ all_schema
-        → IfOk result (Tells ReadsRows (state S.Store tx.old.conn.now) (state S.Store tx.new.conn.now)) }
-    ensures asks { Asks ((state S.Store tx.old.conn.now).now.schema ≡ all_schema) (state S.Store tx.old.conn.now) (state S.Store tx.new.conn.now) }
+    ensures rows { Finds S.Store tx.old.conn.now tx.new.conn.now result ReadsRows }
+    ensures asks { AsksTables S.Store tx.old.conn.now tx.new.conn.now }
 {
     let First {
         desk,

@@ -1,5 +1,6 @@
-ghost use Rattle.std.specs.Prelude.{◌≡◌, [], false, IsTrue, IfOk, OnOk};
-ghost use Rattle.gate_tables.specs.Effects.{Asks, GoesOn, Lasts, Leaves, RanInside, RanOn};
+ghost use Rattle.std.specs.Prelude.{◌≡◌, [], false, IfOk, OnOk};
+ghost use Rattle.gate_tables.specs.Calls.{IsOpenIfOk, LeavesIf, Ran, RanCounting};
+ghost use Rattle.gate_tables.specs.Effects.{Asks, GoesOn, Lasts};
 ghost use Rattle.sqlite.specs.Given.{IsPlain};
 ghost use Rattle.sqlite.specs.Held.{state};
 ghost use Rattle.sqlite.specs.Listing.{understood};
@@ -20,7 +21,7 @@ pub(crate) fn run<S: Alter>(
     params: &[ValueRef<'_>],
 ) -> Result<(), TablesFault>
     ensures same_reference { tx.new.conn.ghost_name ≡ tx.old.conn.ghost_name }
-    ensures ran { HasCleanDisk (state S.Store tx.new.conn.now) → OnOk result (RanInside sql.now (bound params.now) (state S.Store tx.old.conn.now) (state S.Store tx.new.conn.now)) }
+    ensures ran { Ran S.Store tx.old.conn.now tx.new.conn.now result sql.now (bound params.now) }
     ensures goes_on { GoesOn (state S.Store tx.old.conn.now) (state S.Store tx.new.conn.now) }
 {
     tx.execute(sql, params)?;
@@ -34,7 +35,7 @@ pub(crate) fn run_counting<S: Alter>(
     params: &[ValueRef<'_>],
 ) -> Result<usize, TablesFault>
     ensures same_reference { tx.new.conn.ghost_name ≡ tx.old.conn.ghost_name }
-    ensures ran { HasCleanDisk (state S.Store tx.new.conn.now) → IfOk result (λ count. RanOn count sql.now (bound params.now) (state S.Store tx.old.conn.now) (state S.Store tx.new.conn.now)) }
+    ensures ran { RanCounting S.Store tx.old.conn.now tx.new.conn.now result sql.now (bound params.now) }
     ensures goes_on { GoesOn (state S.Store tx.old.conn.now) (state S.Store tx.new.conn.now) }
 {
     Ok(tx.execute(sql, params)?)
@@ -48,10 +49,13 @@ pub(crate) fn select<S: Alter>(
 ) -> Result<Vec<Row>, TablesFault>
     requires mode { conn.old.in_transaction ≡ false }
     ensures mode { conn.new.in_transaction ≡ false }
-    ensures shown { HasCleanDisk (state S.Store conn.new) → IfOk result (λ rows. Shown sql.now (bound params.now) (state S.Store conn.old) (state S.Store conn.new) rows.items) }
-    ensures left { HasCleanDisk (state S.Store conn.new) → IsPlain (understood (state S.Store conn.old).now.schema sql.now) → Leaves (state S.Store conn.old) (state S.Store conn.new) }
+    ensures shown { HasCleanDisk (state S.Store conn.new)
+        → IfOk result (λ rows. Shown sql.now (bound params.now) (state S.Store conn.old)
+        (state S.Store conn.new) rows.items) }
+    ensures left { LeavesIf S.Store conn.old conn.new (IsPlain
+        (understood (state S.Store conn.old).now.schema sql.now)) }
     ensures lasts { Lasts (state S.Store conn.old) (state S.Store conn.new) }
-    ensures stays { HasCleanDisk (state S.Store conn.new) → OnOk result (IsTrue (state S.Store conn.new).is_open) }
+    ensures stays { IsOpenIfOk S.Store conn.new result }
 {
     Ok(conn.query_all(sql, params)?)
 }
@@ -62,10 +66,14 @@ pub(crate) fn select_inside<S: Alter>(
     sql: &str,
 ) -> Result<Vec<Row>, TablesFault>
     ensures same_reference { tx.new.conn.ghost_name ≡ tx.old.conn.ghost_name }
-    ensures shown { HasCleanDisk (state S.Store tx.new.conn.now) → IfOk result (λ rows. Shown sql.now [] (state S.Store tx.old.conn.now) (state S.Store tx.new.conn.now) rows.items) }
-    ensures still { HasCleanDisk (state S.Store tx.new.conn.now) → IsPlain (understood (state S.Store tx.old.conn.now).now.schema sql.now)
+    ensures shown { HasCleanDisk (state S.Store tx.new.conn.now)
+        → IfOk result (λ rows. Shown sql.now [] (state S.Store tx.old.conn.now)
+        (state S.Store tx.new.conn.now) rows.items) }
+    ensures still { HasCleanDisk (state S.Store tx.new.conn.now)
+        → IsPlain (understood (state S.Store tx.old.conn.now).now.schema sql.now)
         → OnOk result (IsUnchanged (state S.Store tx.old.conn.now) (state S.Store tx.new.conn.now)) }
-    ensures asks { Asks (IsPlain (understood (state S.Store tx.old.conn.now).now.schema sql.now)) (state S.Store tx.old.conn.now) (state S.Store tx.new.conn.now) }
+    ensures asks { Asks (IsPlain (understood (state S.Store tx.old.conn.now).now.schema sql.now))
+        (state S.Store tx.old.conn.now) (state S.Store tx.new.conn.now) }
 {
     Ok(tx.query_all(sql, &[])?)
 }

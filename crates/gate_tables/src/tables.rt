@@ -3,7 +3,7 @@ ghost use Rattle.std.specs.FinMap.{empty, get, insert};
 ghost use Rattle.gate_tables.specs.Applied.{applied, no_rows};
 ghost use Rattle.gate_tables.specs.Contents.{AreSame};
 ghost use Rattle.gate_tables.specs.Database.{schema_of};
-ghost use Rattle.gate_tables.specs.Tables.{is_honest, is_shielded, is_sound, rows_in, answers_in, IsBook, Stands};
+ghost use Rattle.gate_tables.specs.Tables.{HandsBack, ShowsTheSame, WasSound, Outlasts, is_honest, is_sound, rows_in, answers_in, IsBook, Stands};
 ghost use Rattle.sqlite.specs.Held.{state};
 
 use crate::answers::find_answer;
@@ -53,15 +53,14 @@ impl<S: Alter> Tables<S> {
     pub fn new(mut connection: Connection<S>, first: &[RowChange]) -> Result<Tables<S>, NotMade<S>>
         requires mode { connection.in_transaction ≡ false }
         requires blank { (state S.Store connection).now.schema ≡ schema_of [] }
-        ensures rows { IfOk result (λ tables. is_sound S.Store tables → AreSame (rows_in S.Store tables) (applied first.now no_rows)) }
+        ensures rows { IfOk result (λ tables. is_sound S.Store tables
+            → AreSame (rows_in S.Store tables) (applied first.now no_rows)) }
         ensures answers { IfOk result (λ tables. is_sound S.Store tables → answers_in S.Store tables ≡ empty) }
-        ensures same { IfErr result (λ refused. is_sound S.Store refused.connection → (state S.Store refused.connection).now ≡ (state S.Store connection).now) }
+        ensures same { IfErr result (λ refused. HandsBack S.Store connection refused.connection) }
         ensures mode { IfErr result (λ refused. refused.connection.in_transaction ≡ false) }
-        ensures was { IfOk result (λ tables. is_sound S.Store tables → is_sound S.Store connection) }
-        ensures honest { IfOk result (λ tables. is_honest S.Store tables → is_honest S.Store connection) }
-        ensures shield { IfOk result (λ tables. is_shielded S.Store connection → is_shielded S.Store tables) }
+        ensures outlasts { IfOk result (λ tables. Outlasts S.Store connection tables) }
         ensures stays { IfOk result (λ tables. is_honest S.Store tables → is_sound S.Store tables) }
-        ensures was_refused { IfErr result (λ refused. is_sound S.Store refused.connection → is_sound S.Store connection) }
+        ensures was_refused { IfErr result (λ refused. WasSound S.Store connection refused.connection) }
     {
         // That no transaction is open says that the database is as it was committed.
         if !connection.is_autocommit() {
@@ -107,10 +106,8 @@ impl<S: Alter> Tables<S> {
     /// other kinds or no rowid of its own, and `Memory` if there is no memory for it.
     pub fn read(&mut self, alloc: Global) -> Result<Rows, TablesFault>
         ensures rows { is_sound S.Store self.new → IfOk result (AreSame (rows_in S.Store self.old)) }
-        ensures same { is_sound S.Store self.new → (rows_in S.Store self.new ≡ rows_in S.Store self.old) × (answers_in S.Store self.new ≡ answers_in S.Store self.old) }
-        ensures was { is_sound S.Store self.new → is_sound S.Store self.old }
-        ensures honest { is_honest S.Store self.new → is_honest S.Store self.old }
-        ensures shield { is_shielded S.Store self.old → is_shielded S.Store self.new }
+        ensures same { is_sound S.Store self.new → ShowsTheSame S.Store self.old self.new }
+        ensures outlasts { Outlasts S.Store self.old self.new }
         ensures stays { is_honest S.Store self.new → OnOk result (is_sound S.Store self.new) }
     {
         read(alloc, &mut self.connection)
@@ -119,11 +116,10 @@ impl<S: Alter> Tables<S> {
     /// The answer under an identifier, if there is one. It changes nothing. `Store` if the database fails, and `Memory` if
     /// there is no memory for it.
     pub fn answer(&mut self, id: &str) -> Result<Option<Text>, TablesFault>
-        ensures answer { is_sound S.Store self.new → IfOk result (λ answer. answer ≡ get (answers_in S.Store self.old) id.now) }
-        ensures same { is_sound S.Store self.new → (rows_in S.Store self.new ≡ rows_in S.Store self.old) × (answers_in S.Store self.new ≡ answers_in S.Store self.old) }
-        ensures was { is_sound S.Store self.new → is_sound S.Store self.old }
-        ensures honest { is_honest S.Store self.new → is_honest S.Store self.old }
-        ensures shield { is_shielded S.Store self.old → is_shielded S.Store self.new }
+        ensures answer { is_sound S.Store self.new
+            → IfOk result (λ answer. answer ≡ get (answers_in S.Store self.old) id.now) }
+        ensures same { is_sound S.Store self.new → ShowsTheSame S.Store self.old self.new }
+        ensures outlasts { Outlasts S.Store self.old self.new }
         ensures stays { is_honest S.Store self.new → OnOk result (is_sound S.Store self.new) }
     {
         find_answer(&mut self.connection, id)
@@ -134,12 +130,12 @@ impl<S: Alter> Tables<S> {
     /// if there is no memory for it.
     pub fn apply(&mut self, changes: &[RowChange], id: &str, body: &str) -> Result<(), TablesFault>
         requires free { is_sound S.Store self.old → get (answers_in S.Store self.old) id.now ≡ None }
-        ensures rows { is_sound S.Store self.new → OnOk result (AreSame (rows_in S.Store self.new) (applied changes.now (rows_in S.Store self.old))) }
-        ensures answers { is_sound S.Store self.new → OnOk result (answers_in S.Store self.new ≡ insert (answers_in S.Store self.old) id.now body.now) }
-        ensures same { is_sound S.Store self.new → OnErr result ((rows_in S.Store self.new ≡ rows_in S.Store self.old) × (answers_in S.Store self.new ≡ answers_in S.Store self.old)) }
-        ensures was { is_sound S.Store self.new → is_sound S.Store self.old }
-        ensures honest { is_honest S.Store self.new → is_honest S.Store self.old }
-        ensures shield { is_shielded S.Store self.old → is_shielded S.Store self.new }
+        ensures rows { is_sound S.Store self.new
+            → OnOk result (AreSame (rows_in S.Store self.new) (applied changes.now (rows_in S.Store self.old))) }
+        ensures answers { is_sound S.Store self.new
+            → OnOk result (answers_in S.Store self.new ≡ insert (answers_in S.Store self.old) id.now body.now) }
+        ensures same { is_sound S.Store self.new → OnErr result (ShowsTheSame S.Store self.old self.new) }
+        ensures outlasts { Outlasts S.Store self.old self.new }
         ensures stays { is_honest S.Store self.new → OnOk result (is_sound S.Store self.new) }
     {
         apply_all(&mut self.connection, changes, id, body)

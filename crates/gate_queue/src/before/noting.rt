@@ -1,14 +1,15 @@
-ghost use Rattle.std.specs.Prelude.{◌≡◌, ◌<◌, ℕ, Some, true, false, is_some, IfOk, OnOk};
+ghost use Rattle.std.specs.Prelude.{◌≡◌, ◌<◌, ℕ, Some, Ok, true, false, is_some, IfOk, IsNone, OnOk};
 ghost use Rattle.std.specs.BTreeMap.{Updates};
 ghost use Rattle.std.specs.FinMap.{get};
 ghost use Rattle.std.specs.Option.{option_copied, option_map_or};
 ghost use Rattle.gate_queue.specs.Before.{HasNoted, IsBefore, NotesMore, with_batch, with_change, with_person, with_settings};
+ghost use Rattle.gate_queue.specs.Judging.{IsJudgement, brought};
 ghost use Rattle.gate_queue.specs.Machine.{after, all_but};
-ghost use Rattle.gate_queue.specs.MayChange.{fact_may_do, in_front as front_of, may_do, next_priority, of_base, of_change, of_settings, of_status, of_text};
+ghost use Rattle.gate_queue.specs.MayChange.{fact_may_do, in_front as front_of, may_change, may_do, next_priority, of_base, of_change, of_settings, of_status, of_text};
 ghost use Rattle.gate_queue.specs.Touching.{lists};
 ghost use Rattle.gate_state.specs.Lanes.{loses};
 ghost use Rattle.gate_state.specs.State.{priority_on};
-ghost use Rattle.gate_text.specs.Settings.{settings_of};
+ghost use Rattle.gate_state.specs.declared.act.Act.TheVariants.{Other};
 ghost use Rattle.gate_state.specs.declared.state.State.{State as StateOf};
 
 use crate::before::Before;
@@ -17,30 +18,48 @@ use crate::judging::any_staged;
 use crate::laws::law_of_untouched;
 use crate::settings::{LosesApproval, are_present};
 use crate::touching::{StaysTried, in_front, that_lose, that_may_join, that_may_settle};
+use crate::verdict::{Judged, Verdict};
 use gate_rules::Role;
 use gate_state::{Act, Batch, Deed, Fact, State};
-use gate_text::{
-    ChangeNo, Command, Commit, Name, Settings, SettingsFault, Spoken, Text, TryCopy, read_settings,
-};
+use gate_text::{ChangeNo, Command, Commit, Name, Settings, Spoken, TryCopy};
 use std::alloc::{AllocError, Global};
 use std::collections::BTreeMap;
 
 impl Before {
-    /// Notes what this act may change of the state of a gate, so it is called before the act. What is noted already stays as it
-    /// is. Of an act that a rule denies nothing is noted. `AllocError` if there is no memory for it; then some of it may be noted.
-    pub fn note(&mut self, alloc: Global, gate: &Gate, act: &Act) -> Result<(), AllocError>
-        ensures before { OnOk result ((old : StateOf) → IsBefore self.old old gate.now → IsBefore self.new old (after gate.now act.now)) }
+    /// Notes what an act may change of the state of a gate, by what that gate has judged of it, so it is called before the act
+    /// steps. What is noted already stays as it is. Of an act that a rule denies nothing is noted. `AllocError` if there is no
+    /// memory for it; then some of it may be noted.
+    pub fn note(&mut self, alloc: Global, gate: &Gate, judged: &Judged) -> Result<(), AllocError>
+        requires { IsJudgement gate.now judged.now.act.now judged.now.verdict }
+        ensures before { OnOk result ((old : StateOf) → IsBefore self.old old gate.now
+            → IsBefore self.new old (after gate.now judged.now.act.now)) }
     {
         law_of_untouched();
-        if gate.refusal(alloc, act)?.is_some() {
-            return Ok(());
-        }
-        self.note_act(alloc, gate.state(), act)?;
+        self.note_judged(alloc, gate.state(), judged)?;
         Ok(())
     }
 
-    // Notes what an act may change that no rule denies.
+    // Notes what an act may change, by what is judged of it.
+    fn note_judged(
+        &mut self,
+        alloc: Global,
+        state: &State,
+        judged: &Judged,
+    ) -> Result<(), AllocError>
+        requires { IsJudgement state.now judged.now.act.now judged.now.verdict }
+        ensures more { OnOk result (NotesMore state.now self.old self.new) }
+        ensures has { OnOk result (HasNoted (may_change state.now judged.now.act.now) self.new) }
+    {
+        match &judged.verdict {
+            Verdict::Denied(_) => Ok(()),
+            Verdict::Sets(settings) => self.note_brought(alloc, state, settings),
+            Verdict::Repeats(_) | Verdict::Stands => self.note_act(alloc, state, judged.act),
+        }
+    }
+
+    // Notes what an act may change that no rule denies and that brings no settings.
     fn note_act(&mut self, alloc: Global, state: &State, act: &Act) -> Result<(), AllocError>
+        requires { IsNone (brought act.now) }
         ensures more { OnOk result (NotesMore state.now self.old self.new) }
         ensures has { OnOk result (HasNoted (may_do state.now act.now) self.new) }
     {
@@ -54,12 +73,13 @@ impl Before {
 
     // The same of a fact that is about no change.
     fn note_fact(&mut self, alloc: Global, state: &State, fact: &Fact) -> Result<(), AllocError>
+        requires { IsNone (brought (Other fact.now)) }
         ensures more { OnOk result (NotesMore state.now self.old self.new) }
         ensures has { OnOk result (HasNoted (fact_may_do state.now fact.now) self.new) }
     {
         match fact {
             Fact::Role { person, .. } => self.note_person(alloc, state, person),
-            Fact::Settings { text } => self.note_text(alloc, state, text),
+            Fact::Settings { .. } => unreachable!(),
             Fact::Base { .. } => self.note_base(alloc, state),
             Fact::Status { commit, .. } => self.note_status(alloc, state, *commit),
             Fact::Staged { .. }
@@ -128,17 +148,21 @@ impl Before {
         Ok(())
     }
 
-    // Notes what the settings of a text may change.
-    fn note_text(&mut self, alloc: Global, state: &State, text: &Text) -> Result<(), AllocError>
+    // Notes what settings that an act brings may change.
+    fn note_brought(
+        &mut self,
+        alloc: Global,
+        state: &State,
+        settings: &Settings,
+    ) -> Result<(), AllocError>
         ensures more { OnOk result (NotesMore state.now self.old self.new) }
-        ensures has { OnOk result (HasNoted (of_text state.now (settings_of text.now)) self.new) }
+        ensures has { OnOk result (HasNoted (of_text state.now (Ok settings.now)) self.new) }
     {
-        match read_settings(alloc, text.as_str()) {
-            Ok(settings) if are_present(&state.desk, &settings) => Ok(()),
-            Ok(settings) => self.note_settings(alloc, state, &settings),
-            Err(SettingsFault::Memory) => Err(AllocError),
-            Err(_) => Ok(()),
+        if are_present(&state.desk, settings) {
+            return Ok(());
         }
+        self.note_settings(alloc, state, settings)?;
+        Ok(())
     }
 
     // Notes what new settings may change.
@@ -169,7 +193,8 @@ impl Before {
         running: &Option<Batch>,
     ) -> Result<(), AllocError>
         ensures more { OnOk result (NotesMore state.now self.old self.new) }
-        ensures has { OnOk result ((number : ℕ) → option_map_or (loses (all_but number)) running.now false ≡ true → is_some (get self.new.changes number) ≡ true) }
+        ensures has { OnOk result ((number : ℕ) → option_map_or (loses (all_but number)) running.now false ≡ true
+            → is_some (get self.new.changes number) ≡ true) }
     {
         if let Some(batch) = running {
             self.note_changes(alloc, state, batch.changes.as_slice())?;
@@ -185,7 +210,8 @@ impl Before {
         numbers: &[ChangeNo],
     ) -> Result<(), AllocError>
         ensures more { OnOk result (NotesMore state.now self.old self.new) }
-        ensures has { OnOk result ((number : ℕ) → lists number numbers.now ≡ true → is_some (get self.new.changes number) ≡ true) }
+        ensures has { OnOk result ((number : ℕ) → lists number numbers.now ≡ true
+            → is_some (get self.new.changes number) ≡ true) }
     {
         for number in numbers {
             self.note_change(alloc, state, *number)?;
@@ -201,7 +227,8 @@ impl Before {
         numbers: &[u64],
     ) -> Result<(), AllocError>
         ensures more { OnOk result (NotesMore state.now self.old self.new) }
-        ensures has { OnOk result ((number : ℕ) → number < self.old.next → lists number numbers.now ≡ true → is_some (get self.new.batches number) ≡ true) }
+        ensures has { OnOk result ((number : ℕ) → number < self.old.next → lists number numbers.now ≡ true
+            → is_some (get self.new.batches number) ≡ true) }
     {
         for number in numbers {
             self.note_batch(alloc, state, *number)?;

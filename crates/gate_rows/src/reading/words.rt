@@ -50,7 +50,8 @@ pub(crate) fn natural(number: i64) -> Result<u64, TablesFault>
 
 pub(crate) fn small_natural(number: i64) -> Result<u32, TablesFault>
     ensures some { IfOk result (λ natural. number ≡ pos natural) }
-    ensures none { IfErr result (λ fault. (fault ≡ TablesFault.Store) × ((natural : ℕ) → natural < 2 ^ 32 → number ≢ pos natural)) }
+    ensures none { IfErr result
+        (λ fault. (fault ≡ TablesFault.Store) × ((natural : ℕ) → natural < 2 ^ 32 → number ≢ pos natural)) }
 {
     u32::try_from(number).map_err(|_| TablesFault::Store)
 }

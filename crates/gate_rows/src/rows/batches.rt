@@ -40,7 +40,8 @@ pub(crate) fn batches_now<'a>(
     before: &Before,
     gate: &'a Gate,
 ) -> Result<Vec<&'a Batch>, AllocError>
-    ensures { IfOk result (λ batches. map (λ batch. batch.now) batches.items ≡ parts.batches_now before.now gate.now.queue) }
+    ensures { IfOk result
+        (λ batches. map (λ batch. batch.now) batches.items ≡ parts.batches_now before.now gate.now.queue) }
 {
     let mut batches = Vec::new(alloc);
     push_present(&mut batches, before.batches(), gate)?;
@@ -52,7 +53,8 @@ fn noted_batches(
     alloc: Global,
     noted: &BTreeMap<u64, Option<Batch>>,
 ) -> Result<Vec<&Batch>, AllocError>
-    ensures value { IfOk result (λ batches. map (λ batch. batch.now) batches.items ≡ filter_map (λ e. e.1) noted.now.entries) }
+    ensures value { IfOk result
+        (λ batches. map (λ batch. batch.now) batches.items ≡ filter_map (λ e. e.1) noted.now.entries) }
     ensures ordered { IsStrictlySortedBy nat_cmp (keys_of noted.now.entries) }
 {
     let mut batches = Vec::new(alloc);
@@ -67,7 +69,8 @@ fn push_present<'a>(
     noted: &BTreeMap<u64, Option<Batch>>,
     gate: &'a Gate,
 ) -> Result<(), AllocError>
-    ensures value { OnOk result (map (λ batch. batch.now) batches.new.items ≡ map (λ batch. batch.now) batches.old.items ++ batches_under (keys_of noted.now.entries) gate.now.queue) }
+    ensures value { OnOk result (map (λ batch. batch.now) batches.new.items
+        ≡ map (λ batch. batch.now) batches.old.items ++ batches_under (keys_of noted.now.entries) gate.now.queue) }
     ensures ordered { IsStrictlySortedBy nat_cmp (keys_of noted.now.entries) }
 {
     for (number, _) in noted {
@@ -78,7 +81,9 @@ fn push_present<'a>(
 
 // Adds the batches under the numbers from one up to the next number.
 fn push_new<'a>(batches: &mut Vec<&'a Batch>, from: u64, gate: &'a Gate) -> Result<(), AllocError>
-    ensures { OnOk result (map (λ batch. batch.now) batches.new.items ≡ map (λ batch. batch.now) batches.old.items ++ batches_under (range_with_len from (gate.now.queue.next - from)) gate.now.queue) }
+    ensures { OnOk result (map (λ batch. batch.now) batches.new.items
+        ≡ map (λ batch. batch.now) batches.old.items
+        ++ batches_under (range_with_len from (gate.now.queue.next - from)) gate.now.queue) }
 {
     for number in from..gate.next() {
         push_one(batches, gate.batch(number))?;
@@ -88,7 +93,8 @@ fn push_new<'a>(batches: &mut Vec<&'a Batch>, from: u64, gate: &'a Gate) -> Resu
 
 // Adds a batch, if there is one.
 fn push_one<'a>(batches: &mut Vec<&'a Batch>, batch: Option<&'a Batch>) -> Result<(), AllocError>
-    ensures { OnOk result (map (λ batch. batch.now) batches.new.items ≡ map (λ batch. batch.now) batches.old.items ++ cons_option (option_copied batch.entry) []) }
+    ensures { OnOk result (map (λ batch. batch.now) batches.new.items
+        ≡ map (λ batch. batch.now) batches.old.items ++ cons_option (option_copied batch.entry) []) }
 {
     if let Some(batch) = batch {
         batches.push(batch)?;

@@ -45,8 +45,10 @@ pub(crate) fn push_then(
     marks: &mut Vec<MarkRow>,
     before: &Before,
 ) -> Result<(), AllocError>
-    ensures rows { OnOk result (rows.new.items ≡ rows.old.items ++ map encoding.change_row (were_there (finite.entries before.now.changes))) }
-    ensures marks { OnOk result (marks.new.items ≡ marks.old.items ++ flat_map encoding.marks_of (were_there (finite.entries before.now.changes))) }
+    ensures rows { OnOk result
+        (rows.new.items ≡ rows.old.items ++ map encoding.change_row (were_there (finite.entries before.now.changes))) }
+    ensures marks { OnOk result (marks.new.items
+        ≡ marks.old.items ++ flat_map encoding.marks_of (were_there (finite.entries before.now.changes))) }
 {
     push_noted(alloc, rows, marks, before.changes())
 }
@@ -59,8 +61,11 @@ pub(crate) fn push_now(
     before: &Before,
     desk: &Desk,
 ) -> Result<(), AllocError>
-    ensures rows { OnOk result (rows.new.items ≡ rows.old.items ++ map encoding.change_row (are_there desk.now.changes (finite.entries before.now.changes))) }
-    ensures marks { OnOk result (marks.new.items ≡ marks.old.items ++ flat_map encoding.marks_of (are_there desk.now.changes (finite.entries before.now.changes))) }
+    ensures rows { OnOk result (rows.new.items
+        ≡ rows.old.items ++ map encoding.change_row (are_there desk.now.changes (finite.entries before.now.changes))) }
+    ensures marks { OnOk result (marks.new.items
+        ≡ marks.old.items ++ flat_map encoding.marks_of (are_there desk.now.changes
+        (finite.entries before.now.changes))) }
 {
     push_present(alloc, rows, marks, before.changes(), desk)
 }
@@ -71,8 +76,10 @@ fn push_noted(
     marks: &mut Vec<MarkRow>,
     noted: &BTreeMap<ChangeNo, Option<Change>>,
 ) -> Result<(), AllocError>
-    ensures rows { OnOk result (rows.new.items ≡ rows.old.items ++ map encoding.change_row (were_there noted.now.entries)) }
-    ensures marks { OnOk result (marks.new.items ≡ marks.old.items ++ flat_map encoding.marks_of (were_there noted.now.entries)) }
+    ensures rows { OnOk result
+        (rows.new.items ≡ rows.old.items ++ map encoding.change_row (were_there noted.now.entries)) }
+    ensures marks { OnOk result
+        (marks.new.items ≡ marks.old.items ++ flat_map encoding.marks_of (were_there noted.now.entries)) }
     ensures ordered { IsStrictlySortedBy nat_cmp (keys_of noted.now.entries) }
 {
     for (number, change) in noted {
@@ -88,8 +95,10 @@ fn push_present(
     noted: &BTreeMap<ChangeNo, Option<Change>>,
     desk: &Desk,
 ) -> Result<(), AllocError>
-    ensures rows { OnOk result (rows.new.items ≡ rows.old.items ++ map encoding.change_row (are_there desk.now.changes noted.now.entries)) }
-    ensures marks { OnOk result (marks.new.items ≡ marks.old.items ++ flat_map encoding.marks_of (are_there desk.now.changes noted.now.entries)) }
+    ensures rows { OnOk result
+        (rows.new.items ≡ rows.old.items ++ map encoding.change_row (are_there desk.now.changes noted.now.entries)) }
+    ensures marks { OnOk result (marks.new.items
+        ≡ marks.old.items ++ flat_map encoding.marks_of (are_there desk.now.changes noted.now.entries)) }
     ensures ordered { IsStrictlySortedBy nat_cmp (keys_of noted.now.entries) }
 {
     for (number, _) in noted {
@@ -106,8 +115,10 @@ fn push_one(
     number: ChangeNo,
     change: Option<&Change>,
 ) -> Result<(), AllocError>
-    ensures rows { OnOk result (rows.new.items ≡ rows.old.items ++ map encoding.change_row (cons_option (named number (option_copied change.entry)) [])) }
-    ensures marks { OnOk result (marks.new.items ≡ marks.old.items ++ flat_map encoding.marks_of (cons_option (named number (option_copied change.entry)) [])) }
+    ensures rows { OnOk result (rows.new.items
+        ≡ rows.old.items ++ map encoding.change_row (cons_option (named number (option_copied change.entry)) [])) }
+    ensures marks { OnOk result (marks.new.items
+        ≡ marks.old.items ++ flat_map encoding.marks_of (cons_option (named number (option_copied change.entry)) [])) }
 {
     if let Some(change) = change {
         rows.push(change_row(alloc, number, change)?)?;

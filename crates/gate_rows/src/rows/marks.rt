@@ -62,7 +62,8 @@ fn push_approvers(
     number: u32,
     approved: &Option<Names>,
 ) -> Result<(), AllocError>
-    ensures { OnOk result (rows.new.items ≡ rows.old.items ++ encoding.list_marks number (pos 4) (unwrap_or approved.now [])) }
+    ensures { OnOk result
+        (rows.new.items ≡ rows.old.items ++ encoding.list_marks number (pos 4) (unwrap_or approved.now [])) }
 {
     match approved {
         Some(names) => push_list(alloc, rows, number, 4, names.as_slice()),
@@ -76,7 +77,8 @@ fn push_last(
     number: u32,
     last: &Option<Repeat>,
 ) -> Result<(), AllocError>
-    ensures { OnOk result (rows.new.items ≡ rows.old.items ++ encoding.list_marks number (pos 5) (encoding.names_of last.now)) }
+    ensures { OnOk result
+        (rows.new.items ≡ rows.old.items ++ encoding.list_marks number (pos 5) (encoding.names_of last.now)) }
 {
     match last {
         Some(Repeat::ApproveFor(names)) => push_list(alloc, rows, number, 5, names.as_slice()),

@@ -47,7 +47,8 @@ pub(crate) fn people_now(
     before: &Before,
     desk: &Desk,
 ) -> Result<List<PersonRow>, AllocError>
-    ensures { IfOk result (λ rows. rows ≡ map encoding.person_row (are_there desk.now.roles (finite.entries before.now.people))) }
+    ensures { IfOk result
+        (λ rows. rows ≡ map encoding.person_row (are_there desk.now.roles (finite.entries before.now.people))) }
 {
     present_people(alloc, before.people(), desk)
 }
@@ -94,7 +95,8 @@ fn push_person(
     name: &Name,
     role: Option<Role>,
 ) -> Result<(), AllocError>
-    ensures { OnOk result (rows.new.items ≡ rows.old.items ++ map encoding.person_row (cons_option (named name.now role) [])) }
+    ensures { OnOk result
+        (rows.new.items ≡ rows.old.items ++ map encoding.person_row (cons_option (named name.now role) [])) }
 {
     if let Some(role) = role {
         rows.push(person_row(alloc, name, role)?)?;

@@ -40,7 +40,8 @@ fn push_reports(
     number: u64,
     reports: &Reports,
 ) -> Result<(), AllocError>
-    ensures { OnOk result (rows.new.items ≡ rows.old.items ++ map (encoding.status_row number) (finite.entries reports.now)) }
+    ensures { OnOk result
+        (rows.new.items ≡ rows.old.items ++ map (encoding.status_row number) (finite.entries reports.now)) }
 {
     push_entries(alloc, rows, number, reports.as_map())
 }
@@ -51,7 +52,8 @@ fn push_entries(
     number: u64,
     reports: &BTreeMap<Context, Report>,
 ) -> Result<(), AllocError>
-    ensures value { OnOk result (rows.new.items ≡ rows.old.items ++ map (encoding.status_row number) reports.now.entries) }
+    ensures value { OnOk result
+        (rows.new.items ≡ rows.old.items ++ map (encoding.status_row number) reports.now.entries) }
     ensures ordered { IsStrictlySortedBy (slice_cmp nat_cmp) (keys_of reports.now.entries) }
 {
     for (name, report) in reports {

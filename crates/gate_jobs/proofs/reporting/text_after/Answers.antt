@@ -10,7 +10,7 @@ returns-in-Ok-clause-made g c =
       served.0,
       served.1,
       λ sound.
-          let lines = (served.3 (c.in-Ok.ensures.was sound)).1 in
+          let lines = (served.3 (c.in-Ok.ensures.outlasts.was sound)).1 in
           (c.in-Ok.ensures.text sound ∙ ap (λ (r : Records). queue_text_of r.state) lines.0, lines.2, c.in-Ok.ensures.same sound ∙ lines.0),
     )
 

@@ -1,6 +1,7 @@
 use Rattle.std.proofs.Common.{[], ◌∷◌, ◌++◌, arith, option_copied, refl}
 use Rattle.std.proofs.lemmas.List.{length-append}
 use Rattle.std.proofs.lemmas.List.Elements.{All-nil, All-push}
+use Rattle.gate_store.proofs.Outlasting.{outlasts_both, outlasts_none}
 use Rattle.gate_jobs.proofs.Turns.{one_more_accepted, one_more_ended, one_more_over, one_more_served}
 use Rattle.gate_jobs.specs.Accepting.{Connection}
 use Rattle.gate_jobs.specs.Serving.{IsTakenAsNeeded}
@@ -8,9 +9,7 @@ use Rattle.gate_jobs.proofs.serving.serve.Goals as goal
 
 pub loop-init : goal.loop-init
 loop-init g c = record {
-  was = λ sound. sound;
-  honest = λ honest. honest;
-  shield = λ shielded. shielded;
+  outlasts = outlasts_none g.B.Book _;
   served = ([], refl, refl, refl, refl, All-nil (IsTakenAsNeeded (option_copied c.args.token)), λ sound. refl, λ honest. refl);
 }
 
@@ -22,9 +21,7 @@ loop-preserved g c =
     let last = next.served.0 in
     let token = option_copied c.args.token in
     record {
-      was = λ sound. before.was (next.was sound);
-      honest = λ honest. before.honest (next.honest honest);
-      shield = λ shielded. next.shield (before.shield shielded);
+      outlasts = outlasts_both g.B.Book _ _ _ before.outlasts next.outlasts;
       served = (
         connections ++ last ∷ [],
         omega (arith, length-append connections (last ∷ []), before.served.1),
@@ -32,8 +29,8 @@ loop-preserved g c =
         one_more_ended (λ (connection : Connection). connection.written) connections last _ _ _ before.served.3 next.served.2,
         one_more_ended (λ (connection : Connection). connection.left) connections last _ _ _ before.served.4 next.served.3,
         All-push (IsTakenAsNeeded token) connections last before.served.5 next.served.4,
-        λ sound. one_more_served token connections last _ _ _ (before.served.6 (next.was sound)) (next.served.5 sound),
-        λ honest. one_more_over g.B.Book.shows g.B.Book.is_sound token connections last _ _ _ (before.served.7 (next.honest honest)) (next.served.6 honest),
+        λ sound. one_more_served token connections last _ _ _ (before.served.6 (next.outlasts.was sound)) (next.served.5 sound),
+        λ honest. one_more_over g.B.Book.shows g.B.Book.is_sound token connections last _ _ _ (before.served.7 (next.outlasts.honest honest)) (next.served.6 honest),
       );
     }
 

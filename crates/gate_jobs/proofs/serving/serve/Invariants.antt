@@ -2,6 +2,7 @@ use Rattle.std.proofs.Common.{◌≡◌, List, length, option_copied}
 use Rattle.std.specs.List.{All}
 use Rattle.gate_jobs.specs.Accepting.{AreAcceptedInTurn, AreEndedInTurn, Connection}
 use Rattle.gate_jobs.specs.Serving.{AreServedInTurn, AreServedOver, IsTakenAsNeeded}
+use Rattle.gate_store.specs.Outlasting.{Outlasts}
 use Rattle.gate_jobs.proofs.serving.serve.Given as goal
 
 abbrev pub invariant-loop : goal.invariant-loop
@@ -13,7 +14,5 @@ invariant-loop g l = record {
       × All (IsTakenAsNeeded (option_copied l.fn.token)) connections
       × (g.B.Book.is_sound l.keeper → AreServedInTurn (option_copied l.fn.token) connections (g.B.Book.shows l.fn.keeper) (g.B.Book.shows l.keeper))
       × (g.B.Book.is_honest l.keeper → AreServedOver g.B.Book.shows g.B.Book.is_sound (option_copied l.fn.token) connections l.fn.keeper l.keeper);
-  was : g.B.Book.is_sound l.keeper → g.B.Book.is_sound l.fn.keeper;
-  honest : g.B.Book.is_honest l.keeper → g.B.Book.is_honest l.fn.keeper;
-  shield : g.B.Book.is_shielded l.fn.keeper → g.B.Book.is_shielded l.keeper;
+  outlasts : Outlasts g.B.Book l.fn.keeper l.keeper;
 }

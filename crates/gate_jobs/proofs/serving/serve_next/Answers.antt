@@ -20,7 +20,7 @@ returns-in-Ok-clause-served g c =
       λ honest. record {
         stays = λ sound. sound_or_fault result _ _ _ (c.serve_request-served.ensures.stays sound honest);
         due = λ sound. (result, served.0, served.1, served.2 sound);
-        was = c.serve_request-served.ensures.was;
+        was = c.serve_request-served.ensures.outlasts.was;
         anyhow = elim (c.serve_request-served.ensures.anyhow honest) [ inl sound ↦ inl sound | inr anyhow ↦ inr (result, anyhow.0, anyhow.1, anyhow.2) ];
       },
     )

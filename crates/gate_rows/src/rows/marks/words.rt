@@ -47,7 +47,8 @@ fn push_texts(
     kind: i64,
     texts: &BTreeSet<Text>,
 ) -> Result<(), AllocError>
-    ensures value { OnOk result (rows.new.items ≡ rows.old.items ++ map (λ word. encoding.mark change kind (pos 0, word)) texts.now.keys) }
+    ensures value { OnOk result
+        (rows.new.items ≡ rows.old.items ++ map (λ word. encoding.mark change kind (pos 0, word)) texts.now.keys) }
     ensures ordered { IsStrictlySortedBy (slice_cmp nat_cmp) texts.now.keys }
 {
     for text in texts {

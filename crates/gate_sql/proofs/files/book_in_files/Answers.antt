@@ -5,12 +5,12 @@ use Rattle.gate_sql.proofs.files.book_in_files.Goals as goal
 pub returns-in-Ok-clause-records : goal.returns-in-Ok-clause-records
 returns-in-Ok-clause-records g c =
     let book = c.opened.ensures in
-    if-ok c.opened.result book.honest book.stays book.stands (λ opened was stays stands honest.
-    let whole = c.in-Ok.ensures.opened (was honest) in
-    let found = c.in-Ok.ensures.found (was honest) in
+    if-ok c.opened.result book.outlasts book.stays book.stands (λ opened outlasts stays stands honest.
+    let whole = c.in-Ok.ensures.opened (outlasts.honest honest) in
+    let found = c.in-Ok.ensures.found (outlasts.honest honest) in
     stand_in _ (file_state c.in-Ok.connection) _ (record { holds = found.holds; reads = found.reads }) whole.0 whole.1 (stands (stays honest)))
 
 pub returns-in-Ok-clause-shield : goal.returns-in-Ok-clause-shield
 returns-in-Ok-clause-shield g c =
     let book = c.opened.ensures in
-    if-ok c.opened.result book.honest book.shield book.shield (λ opened was shield _ honest. shield (c.in-Ok.ensures.guarded (was honest)))
+    if-ok c.opened.result book.outlasts book.outlasts book.outlasts (λ opened outlasts _ _ honest. outlasts.shield (c.in-Ok.ensures.guarded (outlasts.honest honest)))

@@ -1,6 +1,7 @@
 use Rattle.std.proofs.Common.{◌≡◌, ℕ, suc, ◌+◌, ◌<◌, List, [], ◌∷◌, ◌++◌, length, take, drop, get_or, sym, ◌∙◌, ap, add-one, append_assoc, arith}
 use Rattle.std.proofs.Math.Seq.{drop-cons, take-suc}
 use Rattle.std.proofs.lemmas.List.{take_all, take-append-drop}
+use Rattle.gate_hook.proofs.Sessions.{turns_both}
 use Rattle.gate_hook.proofs.lines.Session.take_chunk.Goals as goal
 
 -- bytes, cut at one of them
@@ -21,11 +22,7 @@ loop-byte-preserved g c =
     let so_far = c.loop-byte.invariant in
     record {
       counted = omega (arith, c.in-Ok.ensures.count, so_far.counted);
-      same_keeper = c.in-Ok.ensures.same_keeper ∙ so_far.same_keeper;
-      same_writer = c.in-Ok.ensures.same_writer ∙ so_far.same_writer;
-      was = λ premise. so_far.was (c.in-Ok.ensures.was premise);
-      honest = λ premise. so_far.honest (c.in-Ok.ensures.honest premise);
-      shield = λ premise. c.in-Ok.ensures.shield (so_far.shield premise);
+      turns = turns_both g.B.Book _ _ _ so_far.turns c.in-Ok.ensures.turns;
       stays = λ begun premise. c.in-Ok.ensures.stays (so_far.stays begun) premise;
       taken = λ opened input before begun.
           rw (← one_more input bytes i c.loop-byte-test.true) (c.in-Ok.ensures.taken opened (input ++ take i bytes) before (so_far.taken opened input before begun));

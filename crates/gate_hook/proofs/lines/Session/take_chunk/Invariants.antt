@@ -1,16 +1,13 @@
-use Rattle.std.proofs.Common.{◌≡◌, ◌≤◌, ◌+◌, ◌++◌, ℕ, List, Option, take}
+use Rattle.std.proofs.Common.{◌≤◌, ◌+◌, ◌++◌, ℕ, List, Option, take}
 use Rattle.gate_store.specs.Run.{Records}
 use Rattle.gate_hook.specs.Serving.{IsUpTo}
+use Rattle.gate_hook.specs.Sessions.{Turns}
 use Rattle.gate_hook.proofs.lines.Session.take_chunk.Given as goal
 
 abbrev pub invariant-loop-byte : goal.invariant-loop-byte
 invariant-loop-byte g l = record {
   counted : l.self.count ≤ l.fn.self.count + l.byte-index;
-  same_keeper : l.self.keeper.ghost_name ≡ l.fn.self.keeper.ghost_name;
-  same_writer : l.self.writer.ghost_name ≡ l.fn.self.writer.ghost_name;
-  was : g.B.Book.is_sound l.self.keeper.now → g.B.Book.is_sound l.fn.self.keeper.now;
-  honest : g.B.Book.is_honest l.self.keeper.now → g.B.Book.is_honest l.fn.self.keeper.now;
-  shield : g.B.Book.is_shielded l.fn.self.keeper.now → g.B.Book.is_shielded l.self.keeper.now;
+  turns : Turns g.B.Book l.fn.self l.self;
   stays : (g.B.Book.is_honest l.fn.self.keeper.now → g.B.Book.is_sound l.fn.self.keeper.now) → g.B.Book.is_honest l.self.keeper.now → g.B.Book.is_sound l.self.keeper.now;
   taken : (opened : Records) (input : List ℕ) (before : Option (List ℕ))
       → IsUpTo (g.B.Book.is_sound l.fn.self.keeper.now) opened input (g.B.Book.shows l.fn.self.keeper.now)

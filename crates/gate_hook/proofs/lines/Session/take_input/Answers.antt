@@ -1,8 +1,9 @@
-use Rattle.std.proofs.Common.{◌≡◌, ◌+◌, ◌-◌, ◌≤◌, ◌++◌, ◌∙◌, length, take, arith}
+use Rattle.std.proofs.Common.{◌≡◌, ◌+◌, ◌-◌, ◌≤◌, ◌++◌, length, take, arith}
 use Rattle.std.proofs.KnownBytes.{Consumes-trans}
 use Rattle.std.proofs.lemmas.List.{length-append, length-take}
 use Rattle.gate_hook.proofs.Ending.{within_served, within_told, stops_within, too_much}
 use Rattle.gate_hook.proofs.Splitting.{length-ended_lines}
+use Rattle.gate_hook.proofs.Sessions.{turns_both}
 use Rattle.gate_hook.proofs.lines.Session.take_input.Goals as goal
 
 pub finish-requires : goal.finish-requires
@@ -57,11 +58,7 @@ chunks-preserved g c =
     let size : length (so_far.0 ++ chunk) + (c.chunks.left - c.in_ok-n.n) ≡ 4294967296 =
     omega (arith, so_far.3, length-append so_far.0 chunk, length-take c.in_ok-n.n buffer, c.read_part.auto.buffer, c.in_ok-n.ensures.0, c.if-left-eq0.false, room.within, room.left) in
     record {
-      same_keeper = c.in-Ok.ensures.same_keeper ∙ c.chunks.invariant.same_keeper;
-      same_writer = c.in-Ok.ensures.same_writer ∙ c.chunks.invariant.same_writer;
-      was = λ premise. c.chunks.invariant.was (c.in-Ok.ensures.was premise);
-      honest = λ premise. c.chunks.invariant.honest (c.in-Ok.ensures.honest premise);
-      shield = λ premise. c.in-Ok.ensures.shield (c.chunks.invariant.shield premise);
+      turns = turns_both g.B.Book _ _ _ c.chunks.invariant.turns c.in-Ok.ensures.turns;
       stays = λ begun premise. c.in-Ok.ensures.stays (c.chunks.invariant.stays begun) premise;
       taken = (
         so_far.0 ++ chunk,

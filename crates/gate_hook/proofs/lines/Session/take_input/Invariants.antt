@@ -1,15 +1,12 @@
 use Rattle.std.proofs.Common.{◌≡◌, ◌+◌, ◌^◌, ℕ, List, length}
 use Rattle.std.specs.Io.KnownBytes.{Consumes}
 use Rattle.gate_hook.specs.Serving.{IsUpTo}
+use Rattle.gate_hook.specs.Sessions.{Turns}
 use Rattle.gate_hook.proofs.lines.Session.take_input.Given as goal
 
 abbrev pub invariant-chunks : goal.invariant-chunks
 invariant-chunks g l = record {
-  same_keeper : l.self.keeper.ghost_name ≡ l.fn.self.keeper.ghost_name;
-  same_writer : l.self.writer.ghost_name ≡ l.fn.self.writer.ghost_name;
-  was : g.B.Book.is_sound l.self.keeper.now → g.B.Book.is_sound l.fn.self.keeper.now;
-  honest : g.B.Book.is_honest l.self.keeper.now → g.B.Book.is_honest l.fn.self.keeper.now;
-  shield : g.B.Book.is_shielded l.fn.self.keeper.now → g.B.Book.is_shielded l.self.keeper.now;
+  turns : Turns g.B.Book l.fn.self l.self;
   stays : (g.B.Book.is_honest l.fn.self.keeper.now → g.B.Book.is_sound l.fn.self.keeper.now) → g.B.Book.is_honest l.self.keeper.now → g.B.Book.is_sound l.self.keeper.now;
   taken : (input : List ℕ) × Consumes (g.R.Read.remaining l.fn.reader) (g.R.Read.remaining l.reader) input
       × IsUpTo (g.B.Book.is_sound l.self.keeper.now) (g.B.Book.shows l.fn.self.keeper.now) input (g.B.Book.shows l.self.keeper.now)

@@ -1,5 +1,6 @@
 use Rattle.std.proofs.Common.{◌≡◌, ◌++◌, [], ◌∷◌, length, ◌∙◌, ap, arith}
 use Rattle.std.proofs.lemmas.List.{length_push}
+use Rattle.gate_store.proofs.Outlasting.{outlasts_both}
 use Rattle.gate_store.proofs.Runs.{answers_more, led_more, room_more, tell_more}
 use Rattle.gate_store.proofs.keeper.Keeper.answer_all.Goals as goal
 
@@ -12,9 +13,9 @@ loop-delivery-preserved g c =
     let delivery = c.delivery-item.result in
     let at = c.delivery-item.is in
     let within = c.loop-delivery-test.true in
-    let was = c.in-Ok.ensures.was in
-    let before = c.in-Ok.ensures.honest in
-    let stays = c.in-Ok.ensures.stays in
+    let was = c.in-Ok.ensures.delivers.outlasts.was in
+    let before = c.in-Ok.ensures.delivers.outlasts.honest in
+    let stays = c.in-Ok.ensures.delivers.stays in
     let so_far = c.loop-delivery.invariant in
     let pushed : c.push_reserved.new.self.items ≡ c.loop-delivery.answers.items ++ c.in-Ok.answer ∷ [] =
     c.push_reserved.ensures.items ∙ ap (λ answers. answers ++ c.in-Ok.answer ∷ []) c.reserve.ensures.items in
@@ -23,14 +24,12 @@ loop-delivery-preserved g c =
           let led = so_far.book (was (stays honest)) in
           rw pushed (answers_more old now deliveries place delivery at within led c.loop-delivery.answers.items c.in-Ok.answer (so_far.answers (before honest)) (c.in-Ok.ensures.answer (stays honest)));
       book = λ sound.
-          led_more old now deliveries place delivery at within (so_far.book (was sound)) (g.B.Book.shows c.answer.new.self) (c.in-Ok.ensures.book sound);
+          led_more old now deliveries place delivery at within (so_far.book (was sound)) (g.B.Book.shows c.answer.new.self) (c.in-Ok.ensures.delivers.book sound);
       history = λ honest.
-          tell_more old now deliveries place delivery at within (so_far.book (was (stays honest))) (so_far.history (before honest)) (c.in-Ok.ensures.history (stays honest));
+          tell_more old now deliveries place delivery at within (so_far.book (was (stays honest))) (so_far.history (before honest)) (c.in-Ok.ensures.delivers.history (stays honest));
       room = λ honest.
-          room_more old now deliveries place delivery at within (so_far.book (was (stays honest))) (so_far.room (before honest)) (c.in-Ok.ensures.full (stays honest));
+          room_more old now deliveries place delivery at within (so_far.book (was (stays honest))) (so_far.room (before honest)) (c.in-Ok.ensures.delivers.full (stays honest));
       count = omega (arith, ap length pushed, length_push c.loop-delivery.answers.items c.in-Ok.answer, so_far.count);
-      was = λ sound. so_far.was (was sound);
-      honest = λ honest. so_far.honest (before honest);
-      shield = λ shielded. c.in-Ok.ensures.shield (so_far.shield shielded);
+      outlasts = outlasts_both g.B.Book _ _ _ so_far.outlasts c.in-Ok.ensures.delivers.outlasts;
       stays = λ begun honest. stays honest;
     }
