@@ -170,7 +170,8 @@ fn size_by(bytes: &[u8], fields: &[HeaderSpan]) -> Result<usize, Refusal>
 // What a request to this target asks for, or why it is refused.
 fn ask_of(bytes: &[u8], fields: &[HeaderSpan], target: Target) -> Result<Ask, Refusal>
     requires { All (IsHeaderWithin (length bytes.now)) fields.now }
-    ensures { (head : RequestHead) → map name_and_value head.fields ≡ map (header_bytes bytes.now) fields.now → result ≡ heads.ask_of target head }
+    ensures { (head : RequestHead) → map name_and_value head.fields ≡ map (header_bytes bytes.now) fields.now
+        → result ≡ heads.ask_of target head }
 {
     match target {
         Target::Deliveries => {
@@ -192,7 +193,8 @@ fn ask_by(
     method: &[u8],
 ) -> Result<Ask, Refusal>
     requires { All (IsHeaderWithin (length bytes.now)) fields.now }
-    ensures { (head : RequestHead) → map name_and_value head.fields ≡ map (header_bytes bytes.now) fields.now → result ≡ heads.ask_by target.now method.now head }
+    ensures { (head : RequestHead) → map name_and_value head.fields ≡ map (header_bytes bytes.now) fields.now
+        → result ≡ heads.ask_by target.now method.now head }
 {
     checked(target.takes(method), Refusal::MethodNotAllowed(*target))?;
     ask_of(bytes, fields, *target)
@@ -201,7 +203,8 @@ fn ask_by(
 // Whether the fields bear the token, if one is needed.
 fn is_let_in(bytes: &[u8], fields: &[HeaderSpan], token: Option<&Token>) -> bool
     requires { All (IsHeaderWithin (length bytes.now)) fields.now }
-    ensures { result ≡ tokens.is_let_in (option_copied token.entry) (heads.values_in (codes "authorization") (map (header_bytes bytes.now) fields.now)) }
+    ensures { result ≡ tokens.is_let_in (option_copied token.entry)
+        (heads.values_in (codes "authorization") (map (header_bytes bytes.now) fields.now)) }
 {
     let Some(token) = token else {
         return true;
@@ -241,7 +244,8 @@ fn ask_in(
     request: &RequestSpans,
 ) -> Result<Result<Ask, Refusal>, AllocError>
     requires within { IsRequestWithin bytes.now fields.now request.now }
-    ensures { IfOk result (λ ask. (head : RequestHead) → IsRequestAt bytes.now fields.now request.now head → ask ≡ heads.ask_in (option_copied token.entry) head) }
+    ensures { IfOk result (λ ask. (head : RequestHead) → IsRequestAt bytes.now fields.now request.now head
+        → ask ≡ heads.ask_in (option_copied token.entry) head) }
 {
     if !is_let_in(bytes, &fields[..request.headers], token) {
         return Ok(Err(Refusal::Unauthorized));

@@ -79,7 +79,14 @@ fn response_of(
     challenge: Option<&str>,
     body: &str,
 ) -> Result<Response, AllocError>
-    ensures { IfOk result (λ response. IsResponse response (record { status = status; kind = option_copied kind.entry; allow = option_copied allow.entry; challenge = option_copied challenge.entry; body = body.now })) }
+    ensures { IfOk result (λ response. IsResponse response
+        (record {
+          status = status;
+          kind = option_copied kind.entry;
+          allow = option_copied allow.entry;
+          challenge = option_copied challenge.entry;
+          body = body.now;
+        })) }
 {
     let kind = field_if(alloc, "Content-Type", kind)?;
     let allow = field_if(alloc, "Allow", allow)?;
@@ -97,7 +104,8 @@ fn response_of(
 
 /// The response whose body is a JSON text and a line feed, which the text here has already. `AllocError` if there is no memory for it.
 pub fn json_response(alloc: Global, status: StatusCode, body: &str) -> Result<Response, AllocError>
-    ensures { IfOk result (λ response. IsResponse response (record { status = status; kind = Some responses.json; allow = None; challenge = None; body = body.now })) }
+    ensures { IfOk result (λ response. IsResponse response
+        (record { status = status; kind = Some responses.json; allow = None; challenge = None; body = body.now })) }
 {
     response_of(alloc, status, Some(JSON), None, None, body)
 }

@@ -66,7 +66,9 @@ fn push_names(
     number: ChangeNo,
     change: &Change,
 ) -> Result<(), AllocError>
-    ensures { OnOk result (string_bytes text.new ≡ string_bytes text.old ++ entry (codes "change") (decimal number) ++ entry (codes "author") change.now.author ++ entry (codes "head") change.now.head) }
+    ensures { OnOk result (string_bytes text.new
+        ≡ string_bytes text.old ++ entry (codes "change") (decimal number) ++ entry (codes "author") change.now.author
+        ++ entry (codes "head") change.now.head) }
 {
     let digits = number.number().to_string(alloc)?;
     push_line(text, alloc, "change", digits.as_str())?;
@@ -76,7 +78,9 @@ fn push_names(
 
 // The lines of how far it has come, and how soon it is tested.
 fn push_standing(text: &mut String, alloc: Global, change: &Change) -> Result<(), AllocError>
-    ensures { OnOk result (string_bytes text.new ≡ string_bytes text.old ++ entry (codes "state") (phase_word change.now.phase) ++ entry (codes "priority") (signed_decimal change.now.priority)) }
+    ensures { OnOk result (string_bytes text.new
+        ≡ string_bytes text.old ++ entry (codes "state") (phase_word change.now.phase)
+        ++ entry (codes "priority") (signed_decimal change.now.priority)) }
 {
     let digits = change.priority.to_string(alloc)?;
     push_line(text, alloc, "state", phase_word(change.phase))?;
@@ -86,7 +90,8 @@ fn push_standing(text: &mut String, alloc: Global, change: &Change) -> Result<()
 // The lines of its sets.
 fn push_sets(text: &mut String, alloc: Global, change: &Change) -> Result<(), AllocError>
     ensures { OnOk result (string_bytes text.new ≡ string_bytes text.old ++ entry (codes "labels") (listed (words_of change.now.labels))
-        ++ entry (codes "reviews") (listed (words_of change.now.reviews)) ++ entry (codes "delegates") (listed (words_of change.now.delegates))) }
+        ++ entry (codes "reviews") (listed (words_of change.now.reviews))
+        ++ entry (codes "delegates") (listed (words_of change.now.delegates))) }
 {
     push_set(text, alloc, "labels", &change.labels)?;
     push_set(text, alloc, "reviews", &change.reviews)?;
@@ -105,7 +110,9 @@ fn approver_words(alloc: Global, change: &Change) -> Result<String, AllocError>
 
 // The lines of whether it is approved, and tried.
 fn push_marks(text: &mut String, alloc: Global, change: &Change) -> Result<(), AllocError>
-    ensures { OnOk result (string_bytes text.new ≡ string_bytes text.old ++ entry (codes "approved") (approvers change.now.approved) ++ entry (codes "trying") (yes_or_no change.now.trying)) }
+    ensures { OnOk result (string_bytes text.new
+        ≡ string_bytes text.old ++ entry (codes "approved") (approvers change.now.approved)
+        ++ entry (codes "trying") (yes_or_no change.now.trying)) }
 {
     let names = approver_words(alloc, change)?;
     push_line(text, alloc, "approved", names.as_str())?;

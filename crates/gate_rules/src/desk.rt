@@ -371,7 +371,8 @@ fn put(
     number: ChangeNo,
     change: Change,
 ) -> Result<(), AllocError>
-    ensures ok { OnOk result (map.from_entries {R = nat_cmp} changes.new.entries ≡ map.insert (map.from_entries changes.old.entries) number change) }
+    ensures ok { OnOk result (map.from_entries {R = nat_cmp} changes.new.entries
+        ≡ map.insert (map.from_entries changes.old.entries) number change) }
     ensures same { OnErr result (changes.new.entries ≡ changes.old.entries) }
     ensures absent { OnErr result (map.get (map.from_entries {R = nat_cmp} changes.old.entries) number ≡ None) }
 {

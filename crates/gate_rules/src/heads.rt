@@ -48,7 +48,8 @@ impl Heads {
         head: Option<Commit>,
         number: ChangeNo,
     ) -> Result<(), AllocError>
-        ensures ok { OnOk result ((other : List ℕ) (n : ℕ) → has self.new other n ≡ ((is_head head other && (n == number)) || has self.old other n)) }
+        ensures ok { OnOk result ((other : List ℕ) (n : ℕ)
+            → has self.new other n ≡ ((is_head head other && (n == number)) || has self.old other n)) }
         ensures err { OnErr result ((other : List ℕ) (n : ℕ) → has self.new other n ≡ has self.old other n) }
     {
         match head {
@@ -68,7 +69,8 @@ impl Heads {
 
     // Adds a number under a head.
     fn add(&mut self, alloc: Global, head: Commit, number: ChangeNo) -> Result<(), AllocError>
-        ensures ok { OnOk result ((other : List ℕ) (n : ℕ) → has self.new other n ≡ (is_place head number other n || has self.old other n)) }
+        ensures ok { OnOk result ((other : List ℕ) (n : ℕ)
+            → has self.new other n ≡ (is_place head number other n || has self.old other n)) }
         ensures err { OnErr result ((other : List ℕ) (n : ℕ) → has self.new other n ≡ has self.old other n) }
     {
         if let Some(numbers) = self.numbers.get_mut(&head) {

@@ -290,8 +290,12 @@ fn take_from_running<C: Choice>(
     number: u64,
     choice: &C,
 ) -> Result<(Lane, u64), AllocError>
-    ensures lane { IfOk result (λ done. done.0 ≡ lanes.running_back (lanes.loses (λ change. C.chooses change choice.now) batch) number batch (lanes.only (λ change. C.chooses change choice.now) batch) waiting.items) }
-    ensures uses { IfOk result (λ done. done.1 ≡ lanes.running_back_uses (lanes.loses (λ change. C.chooses change choice.now) batch) batch (lanes.only (λ change. C.chooses change choice.now) batch)) }
+    ensures lane { IfOk result (λ done. done.0
+        ≡ lanes.running_back (lanes.loses (λ change. C.chooses change choice.now) batch) number batch
+        (lanes.only (λ change. C.chooses change choice.now) batch) waiting.items) }
+    ensures uses { IfOk result (λ done. done.1
+        ≡ lanes.running_back_uses (lanes.loses (λ change. C.chooses change choice.now) batch) batch
+        (lanes.only (λ change. C.chooses change choice.now) batch)) }
 {
     if has_all(choice, batch.changes.as_slice()) || batch.is_landing() {
         return Ok((running_before(batch, waiting), 0));

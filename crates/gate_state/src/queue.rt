@@ -261,7 +261,8 @@ fn of_lanes(branch: Branch, lane: Lane, other: Lane, next: u64) -> Queue
 
 // Adds the batches of a branch, in order of service.
 fn push_batches<'a>(batches: &mut Vec<&'a Batch>, lane: &'a Lane) -> Result<(), AllocError>
-    ensures { OnOk result (map (λ batch. batch.now) batches.new.items ≡ map (λ batch. batch.now) batches.old.items ++ lanes.batches_of lane.now) }
+    ensures { OnOk result (map (λ batch. batch.now) batches.new.items
+        ≡ map (λ batch. batch.now) batches.old.items ++ lanes.batches_of lane.now) }
 {
     if let Some(batch) = &lane.running {
         batches.push(batch)?;

@@ -125,7 +125,8 @@ pub(crate) fn enter(
     change: ChangeNo,
     size: Option<u32>,
 ) -> Result<u64, AllocError>
-    ensures waiting { OnOk result (waiting.new.items ≡ lanes.entered number priority change waiting.old.items (lanes.joins size priority waiting.old.items)) }
+    ensures waiting { OnOk result (waiting.new.items
+        ≡ lanes.entered number priority change waiting.old.items (lanes.joins size priority waiting.old.items)) }
     ensures uses { IfOk result (λ used. used ≡ if is_some (lanes.joins size priority waiting.old.items) then 0 else 1) }
 {
     match joins(waiting.as_slice(), priority, size) {

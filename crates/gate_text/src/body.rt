@@ -94,7 +94,8 @@ fn cut_priority(body: &[u8]) -> Option<(&[u8], i32)>
 
 // Adds a priority and an approval, or what isn't known in their place.
 fn push_approvals(alloc: Global, spoken: &mut Vec<Spoken>, body: &[u8]) -> Result<(), AllocError>
-    ensures { OnOk result (spoken.new.items ≡ spoken.old.items ++ reading.spoken_as (reading.approvals_of (reading.cut_priority body.now) body.now)) }
+    ensures { OnOk result (spoken.new.items
+        ≡ spoken.old.items ++ reading.spoken_as (reading.approvals_of (reading.cut_priority body.now) body.now)) }
 {
     let (front, priority) = match cut_priority(body) {
         Some((front, priority)) => (trim_end(front), Some(priority)),

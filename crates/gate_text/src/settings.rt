@@ -72,7 +72,14 @@ impl Settings {
         max_batch_size: Option<u32>,
         pr_status: Contexts,
     ) -> Option<Settings>
-        ensures value { result ≡ if_settings (record { status = status; timeout_sec = timeout_sec; block_labels = block_labels; required_approvals = required_approvals; max_batch_size = max_batch_size; pr_status = pr_status }) }
+        ensures value { result ≡ if_settings (record {
+          status = status;
+          timeout_sec = timeout_sec;
+          block_labels = block_labels;
+          required_approvals = required_approvals;
+          max_batch_size = max_batch_size;
+          pr_status = pr_status;
+        }) }
     {
         let is_good = are_statuses(status.as_slice())
             && (1..=MAX_TIMEOUT_SEC).contains(&timeout_sec)

@@ -243,7 +243,8 @@ fn gate_command<'a>(alloc: Global) -> Result<Command<'a>, AllocError>
 
 /// What words come to, by the command.
 pub fn matches_in<'a>(alloc: Global, words: &'a [&'a str]) -> Result<ArgMatches<'a>, Error>
-    ensures command { IfOk result (λ matches. subcommand_rows_of matches ≡ subcommand_of gate_words (map (λ word. word.now) words.entry.now)) }
+    ensures command { IfOk result (λ matches. subcommand_rows_of matches
+        ≡ subcommand_of gate_words (map (λ word. word.now) words.entry.now)) }
     ensures faults { FailsBy (fault_of gate_words (map (λ word. word.now) words.entry.now)) result }
 {
     gate_command(alloc)?.try_get_matches_from(words)

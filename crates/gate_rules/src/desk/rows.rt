@@ -98,7 +98,8 @@ impl Desk {
     ) -> Result<Option<Rule>, AllocError>
         requires { IsTrue (rules.is_known (look self.now) change) }
         ensures value { IfOk result (λ rule. rule ≡ rules.first_failing (rules.command_row (look self.now) person.now change command.now)) }
-        ensures cause { IfErr result (λ _. rules.MayWantMemory (rules.first_failing (rules.command_row (look self.now) person.now change command.now))) }
+        ensures cause { IfErr result (λ _. rules.MayWantMemory
+            (rules.first_failing (rules.command_row (look self.now) person.now change command.now))) }
     {
         match command {
             Command::Ping => Ok(None),
@@ -120,8 +121,12 @@ impl Desk {
     fn first_rules(&self, person: &Name, change: ChangeNo, command: &Command) -> Option<Rule>
         requires { IsTrue (rules.is_known (look self.now) change) }
         ensures value { result ≡ rules.first_failing (rules.begins_with_rules (look self.now) person.now change command.now []) }
-        ensures found { IfSome result (λ rule. (others : List (Option Rule)) → rules.first_failing (rules.begins_with_rules (look self.now) person.now change command.now others) ≡ Some rule) }
-        ensures passed { IfNone result ((others : List (Option Rule)) → rules.first_failing (rules.begins_with_rules (look self.now) person.now change command.now others) ≡ rules.first_failing others) }
+        ensures found { IfSome result (λ rule. (others : List (Option Rule))
+            → rules.first_failing (rules.begins_with_rules (look self.now) person.now change command.now others)
+            ≡ Some rule) }
+        ensures passed { IfNone result ((others : List (Option Rule))
+            → rules.first_failing (rules.begins_with_rules (look self.now) person.now change command.now others)
+            ≡ rules.first_failing others) }
     {
         if !self.permits(person, change, command) {
             return Some(Rule::NotPermitted(self.need(change, command)));
@@ -141,8 +146,12 @@ impl Desk {
     ) -> Option<Rule>
         requires { IsTrue (rules.is_known (look self.now) change) }
         ensures value { result ≡ rules.first_failing (rules.unless_landing (look self.now) person.now change command.now []) }
-        ensures found { IfSome result (λ rule. (others : List (Option Rule)) → rules.first_failing (rules.unless_landing (look self.now) person.now change command.now others) ≡ Some rule) }
-        ensures passed { IfNone result ((others : List (Option Rule)) → rules.first_failing (rules.unless_landing (look self.now) person.now change command.now others) ≡ rules.first_failing others) }
+        ensures found { IfSome result (λ rule. (others : List (Option Rule))
+            → rules.first_failing (rules.unless_landing (look self.now) person.now change command.now others)
+            ≡ Some rule) }
+        ensures passed { IfNone result ((others : List (Option Rule))
+            → rules.first_failing (rules.unless_landing (look self.now) person.now change command.now others)
+            ≡ rules.first_failing others) }
     {
         match self.first_rules(person, change, command) {
             Some(rule) => Some(rule),
@@ -160,8 +169,12 @@ impl Desk {
         command: &Command,
     ) -> Result<Option<Rule>, AllocError>
         requires { IsTrue (rules.is_known (look self.now) change) }
-        ensures value { IfOk result (λ rule. rule ≡ rules.first_failing (rules.begins_with_rules (look self.now) person.now change command.now (rules.approval_rules (look self.now) change))) }
-        ensures cause { IfErr result (λ _. rules.MayWantMemory (rules.first_failing (rules.begins_with_rules (look self.now) person.now change command.now (rules.approval_rules (look self.now) change)))) }
+        ensures value { IfOk result (λ rule. rule
+            ≡ rules.first_failing (rules.begins_with_rules (look self.now) person.now change command.now
+            (rules.approval_rules (look self.now) change))) }
+        ensures cause { IfErr result (λ _. rules.MayWantMemory
+            (rules.first_failing (rules.begins_with_rules (look self.now) person.now change command.now
+            (rules.approval_rules (look self.now) change)))) }
     {
         match self.first_rules(person, change, command) {
             Some(rule) => Ok(Some(rule)),
@@ -213,8 +226,10 @@ impl Desk {
         change: ChangeNo,
     ) -> Result<Option<Rule>, AllocError>
         requires { IsTrue (rules.is_known (look self.now) change) }
-        ensures value { IfOk result (λ rule. rule ≡ rules.first_failing (rules.command_row (look self.now) person.now change Command.Retry)) }
-        ensures cause { IfErr result (λ _. rules.MayWantMemory (rules.first_failing (rules.command_row (look self.now) person.now change Command.Retry))) }
+        ensures value { IfOk result (λ rule. rule
+            ≡ rules.first_failing (rules.command_row (look self.now) person.now change Command.Retry)) }
+        ensures cause { IfErr result (λ _. rules.MayWantMemory
+            (rules.first_failing (rules.command_row (look self.now) person.now change Command.Retry))) }
     {
         match self.first_rules(person, change, &Command::Retry) {
             Some(rule) => Ok(Some(rule)),
@@ -224,8 +239,12 @@ impl Desk {
 
     // The first that fails of the rules of what `retry` repeats, behind those that `retry` begins with.
     fn repeated_rule(&self, alloc: Global, change: ChangeNo) -> Result<Option<Rule>, AllocError>
-        ensures value { IfOk result (λ rule. rule ≡ rules.first_failing (rules.repeated_rules (look self.now) change (rules.last_command (look self.now) change))) }
-        ensures cause { IfErr result (λ _. rules.MayWantMemory (rules.first_failing (rules.repeated_rules (look self.now) change (rules.last_command (look self.now) change)))) }
+        ensures value { IfOk result (λ rule. rule
+            ≡ rules.first_failing (rules.repeated_rules (look self.now) change
+            (rules.last_command (look self.now) change))) }
+        ensures cause { IfErr result (λ _. rules.MayWantMemory
+            (rules.first_failing (rules.repeated_rules (look self.now) change
+            (rules.last_command (look self.now) change)))) }
     {
         match self.last_command(change) {
             Some(Repeat::Approve | Repeat::ApproveFor(_)) => self.approval_rule(alloc, change),
@@ -280,8 +299,12 @@ fn fitness_rule(
     settings: &Settings,
     change: &Change,
 ) -> Result<Option<Rule>, AllocError>
-    ensures value { IfOk result (λ rule. rule ≡ rules.first_failing (rules.blocked_rule settings.now change.now ∷ rules.head_status_rule settings.now change.now ∷ rules.too_few_rule settings.now change.now ∷ [])) }
-    ensures cause { IfErr result (λ _. rules.MayWantMemory (rules.first_failing (rules.blocked_rule settings.now change.now ∷ rules.head_status_rule settings.now change.now ∷ rules.too_few_rule settings.now change.now ∷ []))) }
+    ensures value { IfOk result (λ rule. rule
+        ≡ rules.first_failing (rules.blocked_rule settings.now change.now
+        ∷ rules.head_status_rule settings.now change.now ∷ rules.too_few_rule settings.now change.now ∷ [])) }
+    ensures cause { IfErr result (λ _. rules.MayWantMemory
+        (rules.first_failing (rules.blocked_rule settings.now change.now
+        ∷ rules.head_status_rule settings.now change.now ∷ rules.too_few_rule settings.now change.now ∷ []))) }
 {
     if let Some(label) = blocking_label(settings, change) {
         return Ok(Some(Rule::Blocked(label.copy(alloc)?)));
