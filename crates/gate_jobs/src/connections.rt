@@ -1,11 +1,12 @@
 ghost use Rattle.std.specs.Prelude.{◌≡◌, ◌≢◌, ◌⊎◌, ◌<◌, ◌≤◌, ◌+◌, ◌-◌, ◌*◌, ◌++◌, ◌↔◌, ℕ, List, [], false, IfOk, IfSome, IsNone, IsTrue, drop, length, min, option_copied, take};
 ghost use Rattle.std.specs.Duration.{as_nanos};
 ghost use Rattle.std.specs.Time.{instant_nanos};
-ghost use Rattle.gate_hook.specs.Receiving.{IsEnough};
+ghost use Rattle.gate_waiting.specs.Room.{empty_room};
 
 use crate::accepting::Acceptor;
 use crate::closing::drop_part;
 use gate_hook::{Token, is_enough};
+use gate_waiting::{MOST, Ready, Reason, Waiting, Whole};
 use std::alloc::{AllocError, Global};
 use std::io::{self, Error, ErrorKind, Read, Write};
 use std::net::{Shutdown, TcpListener, TcpStream};
@@ -20,9 +21,6 @@ const SILENCE: u32 = 1;
 
 // The most that is read of a connection behind its response: a megabyte, and as much as a head may have.
 const MAX_LEFT: u64 = 1_064_960;
-
-// How many connections are waited for at once.
-const MOST_GUESTS: usize = 256;
 
 // How many bytes are read at once.
 const PIECE: usize = 8_192;
@@ -80,15 +78,28 @@ fn next_wait(patience: u32, waited: Duration) -> Option<Duration>
     }
 }
 
-// What is known of a connection that is waited for.
-#[derive(Clone, Copy, PartialEq, Eq)]
-enum Turn {
-    // More bytes have to come.
-    Waits,
-    // It can be served without a wait.
-    Comes,
-    // Its patience is over. What has come is read, and then its reads fail.
-    IsLate,
+// A time in microseconds, and no more than a number can be.
+fn micros(time: Duration) -> u64 {
+    time.as_secs()
+        .saturating_mul(1_000_000)
+        .saturating_add(u64::from(time.subsec_micros()))
+}
+
+// What makes a request whole: if a token is needed, one that doesn't bear it is whole with its head.
+#[derive(Drop)]
+struct Needs<'a> {
+    token: Option<&'a Token>,
+}
+
+impl Whole for Needs<'_> {
+    ghost use Rattle.std.specs.Prelude.{option_copied};
+    ghost use Rattle.gate_hook.specs.Receiving.{IsEnough};
+
+    ghost tells = { λ needs enough bytes. IsEnough (option_copied needs.token) enough bytes };
+
+    fn is_whole(&self, alloc: Global, bytes: &[u8]) -> Result<bool, AllocError> {
+        is_enough(alloc, self.token, bytes)
+    }
 }
 
 // What comes behind the bytes that have come.
@@ -98,97 +109,46 @@ enum Rest {
     Open,
     // They end.
     Ended,
-    // Reading has failed.
+    // Reading fails.
     Failed,
 }
 
-// A connection that is waited for, with the bytes that have come, and since when there are no more.
+// What comes behind the bytes of a connection that is waited for no longer.
+fn rest_of(reason: Reason) -> Rest
+    ensures open { (result ≡ Rest.Open) ↔ ((reason ≡ Reason.Whole) ⊎ (reason ≡ Reason.NoMemory)) }
+    ensures ended { (result ≡ Rest.Ended) ↔ (reason ≡ Reason.Ended) }
+{
+    match reason {
+        Reason::Whole | Reason::NoMemory => Rest::Open,
+        Reason::Ended => Rest::Ended,
+        Reason::Failed | Reason::Lost | Reason::Late => Rest::Failed,
+    }
+}
+
+// A connection that is here, under its number.
 #[derive(Drop)]
 struct Guest {
+    connection: u64,
     stream: TcpStream,
     limits: Limits,
-    bytes: Vec<u8>,
-    rest: Rest,
-    since: Instant,
 }
 
 impl Guest {
-    fn new(alloc: Global, clock: &impl Clock, stream: TcpStream, patience: u32) -> io::Result<Guest>
-        ensures patience { IfOk result (λ guest. guest.limits.patience ≡ patience) }
-        ensures bytes { IfOk result (λ guest. guest.bytes.items ≡ []) }
-        ensures rest { IfOk result (λ guest. guest.rest ≡ Rest.Open) }
-    {
-        stream.set_nonblocking(true)?;
-        let limits = Limits::from_now(clock, patience)?;
-        Ok(Guest {
-            stream,
-            limits,
-            bytes: Vec::new(alloc),
-            rest: Rest::Open,
-            since: limits.start,
-        })
-    }
-
-    // Takes some bytes that have come, and tells whether there were any, and there is room for more.
-    fn hear(&mut self) -> bool
-        ensures bytes { (more : List ℕ) × (self.new.bytes.items ≡ self.old.bytes.items ++ more) × (IsTrue result → 0 < length more) }
-        ensures none { result ≡ false → self.new.bytes.items ≡ self.old.bytes.items }
-        ensures limits { self.new.limits ≡ self.old.limits }
-    {
+    // Tells what has come, as long as there is something, and more is waited for.
+    fn hear(&mut self, waiting: &mut Waiting<Needs<'_>>, alloc: Global, time: u64) {
         let mut piece = [0; PIECE];
-        if self.bytes.reserve(PIECE).is_err() {
-            return false;
-        }
-        match self.stream.read(&mut piece) {
-            Ok(n) if n > 0 => return self.bytes.extend_from_slice(&piece[..n]).is_ok(),
-            Ok(_) => self.rest = Rest::Ended,
-            Err(error) if error.kind() == ErrorKind::WouldBlock => {}
-            Err(_) => self.rest = Rest::Failed,
-        }
-        false
-    }
-
-    // Takes all that has come, and tells whether it is enough. If nothing has come, nothing new is told.
-    fn hear_all(
-        &mut self,
-        alloc: Global,
-        clock: &impl Clock,
-        token: Option<&Token>,
-    ) -> io::Result<bool>
-        ensures enough { IfOk result (λ enough. enough ≡ false
-            → (self.new.bytes.items ≡ self.old.bytes.items) ⊎ IsEnough (option_copied token.entry) false self.new.bytes.items) }
-        ensures bytes { (more : List ℕ) × (self.new.bytes.items ≡ self.old.bytes.items ++ more) }
-        ensures limits { self.new.limits ≡ self.old.limits }
-    {
         for _ in 0..u64::MAX {
-            if !self.hear() {
-                return Ok(false);
+            waiting.make_room(self.connection, PIECE);
+            if !waiting.is_waiting(self.connection) {
+                return;
             }
-            self.since = Instant::now(clock)?;
-            if is_enough(alloc, token, &self.bytes).unwrap_or(true) {
-                return Ok(true);
+            match self.stream.read(&mut piece) {
+                Ok(n) if n > 0 => waiting.hear(alloc, time, self.connection, &piece[..n]),
+                Ok(_) => waiting.end(self.connection),
+                Err(error) if error.kind() == ErrorKind::WouldBlock => return,
+                Err(_) => waiting.fail(self.connection),
             }
         }
-        Ok(false)
-    }
-
-    // Takes all that has come. More is waited for only if more may come, and what has come isn't enough.
-    fn turn(&mut self, alloc: Global, clock: &impl Clock, token: Option<&Token>) -> io::Result<Turn>
-        ensures waits { IfOk result (λ turn. turn ≢ Turn.Comes → (self.new.rest ≡ Rest.Open)
-            × ((self.new.bytes.items ≡ self.old.bytes.items) ⊎ IsEnough (option_copied token.entry) false self.new.bytes.items)) }
-        ensures bytes { (more : List ℕ) × (self.new.bytes.items ≡ self.old.bytes.items ++ more) }
-        ensures limits { self.new.limits ≡ self.old.limits }
-    {
-        if self.hear_all(alloc, clock, token)? {
-            return Ok(Turn::Comes);
-        }
-        if self.rest != Rest::Open || self.bytes.reserve(PIECE).is_err() {
-            return Ok(Turn::Comes);
-        }
-        if self.limits.are_over(Instant::now(clock)?, self.since) {
-            return Ok(Turn::IsLate);
-        }
-        Ok(Turn::Waits)
     }
 }
 
@@ -247,8 +207,10 @@ pub struct Connections<'a, C: Clock> {
     listener: &'a TcpListener,
     clock: &'a C,
     alloc: Global,
-    token: Option<&'a Token>,
     patience: u32,
+    // The moment from which times are told.
+    start: Option<Instant>,
+    waiting: Waiting<Needs<'a>>,
     guests: Vec<Guest>,
     leavers: Vec<Leaver>,
 }
@@ -265,23 +227,45 @@ impl<'a, C: Clock> Connections<'a, C> {
         patience: u32,
     ) -> Result<Connections<'a, C>, AllocError>
         ensures patience { IfOk result (λ connections. connections.patience ≡ patience) }
-        ensures token { IfOk result (λ connections. connections.token ≡ token.entry) }
+        ensures waiting { IfOk result (λ connections. connections.waiting
+            ≡ empty_room (record { token = token.entry }) (patience * 1000000)) }
     {
         Ok(Connections {
             listener,
             clock,
             alloc,
-            token,
             patience,
-            guests: Vec::with_capacity(alloc, MOST_GUESTS)?,
-            leavers: Vec::with_capacity(alloc, MOST_GUESTS)?,
+            start: None,
+            waiting: Waiting::new(alloc, Needs { token }, patience)?,
+            guests: Vec::with_capacity(alloc, MOST)?,
+            leavers: Vec::with_capacity(alloc, MOST)?,
         })
+    }
+
+    // The time, in microseconds since it was asked for first.
+    fn time(&mut self) -> io::Result<u64> {
+        let now = Instant::now(self.clock)?;
+        match self.start {
+            Some(start) => Ok(micros(now.duration_since(start))),
+            None => {
+                self.start = Some(now);
+                Ok(0)
+            }
+        }
     }
 
     // Takes a connection in, to be waited for.
     fn take_in(&mut self, stream: TcpStream) -> io::Result<()> {
-        let guest = Guest::new(self.alloc, self.clock, stream, self.patience)?;
-        self.guests.push(guest)?;
+        stream.set_nonblocking(true)?;
+        let limits = Limits::from_now(self.clock, self.patience)?;
+        let time = self.time()?;
+        if let Some(connection) = self.waiting.come(self.alloc, time) {
+            self.guests.push(Guest {
+                connection,
+                stream,
+                limits,
+            })?;
+        }
         Ok(())
     }
 
@@ -306,13 +290,16 @@ impl<'a, C: Clock> Connections<'a, C> {
 
     // Waits for a connection if there is none, and takes in those that have come meanwhile.
     fn listen(&mut self) -> io::Result<()> {
-        if self.guests.is_empty() && self.leavers.is_empty() {
+        if self.waiting.is_empty() && self.leavers.is_empty() {
             self.listener.set_nonblocking(false)?;
             let (stream, _) = self.listener.accept()?;
             self.take_in(stream)?;
         }
         self.listener.set_nonblocking(true)?;
-        for _ in self.guests.len()..MOST_GUESTS {
+        for _ in 0..MOST {
+            if !self.waiting.has_place() {
+                return Ok(());
+            }
             match self.listener.accept() {
                 Ok((stream, _)) => self.take_in(stream)?,
                 // Those that are there are served first.
@@ -322,30 +309,26 @@ impl<'a, C: Clock> Connections<'a, C> {
         Ok(())
     }
 
-    // The first connection whose turn it is, and whether it is late.
-    fn first(&mut self) -> io::Result<Option<(usize, bool)>> {
-        for (place, guest) in self.guests.iter_mut().enumerate() {
-            match guest.turn(self.alloc, self.clock, self.token)? {
-                Turn::Waits => {}
-                Turn::Comes => return Ok(Some((place, false))),
-                Turn::IsLate => return Ok(Some((place, true))),
-            }
+    // Hears what has come, and gives the connection whose turn it is, if it is one's.
+    fn first(&mut self) -> io::Result<Option<(Guest, Ready)>> {
+        let time = self.time()?;
+        for guest in &mut self.guests {
+            guest.hear(&mut self.waiting, self.alloc, time);
         }
-        Ok(None)
+        match self.waiting.next(time) {
+            Some(ready) => Ok(taken(&mut self.guests, ready.guest.connection).map(|guest| (guest, ready))),
+            None => Ok(None),
+        }
     }
 
-    fn next(&mut self) -> io::Result<Guest> {
+    fn next(&mut self) -> io::Result<(Guest, Ready)> {
         let mut pause = FIRST_PAUSE;
         for look in 0..u64::MAX {
             self.see_off();
             self.listen()?;
-            match self.first()? {
-                Some((place, is_late)) if place < self.guests.len() => {
-                    let guest = self.guests.remove(place);
-                    guest.stream.set_nonblocking(is_late)?;
-                    return Ok(guest);
-                }
-                _ => {}
+            if let Some((guest, ready)) = self.first()? {
+                guest.stream.set_nonblocking(false)?;
+                return Ok((guest, ready));
             }
             if look >= FIRST_LOOKS {
                 thread::sleep(self.clock, Duration::from_micros(pause));
@@ -354,6 +337,16 @@ impl<'a, C: Clock> Connections<'a, C> {
         }
         Err(Error::from(ErrorKind::TimedOut))
     }
+}
+
+// Takes out the connection of a number.
+fn taken(guests: &mut Vec<Guest>, connection: u64) -> Option<Guest> {
+    for place in 0..guests.len() {
+        if guests[place].connection == connection {
+            return Some(guests.remove(place));
+        }
+    }
+    None
 }
 
 // Hands over bytes from a place on, as many as there is room for, and moves the place behind them. It tells how many.
@@ -432,13 +425,10 @@ impl<C: Clock> Write for PatientWriter<'_, C> {
 impl<'a, C: Clock> Acceptor<PatientReader<'a, C>, PatientWriter<'a, C>> for Connections<'a, C> {
     fn accept(&mut self) -> io::Result<(PatientReader<'a, C>, PatientWriter<'a, C>)> {
         for _ in 0..u64::MAX {
-            let Guest {
-                stream,
-                limits,
-                bytes,
-                rest,
-                ..
-            } = self.next()?;
+            let (guest, ready) = self.next()?;
+            let Guest { stream, limits, .. } = guest;
+            let rest = rest_of(ready.reason);
+            let bytes = ready.guest.bytes.into_vec();
             // A connection that can't be read and written is given up, and makes room.
             if let Ok(reading) = stream.try_clone() {
                 let clock = self.clock;

@@ -1,0 +1,4 @@
+mod First
+mod Order
+mod Rooms
+mod Told

@@ -1,0 +1,89 @@
+-- WHAT EACH CALL MAKES OF A ROOM.
+use Rattle.std.specs.Prelude.{◌≡◌, ◌⊎◌, ℕ, ◌+◌, Bool, true, false, cond, ◌==◌, List, [], ◌∷◌, ◌++◌, Option, Some, None}
+use Rattle.std.specs.List.{find}
+use Rattle.gate_waiting.specs.Room.{Room, here, is_late}
+use Rattle.gate_waiting.specs.declared.guest.Guest.{Guest}
+use Rattle.gate_waiting.specs.declared.guest.Ready.{Ready}
+use Rattle.gate_waiting.specs.declared.guest.Reason.{Reason}
+use Rattle.gate_waiting.specs.declared.guest.Reason.TheVariants.{Whole, NoMemory, Lost, Late}
+
+-- the first that passes a test leaves, and the others stay in their order
+abbrev pub without_first : {X : Type 0} → (X → Bool) → List X → List X
+without_first test [] = []
+without_first test (x ∷ xs) = cond (test x) xs (x ∷ without_first test xs)
+
+abbrev pub is_of : ℕ → Guest → Bool
+is_of connection guest = guest.connection == connection
+
+-- A CONNECTION COMES
+abbrev pub new_guest : ℕ → ℕ → Guest
+new_guest connection now = record { connection = connection; came = now; heard = now; bytes = [] }
+
+abbrev pub with_guest : {W : Type 0} → ℕ → Room W → Room W
+with_guest now room = record room { next = room.next + 1; guests = room.guests ++ new_guest room.next now ∷ [] }
+
+-- ONE THAT WAITS goes on to wait, behind the others, or becomes ready
+abbrev pub goes_on : {W : Type 0} → ℕ → Guest → Room W → Room W
+goes_on connection guest room = record room { guests = without_first (is_of connection) room.guests ++ guest ∷ [] }
+
+abbrev pub is_ready : {W : Type 0} → ℕ → Guest → Reason → Room W → Room W
+is_ready connection guest reason room = record room {
+  guests = without_first (is_of connection) room.guests;
+  ready = room.ready ++ record { guest = guest; reason = reason } ∷ [];
+}
+
+-- BYTES COME on one that waits. It is ready if they make its request whole, or if there is no memory to tell, or none for them: then they
+-- are lost.
+abbrev pub with_bytes : ℕ → List ℕ → Guest → Guest
+with_bytes now bytes guest = record guest { heard = now; bytes = guest.bytes ++ bytes }
+
+abbrev pub IsJudged : (Bool → List ℕ → Type 0) → Guest → Option Reason → Guest → Type 0
+IsJudged tells heard None kept = tells false heard.bytes × (kept ≡ heard)
+IsJudged tells heard (Some reason) kept =
+    ((reason ≡ Whole) × tells true heard.bytes × (kept ≡ heard))
+    ⊎ (((reason ≡ NoMemory) × (kept ≡ heard)) ⊎ ((reason ≡ Lost) × (kept.connection ≡ heard.connection)))
+
+abbrev pub moves_on : {W : Type 0} → ℕ → Guest → Option Reason → Room W → Room W
+moves_on connection guest None room = goes_on connection guest room
+moves_on connection guest (Some reason) room = is_ready connection guest reason room
+
+abbrev pub HearsOn : {W : Type 0} → (W → Bool → List ℕ → Type 0) → ℕ → ℕ → List ℕ → Room W → Room W → Option Guest → Type 0
+HearsOn tells now connection bytes old new None = new ≡ old
+HearsOn tells now connection bytes old new (Some guest) =
+    (reason : Option Reason) × (kept : Guest) × IsJudged (tells old.whole) (with_bytes now bytes guest) reason kept
+    × (new ≡ moves_on connection kept reason old)
+
+abbrev pub Hears : {W : Type 0} → (W → Bool → List ℕ → Type 0) → ℕ → ℕ → List ℕ → Room W → Room W → Type 0
+Hears tells now connection bytes old new = HearsOn tells now connection bytes old new (find (is_of connection) old.guests)
+
+-- ONE THAT WAITS IS STOPPED: no more comes on it, or it can't be read, or there is no memory for more
+abbrev pub stopped_in : {W : Type 0} → ℕ → Reason → Option Guest → Room W → Room W
+stopped_in connection reason None room = room
+stopped_in connection reason (Some guest) room = is_ready connection guest reason room
+
+abbrev pub stops : {W : Type 0} → ℕ → Reason → Room W → Room W
+stops connection reason room = stopped_in connection reason (find (is_of connection) room.guests) room
+
+-- THE NEXT is the one that has been ready the longest; or else the first that is late
+abbrev pub first_late : {W : Type 0} → ℕ → Option Guest → Room W → Option Ready × Room W
+first_late now None room = (None, room)
+first_late now (Some guest) room = (Some (record { guest = guest; reason = Late }), record room { guests = without_first (is_late room now) room.guests })
+
+abbrev pub next_of : {W : Type 0} → ℕ → List Ready → Room W → Option Ready × Room W
+next_of now [] room = first_late now (find (is_late room now) room.guests) room
+next_of now (first ∷ others) room = (Some first, record room { ready = others })
+
+abbrev pub next : {W : Type 0} → ℕ → Room W → Option Ready × Room W
+next now room = next_of now room.ready room
+
+-- of the one that is handed on: its request is whole, if that is the reason; it was late and nobody was ready, if that is; and nothing is
+-- kept of it
+pub record IsHanded {W : Type 0} (tells : W → Bool → List ℕ → Type 0) (old : Room W) (now : ℕ) (new : Room W) (it : Ready) : Type 0 where
+  pub whole : it.reason ≡ Whole → tells old.whole true it.guest.bytes
+  pub late : it.reason ≡ Late → (old.ready ≡ []) × (is_late old now it.guest ≡ true)
+  pub gone : here it.guest.connection new ≡ 0
+
+-- For a private clause: the first that is late was taken out, or nobody is.
+abbrev pub IsFirstLate : (Guest → Bool) → List Guest → List Guest → Option Ready → Type 0
+IsFirstLate late old new None = (None ≡ find late old) × (new ≡ old)
+IsFirstLate late old new (Some ready) = (ready.reason ≡ Late) × (Some ready.guest ≡ find late old) × (new ≡ without_first late old)

@@ -1,0 +1,231 @@
+ghost use Rattle.std.specs.Prelude.{◌≡◌, ◌≢◌, ◌⊎◌, ◌+◌, ◌*◌, ◌-◌, ◌^◌, ◌≤◌, ◌<◌, ◌↔◌, ◌∷◌, [], List, IsTrue, length, None, Some, IfOk, IfSome};
+ghost use Rattle.std.specs.List.{find, list_any};
+ghost use Rattle.gate_waiting.specs.Calls as calls;
+ghost use Rattle.gate_waiting.specs.Calls.{Hears, IsFirstLate, IsHanded, IsJudged, is_of, stops, with_bytes, with_guest};
+ghost use Rattle.gate_waiting.specs.Events.{Event, came, heard};
+ghost use Rattle.gate_waiting.specs.Room.{IsAsTold, Tells, empty_room, is_later, most};
+ghost use Rattle.gate_waiting.specs.declared.guest.Guest.{Guest as GuestOf};
+
+use crate::bytes::Bytes;
+use crate::guest::{Guest, Ready, Reason};
+use crate::places::{MOST, Places};
+use crate::taking::{LateAt, Numbered, first_place, take_out};
+use std::alloc::{AllocError, Global};
+use std::marker::Model;
+
+/// What makes a request whole.
+pub trait Whole {
+    ghost use Rattle.std.specs.Prelude.{ℕ, List, Bool};
+
+    // What is so of bytes that are a whole request, and of bytes that are none.
+    ghost tells: { Self → Bool → List ℕ → Type 0 };
+
+    /// Whether these bytes of a request are all that its answer needs. `AllocError` if there is no memory to tell.
+    fn is_whole(&self, alloc: Global, bytes: &[u8]) -> Result<bool, AllocError>
+        ensures value { IfOk result (λ whole. tells self.now whole bytes.now) };
+}
+
+/// The connections that are waited for, and those that are ready.
+#[derive(Drop)]
+pub struct Waiting<W: Whole> {
+    whole: W,
+    patience: u64,
+    next: u64,
+    guests: Places<Guest>,
+    ready: Places<Ready>,
+}
+
+impl<W: Whole> Model for Waiting<W> {
+    ghost use Rattle.gate_waiting.specs.Room.{Room, IsRoom};
+
+    ghost Value = { Room W };
+
+    ghost view = { λ w. record { whole = w.whole; patience = w.patience; next = w.next; guests = w.guests; ready = w.ready } };
+
+    ghost invariant = { λ w. IsRoom W.tells (record { whole = w.whole; patience = w.patience; next = w.next; guests = w.guests; ready = w.ready }) };
+}
+
+impl<W: Whole + Drop> Waiting<W> {
+    /// Nobody waits. The patience is in seconds. `AllocError` if there is no memory for the lists.
+    pub fn new(alloc: Global, whole: W, patience: u32) -> Result<Waiting<W>, AllocError>
+        ensures value { IfOk result (λ waiting. waiting ≡ empty_room whole (patience * 1000000)) }
+    {
+        Ok(Waiting {
+            whole,
+            patience: u64::from(patience) * 1_000_000,
+            next: 0,
+            guests: Places::new(alloc)?,
+            ready: Places::new(alloc)?,
+        })
+    }
+
+    /// Takes in a connection that comes at this time, in microseconds, and gives its number. `None` if it is turned away, since as many
+    /// are here as may be, or no number is left.
+    pub fn come(&mut self, alloc: Global, now: u64) -> Option<u64>
+        ensures room { IfSome result (λ connection. (connection ≡ self.old.next) × (self.new ≡ with_guest now self.old)) }
+        ensures away { result ≡ None → (self.new ≡ self.old)
+            × ((most ≤ length self.old.guests + length self.old.ready) ⊎ (self.old.next ≡ 2 ^ 64 - 1)) }
+        ensures told { IfSome result (λ connection. (events : List Event) → Tells events self.old
+            → Tells (came now connection ∷ events) self.new) }
+    {
+        if self.guests.len() + self.ready.len() >= MOST || self.next == u64::MAX {
+            return None;
+        }
+        let connection = self.next;
+        self.next += 1;
+        self.guests.add(Guest {
+            connection,
+            came: now,
+            heard: now,
+            bytes: Bytes::new(alloc),
+        });
+        Some(connection)
+    }
+
+    /// Whether this connection is waited for. Only of such a one are bytes taken.
+    pub fn is_waiting(&self, connection: u64) -> bool
+        ensures value { result ≡ list_any (is_of connection) self.now.guests }
+    {
+        has_any(self.guests.as_slice(), connection)
+    }
+
+    /// Whether nobody is here.
+    pub fn is_empty(&self) -> bool
+        ensures value { IsTrue result ↔ ((self.now.guests ≡ []) × (self.now.ready ≡ [])) }
+    {
+        self.guests.len() == 0 && self.ready.len() == 0
+    }
+
+    /// Whether there is a place for one more.
+    pub fn has_place(&self) -> bool
+        ensures value { IsTrue result ↔ (length self.now.guests + length self.now.ready < most) }
+    {
+        self.guests.len() + self.ready.len() < MOST
+    }
+
+    /// Makes room for so many bytes more of a connection. If it is waited for, and there is no memory for them, it is ready.
+    pub fn make_room(&mut self, connection: u64, more: usize)
+        ensures room { (self.new ≡ self.old) ⊎ (self.new ≡ stops connection Reason.NoMemory self.old) }
+        ensures told { (events : List Event) → Tells events self.old → Tells events self.new }
+    {
+        if !has_room(&mut self.guests, connection, more) {
+            self.stop(connection, Reason::NoMemory);
+        }
+    }
+
+    /// Takes bytes that come on a connection at this time. If they make its request whole, it is ready; so it is if there is no memory to
+    /// tell, or none for them, and then they are lost. On one that isn't waited for nothing is taken.
+    pub fn hear(&mut self, alloc: Global, now: u64, connection: u64, bytes: &[u8])
+        ensures heard { Hears W.tells now connection bytes.now self.old self.new }
+        ensures told { (guest : GuestOf) → find (is_of connection) self.old.guests ≡ Some guest → (events : List Event)
+            → Tells events self.old → Tells (heard now connection bytes.now ∷ events) self.new }
+    {
+        match take_out(&mut self.guests, &Numbered(connection)) {
+            Some(mut guest) => match judge(&self.whole, alloc, &mut guest, now, bytes) {
+                Some(reason) => self.ready.add(Ready { guest, reason }),
+                None => self.guests.add(guest),
+            },
+            None => {}
+        }
+    }
+
+    /// Notes that no more comes on a connection. If it is waited for, it is ready.
+    pub fn end(&mut self, connection: u64)
+        ensures room { self.new ≡ stops connection Reason.Ended self.old }
+        ensures told { (events : List Event) → Tells events self.old → Tells events self.new }
+    {
+        self.stop(connection, Reason::Ended);
+    }
+
+    /// Notes that a connection can't be read. If it is waited for, it is ready.
+    pub fn fail(&mut self, connection: u64)
+        ensures room { self.new ≡ stops connection Reason.Failed self.old }
+        ensures told { (events : List Event) → Tells events self.old → Tells events self.new }
+    {
+        self.stop(connection, Reason::Failed);
+    }
+
+    fn stop(&mut self, connection: u64, reason: Reason)
+        requires some { reason ≢ Reason.Whole }
+        requires timely { reason ≢ Reason.Late }
+        ensures room { self.new ≡ stops connection reason self.old }
+        ensures told { (events : List Event) → Tells events self.old → Tells events self.new }
+    {
+        match take_out(&mut self.guests, &Numbered(connection)) {
+            Some(guest) => self.ready.add(Ready { guest, reason }),
+            None => {}
+        }
+    }
+
+    /// Hands on the connection that has been ready the longest, or else the first that is late at this time. `None` if there is none.
+    pub fn next(&mut self, now: u64) -> Option<Ready>
+        ensures next { (result, self.new) ≡ calls.next now self.old }
+
+        // A request that isn't whole is never handed on as one that is, nobody is late who isn't, and nothing is kept of who has gone.
+        ensures handed { IfSome result (IsHanded W.tells self.old now self.new) }
+
+        // The bytes are those that came on the connection, in their order.
+        ensures told { (events : List Event) → Tells events self.old → Tells events self.new
+            × IfSome result (λ it. it.reason ≢ Reason.Lost → IsAsTold events it.guest) }
+    {
+        if self.ready.len() > 0 {
+            return Some(self.ready.remove(0));
+        }
+        let late = LateAt {
+            time: now,
+            patience: self.patience,
+            in_all: 10 * self.patience,
+        };
+        first_late(&mut self.guests, &late)
+    }
+}
+
+fn has_any(guests: &[Guest], connection: u64) -> bool
+    ensures { result ≡ list_any (is_of connection) guests.now }
+{
+    guests.iter().any(|guest| guest.connection == connection)
+}
+
+// Makes room for so many bytes more of a connection, if it is there, and tells whether there is memory for them.
+fn has_room(guests: &mut Places<Guest>, connection: u64, more: usize) -> bool
+    ensures same { guests.new ≡ guests.old }
+{
+    match first_place(guests.as_slice(), &Numbered(connection)) {
+        Some(place) => guests.make_room(place, more),
+        None => true,
+    }
+}
+
+// Takes out the first that is late.
+fn first_late(guests: &mut Places<Guest>, late: &LateAt) -> Option<Ready>
+    ensures { IsFirstLate (is_later late.now.patience late.now.in_all late.now.time) guests.old guests.new result }
+{
+    match take_out(guests, late) {
+        Some(guest) => Some(Ready {
+            guest,
+            reason: Reason::Late,
+        }),
+        None => None,
+    }
+}
+
+// Adds bytes to those of a connection, and says why it is ready, if it is.
+fn judge<W: Whole>(
+    whole: &W,
+    alloc: Global,
+    guest: &mut Guest,
+    now: u64,
+    bytes: &[u8],
+) -> Option<Reason>
+    ensures { IsJudged (W.tells whole.now) (with_bytes now bytes.now guest.old) result guest.new }
+{
+    guest.heard = now;
+    if guest.bytes.add(bytes).is_err() {
+        return Some(Reason::Lost);
+    }
+    match whole.is_whole(alloc, guest.bytes.as_slice()) {
+        Ok(true) => Some(Reason::Whole),
+        Ok(false) => None,
+        Err(_) => Some(Reason::NoMemory),
+    }
+}
