@@ -316,7 +316,9 @@ impl<'a, C: Clock> Connections<'a, C> {
             guest.hear(&mut self.waiting, self.alloc, time);
         }
         match self.waiting.next(time) {
-            Some(ready) => Ok(taken(&mut self.guests, ready.guest.connection).map(|guest| (guest, ready))),
+            Some(ready) => Ok(taken(&mut self.guests, ready.guest.connection).map(|guest| (
+                guest, ready,
+            ))),
             None => Ok(None),
         }
     }

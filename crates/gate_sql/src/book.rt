@@ -187,6 +187,15 @@ impl<S: Alter> Book for SqlBook<S> {
         answer_in(alloc, body)
     }
 
+    /// It is the text as the table has it, which was written for its answer.
+    fn kept_text(&mut self, alloc: Global, id: &DeliveryId) -> Result<Option<String>, Fault> {
+        match self.tables.answer(id.text()) {
+            Ok(Some(body)) => Ok(Some(String::from_str(alloc, body.as_str())?)),
+            Ok(None) => Ok(None),
+            Err(fault) => Err(told(fault)),
+        }
+    }
+
     /// Keeps the state of a gate in place of the one before, and an answer under an identifier that has none, both or neither. It
     /// reads the rows that stand, and writes those that differ from the gate's. If the connection is sound, the tables then hold
     /// the rows and texts of what the book shows, and nothing besides.

@@ -1,11 +1,13 @@
-ghost use Rattle.std.specs.Prelude.{◌≡◌, None, IfOk, IfErr, OnOk, OnErr};
+ghost use Rattle.std.specs.Prelude.{◌≡◌, ◌⊎◌, None, IfOk, IfErr, OnOk, OnErr};
+ghost use Rattle.std.specs.Option.{option_map};
+ghost use Rattle.std.specs.String.{string_bytes};
 ghost use Rattle.gate_queue.specs.Before.{IsBefore};
 ghost use Rattle.gate_answers.specs.Answers.{answer_text_of};
 ghost use Rattle.gate_answers.specs.Reading.{answer_of};
 ghost use Rattle.gate_store.specs.Premise.{PremiseLasts};
 ghost use Rattle.gate_store.specs.Run.{Records, IsOfBooks, kept_under, with_answer};
 
-use gate_answers::Answer;
+use gate_answers::{Answer, answer_text};
 use gate_queue::{Before, Fault, Gate};
 use gate_text::DeliveryId;
 use std::alloc::Global;
@@ -51,6 +53,23 @@ pub trait Book {
         ensures stays { is_honest self.new → OnOk result (is_sound self.new) }
         ensures cause { IfErr result may_answer }
         ensures fault { IfErr result IsOfBooks };
+
+    /// The text of the answer that is kept under an identifier, if there is one. It changes nothing. A book that keeps texts needn't
+    /// read the answer and write it anew. The fault is `Memory`, or one that the book may answer.
+    fn kept_text(&mut self, alloc: Global, id: &DeliveryId) -> Result<Option<String>, Fault>
+        ensures text { is_sound self.new → IfOk result (λ text. option_map string_bytes text
+            ≡ option_map answer_text_of (kept_under (shows self.old) id.now)) }
+        ensures same { is_sound self.new → shows self.new ≡ shows self.old }
+        ensures outlasts { PremiseLasts is_sound is_honest is_shielded self.old self.new }
+        ensures stays { is_honest self.new → OnOk result (is_sound self.new) }
+        ensures cause { IfErr result (λ fault. (fault ≡ Fault.Memory) ⊎ may_answer fault) }
+        ensures fault { IfErr result IsOfBooks }
+    {
+        match self.kept(alloc, id)? {
+            Some(answer) => Ok(Some(answer_text(alloc, &answer)?)),
+            None => Ok(None),
+        }
+    }
 
     /// Keeps the state of a gate in place of the one before, and an answer under an identifier that has none, both or neither.
     fn commit(

@@ -250,8 +250,8 @@ impl<B: Book> Keeper<B> {
             → IfOk result (λ text. string_bytes text ≡ answer_text_of (answer_to (B.shows self.old) delivery.now)) }
         ensures delivers { Delivers B.Book self.old self.new delivery.now result }
     {
-        if let Some(kept) = self.book.kept(alloc, &delivery.id)? {
-            return Ok(answer_text(alloc, &kept)?);
+        if let Some(kept) = self.book.kept_text(alloc, &delivery.id)? {
+            return Ok(kept);
         }
         let acted = self.step(alloc, delivery)?;
         Ok(acted.text)
