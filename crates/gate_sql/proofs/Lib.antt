@@ -2,3 +2,4 @@ pub mod Holding
 pub mod Opened
 pub mod Shown
 pub mod Standing
+pub mod Versions

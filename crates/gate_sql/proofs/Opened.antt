@@ -24,10 +24,11 @@ use Rattle.gate_tables.specs.Applied.{applied}
 use Rattle.gate_tables.specs.Contents.{AreSame, answers_at}
 use Rattle.gate_tables.specs.Forms as forms
 use Rattle.gate_tables.specs.Forms.{rows_of as rows_of_table}
-use Rattle.gate_tables.specs.Schemas.{lacks_wanted, stored_rows}
+use Rattle.gate_tables.specs.Schemas.{stored_rows, version_of}
 use Rattle.gate_tables.specs.Tables.{answers_in, rows_in}
 use Rattle.gate_tables.specs.declared.change.RowChange.{RowChange}
 use Rattle.gate_tables.specs.declared.row.Rows.{Rows}
+use Rattle.gate_tables.specs.declared.version.Version.{Version}
 use Rattle.sqlite.specs.Effect.{Database}
 use Rattle.sqlite.specs.Held.{Held, state}
 use Rattle.sqlite.specs.Store.{Ghosts}
@@ -64,12 +65,12 @@ pub record Opened {S : Type 0} (g : Ghosts S) (old new : Held S) : Type 0 where
   pub held : IsHeld (rows_in g new) (answers_in g new)
   pub stands : StandsFor (state g old).now (shown g new)
 
-module _ {S : Type 0} (g : Ghosts S) (old found new : Held S) (first : Bool) (read : Rows) (entries : List Entry) (changes : List RowChange) where
-  pub opened : LawOfRows → Understands first read changes → AreKeptAnswers entries → first ≡ lacks_wanted (state g old).now.schema
+module _ {S : Type 0} (g : Ghosts S) (old found new : Held S) (version : Version) (read : Rows) (entries : List Entry) (changes : List RowChange) where
+  pub opened : LawOfRows → Understands version read changes → AreKeptAnswers entries → version ≡ version_of (state g old).now.schema
       → (state g found).now ≡ (state g old).now → AreSame (stored_rows (state g found).now) read → IsPermutation (rows_of_table forms.answers (state g found).now.trees) entries
       → AreSame (rows_in g new) (applied changes (stored_rows (state g found).now)) → answers_in g new ≡ answers_at (state g found).now.trees
       → Opened g old new
-  opened law u are version was rows answers led kept =
+  opened law u are of_it was rows answers led kept =
       let stored = stored_rows (state g found).now in
       let now = same_then (rows_in g new) (applied changes stored) (rows_of u.s) led (u.leads stored rows) in
       let stands = law u.s (rows_in g new) u.state u.limits (same_back (rows_in g new) (rows_of u.s) now) in
@@ -80,9 +81,9 @@ module _ {S : Type 0} (g : Ghosts S) (old found new : Held S) (first : Bool) (re
         stands = record {
           state = held.state;
           limits = held.limits;
-          rows_are = subst (λ (s : State). AreSame (stored_rows (state g old).now) (rows_as (lacks_wanted (state g old).now.schema) (rows_of s))) (sym stands)
-              (subst (λ (db : Database). AreSame (stored_rows db) (rows_as (lacks_wanted (state g old).now.schema) (rows_of u.s))) was
-              (same_then stored read (rows_as (lacks_wanted (state g old).now.schema) (rows_of u.s)) rows (subst (λ (b : Bool). AreSame read (rows_as b (rows_of u.s))) version u.rows_are)));
+          rows_are = subst (λ (s : State). AreSame (stored_rows (state g old).now) (rows_as (version_of (state g old).now.schema) (rows_of s))) (sym stands)
+              (subst (λ (db : Database). AreSame (stored_rows db) (rows_as (version_of (state g old).now.schema) (rows_of u.s))) was
+              (same_then stored read (rows_as (version_of (state g old).now.schema) (rows_of u.s)) rows (subst (λ (v : Version). AreSame read (rows_as v (rows_of u.s))) of_it u.rows_are)));
           identified = subst (λ (db : Database). AllByRecursion (λ (e : Entry). IsOk (delivery_id_of e.0)) (rows_of_table forms.answers db.trees)) was
               (all_weaker IsKeptAnswer (λ (e : Entry). IsOk (delivery_id_of e.0)) (λ e is. is.0) (rows_of_table forms.answers (state g found).now.trees) stored_answers);
           texts_are = subst (AreTextsOf (answers_of (answers_in g new))) (kept ∙ ap (λ (db : Database). answers_at db.trees) was) held.texts_are;

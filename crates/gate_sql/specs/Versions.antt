@@ -1,5 +1,5 @@
--- DATABASES OF BOTH SCHEMA VERSIONS, and what they stand for.
-use Rattle.std.specs.Prelude.{◌≡◌, ◌⊎◌, IsOk, ℕ, pos, Bool, false, List, [], ◌∷◌, Some, if◌then◌else◌}
+-- DATABASES OF ALL VERSIONS OF THE SCHEMA, and what they stand for.
+use Rattle.std.specs.Prelude.{◌≡◌, ◌⊎◌, IsOk, ℕ, ℤ, pos, Bool, false, List, [], ◌∷◌, Some}
 use Rattle.std.specs.FinMap.{empty}
 use Rattle.std.specs.List.{AllByRecursion}
 use Rattle.std.specs.Ordering.{int_eq}
@@ -19,22 +19,27 @@ use Rattle.gate_tables.specs.Applied.{applied}
 use Rattle.gate_tables.specs.Contents.{AreSame, answers_at}
 use Rattle.gate_tables.specs.Forms as forms
 use Rattle.gate_tables.specs.Database.{schema_of}
-use Rattle.gate_tables.specs.Schemas.{HasTables, lacks_wanted, stored_rows}
+use Rattle.gate_tables.specs.Schemas.{HasTables, stored_rows, version_of}
 use Rattle.gate_tables.specs.declared.change.RowChange.{RowChange}
 use Rattle.gate_tables.specs.declared.row.DeskRow.{DeskRow}
 use Rattle.gate_tables.specs.declared.row.Rows.{Rows}
+use Rattle.gate_tables.specs.declared.version.Version.{Version}
+use Rattle.gate_tables.specs.declared.version.Version.TheVariants.{Version1, Version2}
 use Rattle.serde_json.specs.Read.{read}
 use Rattle.sqlite.specs.Effect.{Database}
 
--- WHAT A DATABASE OF EITHER VERSION STANDS FOR: a state of the machine, of which it has the rows, and answers under identifiers, of
--- which it has the texts
-abbrev pub rows_as : Bool → Rows → Rows
-rows_as first rows = if first then in_first rows else rows
+-- the rows of a version that stand for what rows of the last one stand for
+abbrev pub rows_as : Version → Rows → Rows
+rows_as Version1 rows = in_first rows
+rows_as Version2 rows = rows
+
+-- WHAT A DATABASE STANDS FOR: a state of the machine, of which it has the rows of its version, and answers under identifiers, of which
+-- it has the texts
 
 pub record StandsFor (db : Database) (records : Records) : Type 0 where
   pub state : IsState records.state
   pub limits : KeepsLimits records.state.desk
-  pub rows_are : AreSame (stored_rows db) (rows_as (lacks_wanted db.schema) (rows_of records.state))
+  pub rows_are : AreSame (stored_rows db) (rows_as (version_of db.schema) (rows_of records.state))
   pub identified : AllByRecursion (λ entry. IsOk (delivery_id_of entry.0)) (forms.rows_of forms.answers db.trees)
   pub texts_are : AreTextsOf records.kept (answers_at db.trees)
 
@@ -43,10 +48,14 @@ abbrev pub OpensAs : Database → Records → Type 0
 OpensAs db records =
     ((db.schema ≡ schema_of []) × (records ≡ record { state = empty_state 1; kept = empty })) ⊎ (HasTables db × StandsFor db records)
 
--- For private clauses: whether the row of the desk says that it is of version 2,
-abbrev pub says_second : List DeskRow → Bool
-says_second [] = false
-says_second (row ∷ rows) = int_eq row.version (pos 2)
+-- For private clauses: whether the row of the desk names the next version,
+abbrev pub is_next : Version → ℤ → Bool
+is_next Version1 number = int_eq number (pos 2)
+is_next Version2 number = false
+
+abbrev pub names_next : Version → List DeskRow → Bool
+names_next version [] = false
+names_next version (row ∷ rows) = is_next version row.version
 
 -- a text that is written for the answer as which it is read,
 pub record IsAnswerText (text : List ℕ) : Type 0 where
@@ -61,10 +70,10 @@ IsKeptAnswer entry = IsOk (delivery_id_of entry.0) × IsAnswerText entry.1
 abbrev pub AreKeptAnswers : List (List ℕ × List ℕ) → Type 0
 AreKeptAnswers entries = AllByRecursion IsKeptAnswer entries
 
--- and rows that stand for a state, with row changes that lead from them to its rows in version 2
-pub record Understands (first : Bool) (rows : Rows) (changes : List RowChange) : Type 0 where
+-- and rows of a version that stand for a state, with row changes that lead from them to its rows in the last version
+pub record Understands (version : Version) (rows : Rows) (changes : List RowChange) : Type 0 where
   pub s : State
   pub state : IsState s
   pub limits : KeepsLimits s.desk
-  pub rows_are : AreSame rows (rows_as first (rows_of s))
+  pub rows_are : AreSame rows (rows_as version (rows_of s))
   pub leads : (others : Rows) → AreSame others rows → AreSame (applied changes others) (rows_of s)

@@ -10,7 +10,7 @@ ghost use Rattle.gate_rows.specs.Encoding as encoding;
 ghost use Rattle.gate_sql.specs.Faults.{MayRefuse};
 ghost use Rattle.gate_sql.specs.Shown.{shown, Holds, IsHeld};
 ghost use Rattle.gate_sql.specs.Versions.{OpensAs, StandsFor};
-ghost use Rattle.gate_tables.specs.Schemas.{HasTables, IsFound, lacks_wanted};
+ghost use Rattle.gate_tables.specs.Schemas.{HasTables, IsFound, version_of};
 ghost use Rattle.gate_tables.specs.Tables.{HandsBack, ShowsTheSame, WasSound, Outlasts, is_honest, is_shielded, is_sound, rows_in, answers_in, IsBook};
 ghost use Rattle.gate_answers.specs.Answers.{answer_text_of};
 ghost use Rattle.gate_answers.specs.Reading.{answer_of};
@@ -28,7 +28,7 @@ use gate_rows::{
 };
 use gate_store::{Answer, AnswerFault, Book, answer_text, law_of_texts, read_answer};
 use gate_tables::{
-    Found, FoundTables, RowChange, Rows, Tables, TablesFault, found_in, is_blank,
+    Found, FoundTables, RowChange, Rows, Tables, TablesFault, Version, found_in, is_blank,
     law_of_differences,
 };
 use gate_text::{DeliveryId, List, Text};
@@ -114,12 +114,12 @@ impl<S: Alter> SqlBook<S> {
         }
     }
 
-    /// Opens the book that a database of either schema version keeps, and brings one of version 1 to version 2, with the same state
-    /// and the same answers, in one transaction. In a database that has no table, index or view it makes one, as `new` does. If it is
-    /// refused, the database is as it was, and the connection is handed back. But if the disk fails at the end of that transaction, it
-    /// may be of version 2 already, with the same records; the next opening shows it. `Foreign` if the tables are those of a version, but
-    /// what they hold stands for no state and answers of it. `Store` if the tables, their columns, keys or indexes are others, or if
-    /// the database fails. `Memory` if there is no memory for it.
+    /// Opens the book that a database of any schema version keeps, and brings one of an earlier version to the last, with the same
+    /// state and the same answers, in one transaction. In a database that has no table, index or view it makes one, as `new` does. If
+    /// it is refused, the database is as it was, and the connection is handed back. But if the disk fails at the end of that
+    /// transaction, it may be of the last version already, with the same records; the next opening shows it. `Foreign` if the tables
+    /// are those of a version, but what they hold stands for no state and answers of it. `Store` if the tables, their columns, keys or
+    /// indexes are others, or if the database fails. `Memory` if there is no memory for it.
     pub fn open(alloc: Global, connection: Connection<S>) -> Result<SqlBook<S>, Refused<S>>
         requires { connection.in_transaction ≡ false }
         ensures stands { IfOk result (λ book. is_sound S.Store book → OpensAs (state S.Store connection).now (shown S.Store book)) }
@@ -295,8 +295,7 @@ fn open_found<S: Alter>(
 {
     match found {
         Found::Nothing => SqlBook::new(alloc, connection),
-        Found::Version1 => adopt(alloc, connection, true),
-        Found::Version2 => adopt(alloc, connection, false),
+        Found::Tables(version) => adopt(alloc, connection, version),
         Found::Others => Err(refusal(Fault::Store, connection)),
     }
 }
@@ -305,11 +304,11 @@ fn open_found<S: Alter>(
 fn adopt<S: Alter>(
     alloc: Global,
     connection: Connection<S>,
-    first: bool,
+    version: Version,
 ) -> Result<SqlBook<S>, Refused<S>>
     requires mode { connection.in_transaction ≡ false }
     requires tables { HasTables (state S.Store connection).now }
-    requires version { first ≡ lacks_wanted (state S.Store connection).now.schema }
+    requires version { version ≡ version_of (state S.Store connection).now.schema }
     ensures stands { IfOk result (λ book. is_sound S.Store book → StandsFor (state S.Store connection).now (shown S.Store book)) }
     ensures holds { IfOk result (λ book. is_sound S.Store book → Holds S.Store book) }
     ensures same { IfErr result (λ refused. HandsBack S.Store connection refused.connection) }
@@ -324,7 +323,7 @@ fn adopt<S: Alter>(
         Ok(found) => found,
         Err(refused) => return Err(refusal(told(refused.fault), refused.connection)),
     };
-    match understood(alloc, contents, first) {
+    match understood(alloc, contents, version) {
         Ok(changes) => match found.take(changes.as_slice()) {
             Ok(tables) => {
                 tables.connection();

@@ -2,8 +2,8 @@ ghost use Rattle.std.specs.Prelude.{◌≡◌, ◌↔◌, IfOk, IfErr, IsErrAnd,
 ghost use Rattle.gate_text.specs.SmallTexts.{delivery_id_of};
 ghost use Rattle.gate_rows.specs.Encoding as encoding;
 ghost use Rattle.gate_sql.specs.Faults.{MayRefuse, foreign_unless_memory};
-ghost use Rattle.gate_rows.specs.FirstRows as first_rows;
-ghost use Rattle.gate_sql.specs.Versions.{AreKeptAnswers, IsAnswerText, IsKeptAnswer, Understands, says_second};
+ghost use Rattle.gate_sql.specs.Versions as versions;
+ghost use Rattle.gate_sql.specs.Versions.{AreKeptAnswers, IsAnswerText, IsKeptAnswer, Understands, rows_as};
 ghost use Rattle.gate_store.specs.Run.{IsOfBooks};
 ghost use Rattle.gate_tables.specs.Applied.{applied};
 ghost use Rattle.gate_tables.specs.Contents.{AreSame};
@@ -16,19 +16,19 @@ use gate_rows::{
     in_first, is_of_machine, law_of_first_keys_of, law_of_keys_of, row_changes, rows_of, upgraded,
 };
 use gate_store::{AnswerFault, answer_text, read_answer};
-use gate_tables::{Contents, DeskRow, RowChange, Rows, law_of_differences};
+use gate_tables::{Contents, DeskRow, RowChange, Rows, TablesFault, Version, law_of_differences};
 use gate_text::{DeliveryId, Text, TextFault};
 use std::alloc::{AllocError, Global};
 
-/// The row changes that bring what tables hold to the rows in version 2 of the state for which it stands. `Foreign` if it stands
-/// for no state and answers. `Store` if the tables are those of version 1 and hold version 2, so that one is missing. `Memory` if
-/// there is no memory for them.
+/// The row changes that bring what tables of a version hold to the rows in the last version of the state for which it stands. `Foreign`
+/// if it stands for no state and answers. `Store` if it names the next version, so that a table of that is missing. `Memory` if there
+/// is no memory for them.
 pub(crate) fn understood(
     alloc: Global,
     contents: Contents,
-    first: bool,
+    version: Version,
 ) -> Result<Vec<RowChange>, Fault>
-    ensures rows { IfOk result (λ changes. Understands first contents.rows changes.items) }
+    ensures rows { IfOk result (λ changes. Understands version contents.rows changes.items) }
     ensures texts { OnOk result (AreKeptAnswers contents.answers) }
     ensures fault { IfErr result MayRefuse }
 {
@@ -36,7 +36,7 @@ pub(crate) fn understood(
     let kept = check_answers(alloc, answers.as_slice());
     drop(answers);
     match kept {
-        Ok(()) => understood_rows(alloc, rows, first),
+        Ok(()) => understood_rows(alloc, rows, version),
         Err(fault) => {
             drop(rows);
             Err(fault)
@@ -44,47 +44,20 @@ pub(crate) fn understood(
     }
 }
 
-fn understood_rows(alloc: Global, rows: Rows, first: bool) -> Result<Vec<RowChange>, Fault>
-    ensures rows { IfOk result (λ changes. Understands first rows changes.items) }
+fn understood_rows(alloc: Global, rows: Rows, version: Version) -> Result<Vec<RowChange>, Fault>
+    ensures rows { IfOk result (λ changes. Understands version rows changes.items) }
+    ensures next { versions.names_next version rows.desk ≡ true → IsErrAnd result (λ fault. fault ≡ Fault.Store) }
     ensures fault { IfErr result MayRefuse }
 {
-    if first {
-        first_understood(alloc, rows)
-    } else {
-        second_understood(alloc, rows)
-    }
-}
-
-// Rows of version 2 stay as they are.
-fn second_understood(alloc: Global, rows: Rows) -> Result<Vec<RowChange>, Fault>
-    ensures rows { IfOk result (λ changes. Understands false rows changes.items) }
-    ensures fault { IfErr result MayRefuse }
-{
-    match gate_of(alloc, rows) {
-        Ok(gate) => {
-            is_of_machine(&gate);
-            drop(gate);
-            Ok(Vec::new(alloc))
-        }
-        Err(fault) => Err(foreign(fault)),
-    }
-}
-
-// Those of version 1 become rows of version 2.
-fn first_understood(alloc: Global, rows: Rows) -> Result<Vec<RowChange>, Fault>
-    ensures rows { IfOk result (λ changes. Understands true rows changes.items) }
-    ensures second { says_second rows.desk ≡ true → IsErrAnd result (λ fault. fault ≡ Fault.Store) }
-    ensures fault { IfErr result MayRefuse }
-{
-    // Version 2 has a table more.
-    if is_of_second(rows.desk.as_slice()) {
+    // The next version has a table more.
+    if names_next(rows.desk.as_slice(), version) {
         drop(rows);
         return Err(Fault::Store);
     }
-    match first_gate(alloc, rows) {
+    match gate_in(alloc, rows, version) {
         Ok(gate) => {
             is_of_machine(&gate);
-            let changes = upgrade(alloc, &gate);
+            let changes = upgrade(alloc, &gate, version);
             drop(gate);
             Ok(changes?)
         }
@@ -92,36 +65,72 @@ fn first_understood(alloc: Global, rows: Rows) -> Result<Vec<RowChange>, Fault>
     }
 }
 
-fn is_of_second(desk: &[DeskRow]) -> bool
-    ensures { result ≡ says_second desk.now }
+// Whether the row of the desk names the next version.
+fn names_next(desk: &[DeskRow], version: Version) -> bool
+    ensures { result ≡ versions.names_next version desk.now }
 {
-    match desk.first() {
-        Some(row) => row.version == 2,
-        None => false,
+    let Some(row) = desk.first() else {
+        return false;
+    };
+    match version {
+        Version::Version1 => row.version == 2,
+        Version::Version2 => false,
     }
 }
 
-// The gate for whose state rows of version 1 stand.
-fn first_gate(alloc: Global, rows: Rows) -> Result<Gate, Fault>
-    ensures rows { IfOk result (λ gate. AreSame rows (first_rows.in_first (encoding.rows_of gate))) }
+// The gate for whose state rows of a version stand.
+fn gate_in(alloc: Global, rows: Rows, version: Version) -> Result<Gate, Fault>
+    ensures rows { IfOk result (λ gate. AreSame rows (rows_as version (encoding.rows_of gate))) }
     ensures fault { IfErr result IsOfBooks }
 {
-    match upgraded(alloc, rows) {
-        Ok(second) => gate_of(alloc, second),
+    match upgraded_from(alloc, rows, version) {
+        Ok(last) => gate_of(alloc, last),
         Err(fault) => Err(told(fault)),
     }
 }
 
-// The row changes that lead from the rows of a gate in version 1 to those in version 2.
-fn upgrade(alloc: Global, gate: &Gate) -> Result<Vec<RowChange>, AllocError>
-    ensures { IfOk result (λ changes. (rows : RowsOf) → AreSame rows (first_rows.in_first (encoding.rows_of gate.now))
+// The rows of the last version that stand for what rows of a version stand for. Each version but the last has one step, which leads to
+// the next.
+fn upgraded_from(alloc: Global, rows: Rows, version: Version) -> Result<Rows, TablesFault>
+    ensures { IfOk result (λ last. AreSame rows (rows_as version last)) }
+{
+    match version {
+        Version::Version1 => upgraded_from(alloc, upgraded(alloc, rows)?, Version::Version2),
+        Version::Version2 => Ok(rows),
+    }
+}
+
+// The same steps back: the rows of a version that stand for what rows of the last one stand for.
+fn rows_in(alloc: Global, rows: Rows, version: Version) -> Result<Rows, AllocError>
+    ensures { IfOk result (λ earlier. earlier ≡ rows_as version rows) }
+{
+    match version {
+        Version::Version1 => in_first(alloc, rows_in(alloc, rows, Version::Version2)?),
+        Version::Version2 => Ok(rows),
+    }
+}
+
+// The row changes that lead from the rows of a gate in a version to those in the last one.
+fn upgrade(alloc: Global, gate: &Gate, version: Version) -> Result<Vec<RowChange>, AllocError>
+    ensures { IfOk result (λ changes. (rows : RowsOf) → AreSame rows (rows_as version (encoding.rows_of gate.now))
+        → AreSame (applied changes.items rows) (encoding.rows_of gate.now)) }
+{
+    match version {
+        Version::Version1 => changes_from(alloc, gate, version),
+        // Its rows stay as they are.
+        Version::Version2 => Ok(Vec::new(alloc)),
+    }
+}
+
+fn changes_from(alloc: Global, gate: &Gate, version: Version) -> Result<Vec<RowChange>, AllocError>
+    ensures { IfOk result (λ changes. (rows : RowsOf) → AreSame rows (rows_as version (encoding.rows_of gate.now))
         → AreSame (applied changes.items rows) (encoding.rows_of gate.now)) }
 {
     law_of_differences();
     law_of_keys_of(gate);
     law_of_first_keys_of(gate);
-    let first = in_first(alloc, rows_of(alloc, gate)?)?;
-    row_changes(alloc, first, rows_of(alloc, gate)?)
+    let earlier = rows_in(alloc, rows_of(alloc, gate)?, version)?;
+    row_changes(alloc, earlier, rows_of(alloc, gate)?)
 }
 
 // Refuses answers with `Foreign`, unless each stands under an identifier, and is the text of an answer.

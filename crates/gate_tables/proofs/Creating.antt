@@ -25,7 +25,7 @@ still_none old new [] t had same none = (none, tt)
 still_none old new (x ∷ xs) t had same none = (same.0 ∙ had.0, still_none old new xs t had.1 same.1 none)
 
 -- a table without rows keeps what rows keep
-none_kept : (db : Trees) (tables : List Table) → AllByRecursion (λ t. db t.tree ≡ []) tables → AllByRecursion (λ t. IsKept t (db t.tree)) tables
+pub none_kept : (db : Trees) (tables : List Table) → AllByRecursion (λ t. db t.tree ≡ []) tables → AllByRecursion (λ t. IsKept t (db t.tree)) tables
 none_kept db [] none = tt
 none_kept db (t ∷ ts) none = (subst (IsKept t) (sym none.0) (record { rowids = refl; own = tt; whole = refl }), none_kept db ts none.1)
 

@@ -15,6 +15,8 @@ use Rattle.gate_tables.specs.Forms.{answers}
 use Rattle.gate_tables.specs.Kept.{AreKept, IsKept, is_whole}
 use Rattle.gate_tables.specs.Schemas.{schema_of_version}
 use Rattle.gate_tables.specs.Tables.{AreAnswers}
+use Rattle.gate_tables.specs.declared.version.Version.{Version}
+use Rattle.gate_tables.specs.declared.version.Version.TheVariants.{Version1, Version2}
 use Rattle.sqlite.specs.Collation.TheVariants.{Binary}
 use Rattle.sqlite.specs.Edit.{have_rowids}
 use Rattle.sqlite.specs.Ops.{binary}
@@ -33,10 +35,10 @@ use Rattle.sqlite_value.specs.Order.{value_cmp}
 abbrev AreUnique : List Row → List Row → Type 0
 AreUnique rows some = AllByRecursion (λ row. not (clashes plain (1 ∷ []) rows row) && true ≡ true) some
 
--- it is the eighth table of both
-held : (schema : Schema) (db : Trees) → (missing : Bool) → schema ≡ schema_of_version missing → AreKept schema db → IsKept (table_of answers.layout) (db 11) × AreUnique (db 11) (db 11)
-held schema db true is kept = let first = subst (λ s. AreKept s db) is kept in (first.tables.1.1.1.1.1.1.1.0, first.unique.1.1.1.1.1.1.1.0)
-held schema db false is kept = let all = subst (λ s. AreKept s db) is kept in (all.tables.1.1.1.1.1.1.1.0, all.unique.1.1.1.1.1.1.1.0)
+-- it is the eighth table of each version
+held : (schema : Schema) (db : Trees) → (version : Version) → schema ≡ schema_of_version version → AreKept schema db → IsKept (table_of answers.layout) (db 11) × AreUnique (db 11) (db 11)
+held schema db Version1 is kept = let first = subst (λ s. AreKept s db) is kept in (first.tables.1.1.1.1.1.1.1.0, first.unique.1.1.1.1.1.1.1.0)
+held schema db Version2 is kept = let all = subst (λ s. AreKept s db) is kept in (all.tables.1.1.1.1.1.1.1.0, all.unique.1.1.1.1.1.1.1.0)
 
 -- WHOLE ROWS: what is read of one is all of it
 again : (cells : Row) → is_whole answers.layout.columns (columns_of answers.layout cells) ≡ true → answers.values (answers.read (columns_of answers.layout cells)) ≡ columns_of answers.layout cells
@@ -111,8 +113,8 @@ all_apart (r ∷ rs) whole ints own free =
     (apart_from r rs (first_text r whole.0) both.0 whole.1 both.1 own.0 parts.0, all_apart rs whole.1 both.1 own.1 parts.1)
 
 -- a database of these tables has answers that are apart
-pub answers_apart : (schema : Schema) (db : Trees) → (missing : Bool) → schema ≡ schema_of_version missing → AreKept schema db → AreAnswers db
-answers_apart schema db missing is kept =
-    let table = held schema db missing is kept in
+pub answers_apart : (schema : Schema) (db : Trees) → (version : Version) → schema ≡ schema_of_version version → AreKept schema db → AreAnswers db
+answers_apart schema db version is kept =
+    let table = held schema db version is kept in
     let whole = all_again (db 11) table.0.whole in
     record { whole = whole; apart = all_apart (db 11) whole table.0.rowids table.0.own (free_of (db 11) (db 11) table.1) }

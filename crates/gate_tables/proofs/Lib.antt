@@ -26,3 +26,4 @@ pub mod Steps
 pub mod Taking
 pub mod Testing
 pub mod Updating
+pub mod Versions

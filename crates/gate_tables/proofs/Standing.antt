@@ -15,6 +15,7 @@ use Rattle.gate_tables.specs.Forms.{answers, rows_of}
 use Rattle.gate_tables.specs.Tables.{is_sound, answers_in, AreAnswers, AreFound, IsBook, Stands}
 use Rattle.gate_tables.specs.declared.change.RowChange.{RowChange}
 use Rattle.gate_tables.specs.declared.fault.TablesFault.{TablesFault}
+use Rattle.gate_tables.specs.declared.version.Version.TheVariants.{Version2}
 use Rattle.sqlite.specs.Effect.{Database}
 use Rattle.sqlite.specs.Held.{Held, state}
 use Rattle.sqlite.specs.Order.{Row}
@@ -99,7 +100,7 @@ module _ {S : Type 0} (g : Ghosts S) (old new : Held S) (changes : List RowChang
     autocommit = mode;
     book = λ sound.
         let ready = (taken_all taken sound).ready in
-        record { ready = ready; answered = answers_apart all_schema (state g new).now.trees false refl ready.kept };
+        record { ready = ready; answered = answers_apart all_schema (state g new).now.trees Version2 refl ready.kept };
   }
 
   pub taken_rows : (HasCleanDisk (state g new) → MayBeTaken (state g old) → Taken changes (state g old) (state g new)) → is_sound g new → Brings changes (state g old).now (state g new).now

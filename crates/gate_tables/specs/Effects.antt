@@ -1,5 +1,5 @@
 -- What statements in a transaction make of the tables. For private clauses.
-use Rattle.std.specs.Prelude.{◌≡◌, ◌≢◌, ℕ, Bool, true, List, [], ◌∷◌, Ok, IsTrue, IsPermutation}
+use Rattle.std.specs.Prelude.{◌≡◌, ◌≢◌, ℕ, true, List, [], ◌∷◌, Ok, IsTrue, IsPermutation}
 use Rattle.std.specs.List.{AllByRecursion}
 use Rattle.gate_tables.specs.Applied.{put, without, applied, no_rows}
 use Rattle.gate_tables.specs.Database.{Layout, all_schema, cells}
@@ -13,11 +13,12 @@ use Rattle.gate_tables.specs.declared.look.Contents.{Contents}
 use Rattle.gate_tables.specs.declared.read.First.{First}
 use Rattle.gate_tables.specs.declared.read.Last.{Last}
 use Rattle.gate_tables.specs.declared.row.Rows.{Rows}
-use Rattle.gate_tables.specs.Schemas.{HasTables, lacks_wanted, schema_of_version, stored_rows}
+use Rattle.gate_tables.specs.declared.version.Version.{Version}
+use Rattle.gate_tables.specs.Schemas.{HasTables, missing_tables, schema_of_version, stored_rows}
 use Rattle.sqlite.specs.Effect.{Database, IsDatabase}
 use Rattle.sqlite.specs.Order.{Row}
 use Rattle.sqlite.specs.Schema.{Schema}
-use Rattle.sqlite.specs.State.{State, Executes, HasCleanDisk, IsLive, IsUnchanged, KeepsCommit, Shows}
+use Rattle.sqlite.specs.State.{State, Executes, HasCleanDisk, IsUnchanged, KeepsCommit, Shows}
 use Rattle.sqlite.specs.Tree.{Trees}
 
 -- A call leaves a connection open only if it was, and forgets no fault.
@@ -73,19 +74,18 @@ pub record Grows (front : Schema) (layout : Layout) (after : Schema) (old new : 
   pub others : AllByRecursion (λ t. new.now.trees t.tree ≡ old.now.trees t.tree) front.tables
   pub none : new.now.trees layout.tree ≡ []
 
--- an open transaction over the tables of one version, of which the ninth may be missing
-pub record IsBegun (missing : Bool) (s : State) : Type 0 where
+-- an open transaction over the tables of a version
+pub record IsBegun (version : Version) (s : State) : Type 0 where
   pub within : IsTrue s.in_transaction
-  pub lacks : lacks_wanted s.now.schema ≡ missing
-  pub schema_is : s.now.schema ≡ schema_of_version missing
-  pub live : IsLive s
+  pub schema_is : s.now.schema ≡ schema_of_version version
+  pub sound : IsTrue s.is_open → IsDatabase s.now
 
--- a table was made if it was missing, and the rows are those that were stored
-pub record Completes (missing : Bool) (old new : State) : Type 0 where
+-- the tables were made that a version lacks, which have no rows, and its own are as they were
+pub record Completes (version : Version) (old new : State) : Type 0 where
   pub within : IsTrue new.in_transaction
   pub sound : IsDatabase new.now
-  pub others : AllByRecursion (λ t. new.now.trees t.tree ≡ old.now.trees t.tree) (schema_of_version missing).tables
-  pub none : IsTrue missing → new.now.trees database.wanted.tree ≡ []
+  pub others : AllByRecursion (λ t. new.now.trees t.tree ≡ old.now.trees t.tree) (schema_of_version version).tables
+  pub none : AllByRecursion (λ t. new.now.trees t.tree ≡ []) (missing_tables version)
 
 -- a database of all tables, with nothing under way
 pub record IsReady (s : State) : Type 0 where
@@ -162,13 +162,13 @@ pub record ReadsContents (db : Trees) (contents : Contents) : Type 0 where
   pub rows : ReadsRows db contents.rows
   pub answers : Reads forms.answers db contents.answers
 
--- so it was of a database of either version, whose tables keep what tables keep
+-- so it was of a database of any version, whose tables keep what tables keep
 pub record ShowsAll (db : Database) (contents : Contents) : Type 0 where
   pub kept : AreKept db.schema db.trees
   pub rows : AreSame (stored_rows db) contents.rows
   pub answers : IsPermutation (rows_of forms.answers db.trees) contents.answers
 
--- a database of either version, with nothing under way, whose tables keep what tables keep
+-- a database of any version, with nothing under way, whose tables keep what tables keep
 pub record MayBeTaken (s : State) : Type 0 where
   pub tables : HasTables s.now
   pub settled : s.now ≡ s.committed
@@ -179,7 +179,7 @@ pub record Brings (changes : List RowChange) (old new : Database) : Type 0 where
   pub rows_are : AreSame (rows_at new.trees) (applied changes (stored_rows old))
   pub answers : new.trees database.answers.tree ≡ old.trees database.answers.tree
 
--- it was brought to version 2, and row changes were applied
+-- it was brought to the last version, and row changes were applied
 pub record Taken (changes : List RowChange) (old new : State) : Type 0 where
   pub ready : IsReady new
   pub brought : Brings changes old.now new.now

@@ -2,7 +2,7 @@
 --     Database    the nine tables, and how a row of one is read
 --     Forms       the rows of a table as records
 --     Contents    what rows and what answers a database has
---     Schemas     which tables a database has, by the version of its schema
+--     Schemas     the versions of the schema, and which tables a database has
 --     Tables      the same of a connection, and when it may be relied on
 --     Keys        the key of a row
 --     Apart       items with keys of their own

@@ -1,13 +1,14 @@
 ghost use Rattle.std.specs.Prelude.{◌≡◌, OnOk};
 ghost use Rattle.gate_tables.specs.Calls.{CreatesTables};
-ghost use Rattle.gate_tables.specs.Database.{all_schema, wanted};
+ghost use Rattle.gate_tables.specs.Database.{wanted};
 ghost use Rattle.gate_tables.specs.Effects.{GoesOn, Grows};
-ghost use Rattle.gate_tables.specs.Schemas.{first_schema};
+ghost use Rattle.gate_tables.specs.Schemas.{schema_of_version, table_count};
 ghost use Rattle.sqlite.specs.Held.{state};
 ghost use Rattle.sqlite.specs.State.{HasCleanDisk};
 
 use crate::fault::TablesFault;
 use crate::statement::run;
+use crate::version::Version;
 use sqlite::{Alter, Transaction};
 
 fn create_first<S: Alter>(tx: &mut Transaction<'_, S>) -> Result<(), TablesFault>
@@ -65,7 +66,7 @@ fn create_last<S: Alter>(tx: &mut Transaction<'_, S>) -> Result<(), TablesFault>
 }
 
 // Makes the eight tables of version 1, which have no rows, in a database that has none.
-pub(crate) fn create_version_1<S: Alter>(tx: &mut Transaction<'_, S>) -> Result<(), TablesFault>
+fn create_version_1<S: Alter>(tx: &mut Transaction<'_, S>) -> Result<(), TablesFault>
     ensures same_reference { tx.new.conn.ghost_name ≡ tx.old.conn.ghost_name }
     ensures made { CreatesTables S.Store tx.old.conn.now tx.new.conn.now result 0 8 }
     ensures goes_on { GoesOn (state S.Store tx.old.conn.now) (state S.Store tx.new.conn.now) }
@@ -78,8 +79,9 @@ pub(crate) fn create_version_1<S: Alter>(tx: &mut Transaction<'_, S>) -> Result<
 pub(crate) fn create_wanted<S: Alter>(tx: &mut Transaction<'_, S>) -> Result<(), TablesFault>
     ensures same_reference { tx.new.conn.ghost_name ≡ tx.old.conn.ghost_name }
     ensures grown { HasCleanDisk (state S.Store tx.new.conn.now)
-        → OnOk result ((state S.Store tx.old.conn.now).now.schema ≡ first_schema
-        → Grows first_schema wanted all_schema (state S.Store tx.old.conn.now) (state S.Store tx.new.conn.now)) }
+        → OnOk result ((state S.Store tx.old.conn.now).now.schema ≡ schema_of_version Version.Version1
+        → Grows (schema_of_version Version.Version1) wanted (schema_of_version Version.Version2)
+        (state S.Store tx.old.conn.now) (state S.Store tx.new.conn.now)) }
     ensures made { CreatesTables S.Store tx.old.conn.now tx.new.conn.now result 8 9 }
     ensures goes_on { GoesOn (state S.Store tx.old.conn.now) (state S.Store tx.new.conn.now) }
 {
@@ -90,12 +92,20 @@ pub(crate) fn create_wanted<S: Alter>(tx: &mut Transaction<'_, S>) -> Result<(),
     )
 }
 
-// Makes the nine tables, which have no rows, in a database that has none.
-pub(crate) fn create<S: Alter>(tx: &mut Transaction<'_, S>) -> Result<(), TablesFault>
+// Makes the tables of a version, which have no rows, in a database that has none.
+pub(crate) fn create_version<S: Alter>(
+    tx: &mut Transaction<'_, S>,
+    version: Version,
+) -> Result<(), TablesFault>
     ensures same_reference { tx.new.conn.ghost_name ≡ tx.old.conn.ghost_name }
-    ensures made { CreatesTables S.Store tx.old.conn.now tx.new.conn.now result 0 9 }
+    ensures made { CreatesTables S.Store tx.old.conn.now tx.new.conn.now result 0 (table_count version) }
     ensures goes_on { GoesOn (state S.Store tx.old.conn.now) (state S.Store tx.new.conn.now) }
 {
-    create_version_1(tx)?;
-    create_wanted(tx)
+    match version {
+        Version::Version1 => create_version_1(tx),
+        Version::Version2 => {
+            create_version(tx, Version::Version1)?;
+            create_wanted(tx)
+        }
+    }
 }

@@ -15,7 +15,7 @@ use sqlite::{Alter, Connection};
 use std::alloc::Global;
 use std::marker::Model;
 
-/// The tables that a database had, of either schema version, before they are taken over. A contract sees them as what their
+/// The tables that a database had, of any version of the schema, before they are taken over. A contract sees them as what their
 /// connection holds.
 #[derive(Drop)]
 pub struct FoundTables<S: Alter> {
@@ -68,8 +68,8 @@ impl<S: Alter> FoundTables<S> {
         }
     }
 
-    /// Makes the ninth table if the database is of version 1, and these row changes, in their order, all in one transaction or not
-    /// at all. The answers stay. If it is refused, the database is as it was, and the connection is handed back. `Store` if the
+    /// Makes the tables that the last version has besides, and these row changes, in their order, all in one transaction or not at
+    /// all. The answers stay. If it is refused, the database is as it was, and the connection is handed back. `Store` if the
     /// database fails, and `Memory` if there is no memory for it.
     pub fn take(self, changes: &[RowChange]) -> Result<Tables<S>, NotMade<S>>
         ensures rows { IfOk result (λ tables. is_sound S.Store tables

@@ -27,6 +27,7 @@ mod same_schema;
 mod statement;
 mod statuses;
 mod tables;
+mod version;
 mod wanted;
 
 pub use change::{Row, RowChange, RowKey};
@@ -40,3 +41,4 @@ pub use row::{
     BatchRow, ChangeRow, DeskRow, MarkRow, MemberRow, PersonRow, Rows, StatusRow, WantedRow,
 };
 pub use tables::{NotMade, Tables};
+pub use version::Version;

@@ -7,10 +7,11 @@ ghost use Rattle.sqlite.specs.Held.{state};
 ghost use Rattle.sqlite.specs.State.{HasCleanDisk};
 
 use crate::answers::read_answers;
-use crate::complete::{complete, lacks_wanted};
+use crate::complete::complete;
 use crate::fault::TablesFault;
 use crate::read::read_rows;
 use crate::row::Rows;
+use crate::version::Version;
 use gate_text::{List, Text};
 use sqlite::{Alter, Connection, Transaction};
 use std::alloc::Global;
@@ -55,7 +56,7 @@ fn read_contents<S: Alter>(
     Ok(Contents { rows, answers })
 }
 
-// All that the tables of a database of either version hold. It changes nothing: the table that is missing in version 1 is made in a
+// All that the tables of a database of any version hold. It changes nothing: the tables that the version lacks are made in a
 // transaction that is rolled back, so that the rows are read by the same texts.
 pub(crate) fn look<S: Alter>(
     alloc: Global,
@@ -68,9 +69,9 @@ pub(crate) fn look<S: Alter>(
     ensures left { LeavesIf S.Store conn.old conn.new (HasTables (state S.Store conn.old).now) }
     ensures lasts { Lasts (state S.Store conn.old) (state S.Store conn.new) }
 {
-    let missing = lacks_wanted(conn.schema());
+    let version = Version::of(conn.schema());
     let mut tx = conn.transaction();
-    complete(&mut tx, missing)?;
+    complete(&mut tx, version)?;
     let contents = read_contents(alloc, &mut tx)?;
     tx.rollback();
     Ok(contents)

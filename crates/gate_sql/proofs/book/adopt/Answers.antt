@@ -14,7 +14,7 @@ all : (g : Over) (c : goal.After-connection g) → is_sound g.S.Store c.in-Ok-ta
 all g c sound =
     let was = c.in-Ok-take.ensures.outlasts.was sound in
     let stored = stored_rows (state g.S.Store c.in-Ok.found.0).now in
-    opened g.S.Store c.args.connection c.in-Ok.found.0 c.in-Ok-take.tables c.args.first c.in-Ok.found.1.rows c.in-Ok.found.1.answers c.in-Ok-understood.changes.items
+    opened g.S.Store c.args.connection c.in-Ok.found.0 c.in-Ok-take.tables c.args.version c.in-Ok.found.1.rows c.in-Ok.found.1.answers c.in-Ok-understood.changes.items
     c.law_of_rows.ensures c.in-Ok-understood.ensures.rows c.in-Ok-understood.ensures.texts c.requires.version
     (c.in-Ok.ensures.found was) (c.in-Ok.ensures.rows was) (c.in-Ok.ensures.answers was)
     (subst (λ cs. AreSame (rows_in g.S.Store c.in-Ok-take.tables) (applied cs stored)) c.as_slice.ensures.value (c.in-Ok-take.ensures.rows sound)) (c.in-Ok-take.ensures.answers sound)

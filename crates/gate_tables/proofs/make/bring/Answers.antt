@@ -13,5 +13,5 @@ returns-clause-brought g c clean =
     let mid_open = (c.change_all.ensures.goes_on.kept clean).was_open is_open in
     let all = c.in_ok-complete.ensures.schema mid_clean begun in
     let completes = c.in_ok-complete.ensures.whole mid_clean begun mid_open in
-    let changed = change (completed_inside c.args.missing old mid begun completes all mid_open kept) in
-    (changed.0, brings c.args.missing c.args.changes.now old mid new begun completes changed.1)) (c.change_all.ensures.changed clean)
+    let changed = change (completed_inside c.args.version old mid begun completes all mid_open kept) in
+    (changed.0, brings c.args.version c.args.changes.now old mid new begun completes changed.1)) (c.change_all.ensures.changed clean)

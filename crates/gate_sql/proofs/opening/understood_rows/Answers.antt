@@ -1,7 +1,7 @@
 use Rattle.gate_rows.proofs.Alike.{same_then}
 use Rattle.gate_rows.specs.Encoding.{rows_of}
-use Rattle.gate_rows.specs.FirstRows.{in_first}
-use Rattle.gate_sql.proofs.opening.first_understood.Goals as goal
+use Rattle.gate_sql.specs.Versions.{rows_as}
+use Rattle.gate_sql.proofs.opening.understood_rows.Goals as goal
 
 pub returns-in_ok-changes-in-Ok-clause-rows : goal.returns-in_ok-changes-in-Ok-clause-rows
 returns-in_ok-changes-in-Ok-clause-rows c = record {
@@ -9,5 +9,5 @@ returns-in_ok-changes-in-Ok-clause-rows c = record {
   state = c.is_of_machine.ensures.state;
   limits = c.is_of_machine.ensures.limits;
   rows_are = c.in-Ok.ensures.rows;
-  leads = λ others same. c.in_ok-changes-in-Ok.ensures others (same_then others c.args.rows (in_first (rows_of c.in-Ok.gate)) same c.in-Ok.ensures.rows);
+  leads = λ others same. c.in_ok-changes-in-Ok.ensures others (same_then others c.args.rows (rows_as c.args.version (rows_of c.in-Ok.gate)) same c.in-Ok.ensures.rows);
 }
