@@ -1,4 +1,4 @@
-ghost use Rattle.std.specs.Prelude.{◌≡◌, ◌≢◌, ◌⊎◌, ◌<◌, ◌≤◌, ◌+◌, ◌-◌, ◌*◌, ◌++◌, ◌↔◌, ℕ, List, [], false, IfOk, IfSome, IsNone, IsTrue, drop, length, min, option_copied, take};
+ghost use Rattle.std.specs.Prelude.{◌≡◌, ◌⊎◌, ◌≤◌, ◌+◌, ◌-◌, ◌*◌, ◌↔◌, IfOk, IfSome, IsNone, IsTrue, drop, length, min, take};
 ghost use Rattle.std.specs.Duration.{as_nanos};
 ghost use Rattle.std.specs.Time.{instant_nanos};
 ghost use Rattle.gate_waiting.specs.Room.{empty_room};
@@ -194,10 +194,11 @@ impl Leaver {
     }
 }
 
-/// The connections of a listener. Many are waited for at once, and the first whose request is whole is the next; so a client that is
-/// silent, or slow, holds up no other one. None is waited for longer than its patience: a connection on which nothing comes for so many
-/// seconds, or that is ten times as old, is the next as well, and its reads fail. A write fails after as long. A failed read or write
-/// changes nothing by itself; `serve_guarded` says what comes of it.
+/// The connections of a listener. Many are waited for at once, and the one whose request has been whole the longest is the next; so a
+/// client that is silent, or slow, holds up no other one. `Waiting` decides this. What has come is looked at before each; of those that
+/// are whole at one look, the one that came first goes first. None is waited for longer than its patience: a connection on which nothing
+/// comes for so many seconds, or that is ten times as old, has its turn as well, and its reads fail. A write fails after as long. A failed
+/// read or write changes nothing by itself; `serve_guarded` says what comes of it.
 ///
 /// To close a connection while bytes of its request are on their way would have the system reset it, and the client might lose the
 /// response. So when one is ended, nothing more is sent on it. Beside the others what still comes is dropped, until the client closes, is
@@ -259,12 +260,14 @@ impl<'a, C: Clock> Connections<'a, C> {
         stream.set_nonblocking(true)?;
         let limits = Limits::from_now(self.clock, self.patience)?;
         let time = self.time()?;
+        // So no connection is waited for whose stream is gone.
+        self.guests.reserve(1)?;
         if let Some(connection) = self.waiting.come(self.alloc, time) {
-            self.guests.push(Guest {
+            self.guests.push_reserved(Guest {
                 connection,
                 stream,
                 limits,
-            })?;
+            });
         }
         Ok(())
     }
@@ -309,7 +312,8 @@ impl<'a, C: Clock> Connections<'a, C> {
         Ok(())
     }
 
-    // Hears what has come, and gives the connection whose turn it is, if it is one's.
+    // Hears what has come, and gives the connection whose turn it is, if it is one's. All that is heard at one look is told at the time at
+    // which it begins.
     fn first(&mut self) -> io::Result<Option<(Guest, Ready)>> {
         let time = self.time()?;
         for guest in &mut self.guests {

@@ -1,9 +1,9 @@
 -- What each call leaves is a room again.
-use Rattle.std.proofs.Common.{arith, eqb, ◌≡◌, ◌≢◌, ◌⊎◌, inl, inr, ℕ, suc, ◌+◌, ◌<◌, ◌≤◌, Bool, true, false, cond, List, [], ◌∷◌, ◌++◌, length, Option, Some, None, IfSome, refl, sym, ap, subst}
+use Rattle.std.proofs.Common.{arith, eqb, ◌≡◌, ◌≢◌, ◌⊎◌, inl, inr, ℕ, suc, ◌+◌, ◌<◌, ◌≤◌, Bool, true, false, cond, List, [], ◌∷◌, ◌++◌, length, Option, Some, None, IfSome, refl, ap, subst}
 use Rattle.std.proofs.lemmas.Bool.Decides.{eqb_tells}
 use Rattle.std.specs.List.{AllByRecursion, find}
 use Rattle.std.specs.Option.{unwrap_or}
-use Rattle.gate_waiting.specs.Calls.{IsFirstLate, IsHanded, first_late, new_guest, next, next_of, with_guest, without_first}
+use Rattle.gate_waiting.specs.Calls.{IsHanded, first_of, gives_up, late_in, new_guest, next, with_guest, without_first}
 use Rattle.gate_waiting.specs.Room.{IsRoom, Room, is_late, most, ready_numbers, times, waiting_numbers}
 use Rattle.gate_waiting.specs.declared.guest.Guest.{Guest}
 use Rattle.gate_waiting.specs.declared.guest.Ready.{Ready}
@@ -85,15 +85,14 @@ module _ {W : Type 0} (tells : W → Bool → List ℕ → Type 0) (room : Room 
     patient = is.patient;
     short = all_more (λ (g : Guest). (g.bytes ≡ []) ⊎ tells room.whole false g.bytes) room.guests (new_guest room.next now) is.short (inl refl);
     whole = is.whole;
-    timely = is.timely;
   }
 
   -- one that waited is ready
   pub room_ready : (guests : List Guest) (ready : List Ready) (test : Guest → Bool) (found kept : Guest) (reason : Reason) → find test room.guests ≡ Some found
       → guests ≡ without_first test room.guests → ready ≡ room.ready ++ record { guest = kept; reason = reason } ∷ []
-      → kept.connection ≡ found.connection → (reason ≡ Whole → tells room.whole true kept.bytes) → reason ≢ Late
+      → kept.connection ≡ found.connection → (reason ≡ Whole → tells room.whole true kept.bytes)
       → IsRoom tells (record { whole = room.whole; patience = room.patience; next = room.next; guests = guests; ready = ready })
-  room_ready guests ready test found kept reason at left more same whole timely =
+  room_ready guests ready test found kept reason at left more same whole =
       let out = is_out test room.guests found at in
       let last : Ready = record { guest = kept; reason = reason } in
       rw (left, more) (record {
@@ -103,7 +102,6 @@ module _ {W : Type 0} (tells : W → Bool → List ℕ → Type 0) (room : Room 
         patient = is.patient;
         short = all_out (λ (g : Guest). (g.bytes ≡ []) ⊎ tells room.whole false g.bytes) test room.guests is.short;
         whole = all_more (λ (r : Ready). r.reason ≡ Whole → tells room.whole true r.guest.bytes) room.ready last is.whole whole;
-        timely = all_more (λ (r : Ready). r.reason ≢ Late) room.ready last is.timely timely;
       })
 
   -- it goes on to wait
@@ -120,62 +118,30 @@ module _ {W : Type 0} (tells : W → Bool → List ℕ → Type 0) (room : Room 
         patient = is.patient;
         short = all_more (λ (g : Guest). (g.bytes ≡ []) ⊎ tells room.whole false g.bytes) others kept (all_out (λ (g : Guest). (g.bytes ≡ []) ⊎ tells room.whole false g.bytes) test room.guests is.short) (inr short);
         whole = is.whole;
-        timely = is.timely;
       })
-
   -- it leaves
-  pub room_without : (guests : List Guest) (test : Guest → Bool) (found : Guest) → find test room.guests ≡ Some found → guests ≡ without_first test room.guests
-      → IsRoom tells (record { whole = room.whole; patience = room.patience; next = room.next; guests = guests; ready = room.ready })
-  room_without guests test found at left =
-      let out = is_out test room.guests found at in
-      rw left (record {
-        once = λ n. let was = is.once n in let numbers = out.numbers n in omega arith;
-        below = λ n over. let none = is.below n over in let numbers = out.numbers n in omega arith;
-        few = let few = is.few in let shorter = out.shorter in omega arith;
-        patient = is.patient;
-        short = all_out (λ (g : Guest). (g.bytes ≡ []) ⊎ tells room.whole false g.bytes) test room.guests is.short;
-        whole = is.whole;
-        timely = is.timely;
-      })
-
-  pub room_same : (guests : List Guest) → guests ≡ room.guests
-      → IsRoom tells (record { whole = room.whole; patience = room.patience; next = room.next; guests = guests; ready = room.ready })
-  room_same guests same = rw same is
-
-nobody : (ready : List Ready) → length ready ≡ 0 → ready ≡ []
-nobody [] none = refl
-nobody (x ∷ ready) none = absurd (omega arith)
-
-module _ {W : Type 0} (tells : W → Bool → List ℕ → Type 0) (room : Room W) (is : IsRoom tells room) (now : ℕ) (guests : List Guest) where
-  pub room_late : (ready : Option Ready) → IsFirstLate (is_late room now) room.guests guests ready
-      → IsRoom tells (record { whole = room.whole; patience = room.patience; next = room.next; guests = guests; ready = room.ready })
-  room_late None told = room_same tells room is guests told.1
-  room_late (Some ready) told = room_without tells room is guests (is_late room now) ready.guest (sym told.1) told.2
-
-  pub next_late : (ready : Option Ready) → IsFirstLate (is_late room now) room.guests guests ready → length room.ready ≡ 0
-      → (ready, record { whole = room.whole; patience = room.patience; next = room.next; guests = guests; ready = room.ready }) ≡ next now room
-  next_late None told none = rw (nobody room.ready none, ← told.0, told.1) refl
-  next_late (Some ready) told none = rw (nobody room.ready none, ← told.1, told.2, ← told.0) refl
 
 -- WHOM THE NEXT CALL HANDS ON
-module _ {W : Type 0} (tells : W → Bool → List ℕ → Type 0) (room : Room W) (is : IsRoom tells room) (now : ℕ) where
-  pub is_handed : IfSome (next now room).0 (IsHanded tells room now (next now room).1)
-  is_handed = of_ready room.ready refl
-    where
-      of_late : (found : Option Guest) → find (is_late room now) room.guests ≡ found → room.ready ≡ [] → IfSome (first_late now found room).0 (IsHanded tells room now (first_late now found room).1)
-      of_late None at none = tt
-      of_late (Some guest) at none =
-          let out = is_out (is_late room now) room.guests guest at in
-          let once = is.once guest.connection in
-          let numbers = out.numbers guest.connection in
-          let itself = one_itself guest.connection in
-          record { whole = λ reason. absurd cc; late = λ reason. (none, out.passes); gone = omega arith }
+module _ {W : Type 0} (tells : W → Bool → List ℕ → Type 0) (room : Room W) (is : IsRoom tells room) where
+  room_gives_up : (now : ℕ) (found : Option Guest) → find (is_late room now) room.guests ≡ found → IsRoom tells (late_in now found room)
+  room_gives_up now None at = is
+  room_gives_up now (Some guest) at = room_ready tells room is (without_first (is_late room now) room.guests) (room.ready ++ record { guest = guest; reason = Late } ∷ [])
+      (is_late room now) guest guest Late at refl refl refl (λ whole. absurd cc)
 
-      of_ready : (ready : List Ready) → room.ready ≡ ready → IfSome (next_of now ready room).0 (IsHanded tells room now (next_of now ready room).1)
-      of_ready [] at = of_late (find (is_late room now) room.guests) refl at
+  same_whole : (now : ℕ) (found : Option Guest) → (late_in now found room).whole ≡ room.whole
+  same_whole now None = refl
+  same_whole now (Some guest) = refl
+
+  handed_first : (left : Room W) → IsRoom tells left → left.whole ≡ room.whole → IfSome (first_of left.ready left).0 (IsHanded tells room (first_of left.ready left).1)
+  handed_first left is_left whole_is = of_ready left.ready refl
+    where
+      of_ready : (ready : List Ready) → left.ready ≡ ready → IfSome (first_of ready left).0 (IsHanded tells room (first_of ready left).1)
+      of_ready [] at = tt
       of_ready (first ∷ others) at =
-          let whole = subst (λ (rs : List Ready). AllByRecursion (λ r. r.reason ≡ Whole → tells room.whole true r.guest.bytes) rs) at is.whole in
-          let timely = subst (λ (rs : List Ready). AllByRecursion (λ r. r.reason ≢ Late) rs) at is.timely in
-          let once = subst (λ (rs : List Ready). times first.guest.connection (waiting_numbers room.guests) + times first.guest.connection (ready_numbers rs) ≤ 1) at (is.once first.guest.connection) in
+          let whole = subst (λ (rs : List Ready). AllByRecursion (λ r. r.reason ≡ Whole → tells left.whole true r.guest.bytes) rs) at is_left.whole in
+          let once = subst (λ (rs : List Ready). times first.guest.connection (waiting_numbers left.guests) + times first.guest.connection (ready_numbers rs) ≤ 1) at (is_left.once first.guest.connection) in
           let itself = one_itself first.guest.connection in
-          record { whole = whole.0; late = λ reason. absurd (timely.0 reason); gone = omega arith }
+          record { whole = λ reason. subst (λ (w : W). tells w true first.guest.bytes) whole_is (whole.0 reason); gone = omega arith }
+
+  pub is_handed : (now : ℕ) → IfSome (next now room).0 (IsHanded tells room (next now room).1)
+  is_handed now = handed_first (gives_up now room) (room_gives_up now (find (is_late room now) room.guests) refl) (same_whole now (find (is_late room now) room.guests))

@@ -1,16 +1,17 @@
 -- What is known of the connections goes on to be what the events say.
-use Rattle.std.proofs.Common.{arith, eqb, ◌≡◌, ◌≢◌, inl, inr, ℕ, Bool, true, false, cond, List, [], ◌∷◌, Option, Some, None, IfSome, refl, sym, ap, subst, ◌∙◌}
+use Rattle.std.proofs.Common.{arith, eqb, ◌≡◌, ◌≢◌, inl, inr, ℕ, Bool, true, false, cond, ◌<◌, length, slice_index_or, List, [], ◌∷◌, ◌++◌, Option, Some, None, refl, sym, ap, subst, ◌∙◌}
 use Rattle.std.proofs.lemmas.Bool.{eqb-true}
+use Rattle.std.proofs.lemmas.List.{append-nil}
 use Rattle.std.proofs.lemmas.Bool.Decides.{eqb_tells}
-use Rattle.std.specs.List.{AllByRecursion, find}
+use Rattle.std.specs.List.{AllByRecursion, find, remove}
 use Rattle.gate_waiting.proofs.Rooms.{all_more, all_out, is_out, one, one_itself}
-use Rattle.gate_waiting.specs.Calls.{IsJudged, first_late, is_of, moves_on, new_guest, next, next_of, stopped_in, with_bytes, with_guest, without_first}
+use Rattle.gate_waiting.specs.Calls.{IsJudged, is_of, late_in, moves_on, new_guest, stopped_in, with_bytes, with_guest, without_first}
 use Rattle.gate_waiting.specs.Events.{Event, came, heard}
-use Rattle.gate_waiting.specs.Room.{IsAsTold, IsRoom, Room, Tells, is_late, ready_numbers, times, waiting_numbers}
+use Rattle.gate_waiting.specs.Room.{IsAsTold, IsReadyAsTold, IsRoom, Room, Tells, is_late, ready_numbers, times, waiting_numbers}
 use Rattle.gate_waiting.specs.declared.guest.Guest.{Guest}
 use Rattle.gate_waiting.specs.declared.guest.Ready.{Ready}
 use Rattle.gate_waiting.specs.declared.guest.Reason.{Reason}
-use Rattle.gate_waiting.specs.declared.guest.Reason.TheVariants.{Lost}
+use Rattle.gate_waiting.specs.declared.guest.Reason.TheVariants.{Late, Lost}
 
 -- NOT AMONG THESE
 not_waiting : (c : ℕ) (gs : List Guest) → times c (waiting_numbers gs) ≡ 0 → AllByRecursion (λ g. g.connection ≢ c) gs
@@ -36,6 +37,21 @@ module _ (events : List Event) (now c : ℕ) (guest : Guest) (other : guest.conn
   pub told_if_came : IsAsTold (came now c ∷ events) guest
   told_if_came = record { bytes = rw is_other told.bytes; came = rw is_other told.came; heard = rw is_other told.heard }
 
+-- nor of one for whose last bytes there was no memory
+module _ (events : List Event) (now c : ℕ) (ready : Ready) (other : ready.guest.connection ≢ c) (told : IsReadyAsTold events ready) where
+  is_another : eqb ready.guest.connection c ≡ false
+  is_another = elim (eqb_tells ready.guest.connection c) [ inl h ↦ absurd (other h.1) | inr h ↦ h.0 ]
+
+  pub ready_if_heard : (bytes : List ℕ) → IsReadyAsTold (heard now c bytes ∷ events) ready
+  ready_if_heard bytes = record { all = λ kept. told_if_heard events now c ready.guest other (told.all kept) bytes; front = (told.front.0, rw is_another told.front.1) }
+
+  pub ready_if_came : IsReadyAsTold (came now c ∷ events) ready
+  ready_if_came = record { all = λ kept. told_if_came events now c ready.guest other (told.all kept); front = (told.front.0, rw is_another told.front.1) }
+
+-- one that is as told is so if it is ready, whatever the reason
+pub as_told : (events : List Event) (guest : Guest) (reason : Reason) → IsAsTold events guest → IsReadyAsTold events (record { guest = guest; reason = reason })
+as_told events guest reason told = record { all = λ kept. told; front = ([], sym told.bytes ∙ sym (append-nil guest.bytes)) }
+
 -- and one on it says just that
 itself : (c : ℕ) → eqb c c ≡ true
 itself c = elim (eqb_tells c c) [ inl h ↦ h.0 | inr h ↦ absurd (h.1 refl) ]
@@ -60,8 +76,8 @@ module _ {W : Type 0} (tells : W → Bool → List ℕ → Type 0) (events : Lis
             (both (λ g. g.connection ≢ room.next) (IsAsTold events) (IsAsTold (came now room.next ∷ events)) (λ g. told_if_came events now room.next g) room.guests
             (not_waiting room.next room.guests (omega arith)) told.guests)
             (told_of_new events now room.next);
-        ready = both (λ r. r.guest.connection ≢ room.next) (λ r. r.reason ≢ Lost → IsAsTold events r.guest) (λ r. r.reason ≢ Lost → IsAsTold (came now room.next ∷ events) r.guest)
-            (λ r other known kept. told_if_came events now room.next r.guest other (known kept)) room.ready (not_ready room.next room.ready (omega arith)) told.ready;
+        ready = both (λ r. r.guest.connection ≢ room.next) (IsReadyAsTold events) (IsReadyAsTold (came now room.next ∷ events)) (λ r. ready_if_came events now room.next r) room.ready
+            (not_ready room.next room.ready (omega arith)) told.ready;
       }
 
   -- what stays of those that wait, and those that are ready, isn't the one that was found
@@ -97,10 +113,10 @@ module _ {W : Type 0} (tells : W → Bool → List ℕ → Type 0) (events : Lis
       (not_waiting c others (left_out c found at).1) (all_out (IsAsTold events) (is_of c) room.guests told.guests)
 
   ready_told : (now c : ℕ) (bytes : List ℕ) (found : Guest) → find (is_of c) room.guests ≡ Some found
-      → AllByRecursion (λ r. r.reason ≢ Lost → IsAsTold (heard now c bytes ∷ events) r.guest) room.ready
+      → AllByRecursion (IsReadyAsTold (heard now c bytes ∷ events)) room.ready
   ready_told now c bytes found at =
-      both (λ r. r.guest.connection ≢ c) (λ r. r.reason ≢ Lost → IsAsTold events r.guest) (λ r. r.reason ≢ Lost → IsAsTold (heard now c bytes ∷ events) r.guest)
-      (λ r other known kept. told_if_heard events now c r.guest other (known kept) bytes) room.ready (not_ready c room.ready (left_out c found at).2) told.ready
+      both (λ r. r.guest.connection ≢ c) (IsReadyAsTold events) (IsReadyAsTold (heard now c bytes ∷ events)) (λ r other known. ready_if_heard events now c r other known bytes) room.ready
+      (not_ready c room.ready (left_out c found at).2) told.ready
 
   kept_told : (now c : ℕ) (bytes : List ℕ) (found kept : Guest) → find (is_of c) room.guests ≡ Some found → kept ≡ with_bytes now bytes found
       → IsAsTold (heard now c bytes ∷ events) kept
@@ -109,9 +125,24 @@ module _ {W : Type 0} (tells : W → Bool → List ℕ → Type 0) (events : Lis
       (subst (λ (d : ℕ). IsAsTold (heard now d bytes ∷ events) (with_bytes now bytes found)) (left_out c found at).0
       (told_with_bytes events now bytes found (known_of (is_of c) found at)))
 
+  lost_told : (now c : ℕ) (bytes : List ℕ) (found kept : Guest) → find (is_of c) room.guests ≡ Some found → kept ≡ record found { heard = now }
+      → IsReadyAsTold (heard now c bytes ∷ events) (record { guest = kept; reason = Lost })
+  lost_told now c bytes found kept at same =
+      subst (λ (g : Guest). IsReadyAsTold (heard now c bytes ∷ events) (record { guest = g; reason = Lost })) (sym same) (record {
+        all = λ kept. absurd (kept refl);
+        front = (bytes, sym (kept_told now c bytes found (with_bytes now bytes found) at refl).bytes);
+      })
+
+  judged_told : (now c : ℕ) (bytes : List ℕ) (found kept : Guest) (reason : Reason) → find (is_of c) room.guests ≡ Some found
+      → IsJudged (tells room.whole) now bytes found (Some reason) kept → IsReadyAsTold (heard now c bytes ∷ events) (record { guest = kept; reason = reason })
+  judged_told now c bytes found kept reason at (inl h) = as_told (heard now c bytes ∷ events) kept reason (kept_told now c bytes found kept at h.2)
+  judged_told now c bytes found kept reason at (inr (inl h)) = as_told (heard now c bytes ∷ events) kept reason (kept_told now c bytes found kept at h.1)
+  judged_told now c bytes found kept reason at (inr (inr h)) =
+      subst (λ (r : Reason). IsReadyAsTold (heard now c bytes ∷ events) (record { guest = kept; reason = r })) (sym h.0) (lost_told now c bytes found kept at h.1)
+
   -- bytes came on one that waited
   pub tells_moved : (now c : ℕ) (bytes : List ℕ) (found kept : Guest) (reason : Option Reason) → find (is_of c) room.guests ≡ Some found
-      → IsJudged (tells room.whole) (with_bytes now bytes found) reason kept → Tells (heard now c bytes ∷ events) (moves_on c kept reason room)
+      → IsJudged (tells room.whole) now bytes found reason kept → Tells (heard now c bytes ∷ events) (moves_on c kept reason room)
   tells_moved now c bytes found kept None at judged = record {
     guests = all_more (IsAsTold (heard now c bytes ∷ events)) (without_first (is_of c) room.guests) kept (others_told now c bytes found at)
         (kept_told now c bytes found kept at judged.1);
@@ -119,32 +150,28 @@ module _ {W : Type 0} (tells : W → Bool → List ℕ → Type 0) (events : Lis
   }
   tells_moved now c bytes found kept (Some reason) at judged = record {
     guests = others_told now c bytes found at;
-    ready = all_more (λ (r : Ready). r.reason ≢ Lost → IsAsTold (heard now c bytes ∷ events) r.guest) room.ready (record { guest = kept; reason = reason })
-        (ready_told now c bytes found at)
-        (λ known. elim judged [ inl h ↦ kept_told now c bytes found kept at h.2 | inr h ↦ elim h [ inl k ↦ kept_told now c bytes found kept at k.1 | inr k ↦ absurd (known k.0) ] ]);
+    ready = all_more (IsReadyAsTold (heard now c bytes ∷ events)) room.ready (record { guest = kept; reason = reason }) (ready_told now c bytes found at)
+        (judged_told now c bytes found kept reason at judged);
   }
 
-  -- one that waited was stopped
+  -- one that waited is ready for another reason
+  moved_told : (test : Guest → Bool) (reason : Reason) (guest : Guest) → find test room.guests ≡ Some guest
+      → Tells {W = W} events (record { whole = room.whole; patience = room.patience; next = room.next; guests = without_first test room.guests; ready = room.ready ++ record { guest = guest; reason = reason } ∷ [] })
+  moved_told test reason guest at = record {
+    guests = all_out (IsAsTold events) test room.guests told.guests;
+    ready = all_more (IsReadyAsTold events) room.ready (record { guest = guest; reason = reason }) told.ready (as_told events guest reason (known_of test guest at));
+  }
+
   pub tells_stopped : (c : ℕ) (reason : Reason) (found : Option Guest) → find (is_of c) room.guests ≡ found → Tells events (stopped_in c reason found room)
   tells_stopped c reason None at = told
-  tells_stopped c reason (Some guest) at = record {
-    guests = all_out (IsAsTold events) (is_of c) room.guests told.guests;
-    ready = all_more (λ (r : Ready). r.reason ≢ Lost → IsAsTold events r.guest) room.ready (record { guest = guest; reason = reason }) told.ready
-        (λ known. known_of (is_of c) guest at);
-  }
+  tells_stopped c reason (Some guest) at = moved_told (is_of c) reason guest at
 
-  -- one is handed on
-  pub tells_next : (now : ℕ) → Tells events (next now room).1 × IfSome (next now room).0 (λ it. it.reason ≢ Lost → IsAsTold events it.guest)
-  tells_next now = of_ready room.ready refl
-    where
-      of_late : (found : Option Guest) → find (is_late room now) room.guests ≡ found
-          → Tells events (first_late now found room).1 × IfSome (first_late now found room).0 (λ it. it.reason ≢ Lost → IsAsTold events it.guest)
-      of_late None at = (told, tt)
-      of_late (Some guest) at = (record { guests = all_out (IsAsTold events) (is_late room now) room.guests told.guests; ready = told.ready }, λ kept. known_of (is_late room now) guest at)
+  pub tells_late : (now : ℕ) (found : Option Guest) → find (is_late room now) room.guests ≡ found → Tells events (late_in now found room)
+  tells_late now None at = told
+  tells_late now (Some guest) at = moved_told (is_late room now) Late guest at
 
-      of_ready : (ready : List Ready) → room.ready ≡ ready
-          → Tells events (next_of now ready room).1 × IfSome (next_of now ready room).0 (λ it. it.reason ≢ Lost → IsAsTold events it.guest)
-      of_ready [] at = of_late (find (is_late room now) room.guests) refl
-      of_ready (first ∷ others) at =
-          let all = subst (λ (rs : List Ready). AllByRecursion (λ r. r.reason ≢ Lost → IsAsTold events r.guest) rs) at told.ready in
-          (record { guests = told.guests; ready = all.1 }, all.0)
+-- the first of those that are ready, and the others
+pub first_told : (events : List Event) (ready : List Ready) (first : Ready) → 0 < length ready → first ≡ slice_index_or ready 0 first → AllByRecursion (IsReadyAsTold events) ready
+    → AllByRecursion (IsReadyAsTold events) (remove ready 0) × IsReadyAsTold events first
+first_told events [] first some is all = absurd (omega arith)
+first_told events (x ∷ ready) first some is all = (all.1, subst (IsReadyAsTold events) (sym is) all.0)

@@ -32,16 +32,16 @@ is_ready connection guest reason room = record room {
   ready = room.ready ++ record { guest = guest; reason = reason } ∷ [];
 }
 
--- BYTES COME on one that waits. It is ready if they make its request whole, or if there is no memory to tell, or none for them: then they
--- are lost.
+-- BYTES COME on one that waits. It is ready if they make its request whole, or if there is no memory to tell. If there is none for them,
+-- they are lost, and it is ready with those before them.
 abbrev pub with_bytes : ℕ → List ℕ → Guest → Guest
 with_bytes now bytes guest = record guest { heard = now; bytes = guest.bytes ++ bytes }
 
-abbrev pub IsJudged : (Bool → List ℕ → Type 0) → Guest → Option Reason → Guest → Type 0
-IsJudged tells heard None kept = tells false heard.bytes × (kept ≡ heard)
-IsJudged tells heard (Some reason) kept =
-    ((reason ≡ Whole) × tells true heard.bytes × (kept ≡ heard))
-    ⊎ (((reason ≡ NoMemory) × (kept ≡ heard)) ⊎ ((reason ≡ Lost) × (kept.connection ≡ heard.connection)))
+abbrev pub IsJudged : (Bool → List ℕ → Type 0) → ℕ → List ℕ → Guest → Option Reason → Guest → Type 0
+IsJudged tells now bytes guest None kept = tells false (guest.bytes ++ bytes) × (kept ≡ with_bytes now bytes guest)
+IsJudged tells now bytes guest (Some reason) kept =
+    ((reason ≡ Whole) × tells true (guest.bytes ++ bytes) × (kept ≡ with_bytes now bytes guest))
+    ⊎ (((reason ≡ NoMemory) × (kept ≡ with_bytes now bytes guest)) ⊎ ((reason ≡ Lost) × (kept ≡ record guest { heard = now })))
 
 abbrev pub moves_on : {W : Type 0} → ℕ → Guest → Option Reason → Room W → Room W
 moves_on connection guest None room = goes_on connection guest room
@@ -50,7 +50,7 @@ moves_on connection guest (Some reason) room = is_ready connection guest reason 
 abbrev pub HearsOn : {W : Type 0} → (W → Bool → List ℕ → Type 0) → ℕ → ℕ → List ℕ → Room W → Room W → Option Guest → Type 0
 HearsOn tells now connection bytes old new None = new ≡ old
 HearsOn tells now connection bytes old new (Some guest) =
-    (reason : Option Reason) × (kept : Guest) × IsJudged (tells old.whole) (with_bytes now bytes guest) reason kept
+    (reason : Option Reason) × (kept : Guest) × IsJudged (tells old.whole) now bytes guest reason kept
     × (new ≡ moves_on connection kept reason old)
 
 abbrev pub Hears : {W : Type 0} → (W → Bool → List ℕ → Type 0) → ℕ → ℕ → List ℕ → Room W → Room W → Type 0
@@ -64,26 +64,26 @@ stopped_in connection reason (Some guest) room = is_ready connection guest reaso
 abbrev pub stops : {W : Type 0} → ℕ → Reason → Room W → Room W
 stops connection reason room = stopped_in connection reason (find (is_of connection) room.guests) room
 
--- THE NEXT is the one that has been ready the longest; or else the first that is late
-abbrev pub first_late : {W : Type 0} → ℕ → Option Guest → Room W → Option Ready × Room W
-first_late now None room = (None, room)
-first_late now (Some guest) room = (Some (record { guest = guest; reason = Late }), record room { guests = without_first (is_late room now) room.guests })
+-- ONE THAT IS LATE GIVES UP ITS TURN TO WAIT: of those that are late the first is ready, behind the others
+abbrev pub late_in : {W : Type 0} → ℕ → Option Guest → Room W → Room W
+late_in now None room = room
+late_in now (Some guest) room = record room {
+  guests = without_first (is_late room now) room.guests;
+  ready = room.ready ++ record { guest = guest; reason = Late } ∷ [];
+}
 
-abbrev pub next_of : {W : Type 0} → ℕ → List Ready → Room W → Option Ready × Room W
-next_of now [] room = first_late now (find (is_late room now) room.guests) room
-next_of now (first ∷ others) room = (Some first, record room { ready = others })
+abbrev pub gives_up : {W : Type 0} → ℕ → Room W → Room W
+gives_up now room = late_in now (find (is_late room now) room.guests) room
+
+-- THE NEXT is the one that has been ready the longest
+abbrev pub first_of : {W : Type 0} → List Ready → Room W → Option Ready × Room W
+first_of [] room = (None, room)
+first_of (first ∷ others) room = (Some first, record room { ready = others })
 
 abbrev pub next : {W : Type 0} → ℕ → Room W → Option Ready × Room W
-next now room = next_of now room.ready room
+next now room = first_of (gives_up now room).ready (gives_up now room)
 
--- of the one that is handed on: its request is whole, if that is the reason; it was late and nobody was ready, if that is; and nothing is
--- kept of it
-pub record IsHanded {W : Type 0} (tells : W → Bool → List ℕ → Type 0) (old : Room W) (now : ℕ) (new : Room W) (it : Ready) : Type 0 where
+-- of the one that is handed on: its request is whole, if that is the reason, and nothing is kept of it
+pub record IsHanded {W : Type 0} (tells : W → Bool → List ℕ → Type 0) (old new : Room W) (it : Ready) : Type 0 where
   pub whole : it.reason ≡ Whole → tells old.whole true it.guest.bytes
-  pub late : it.reason ≡ Late → (old.ready ≡ []) × (is_late old now it.guest ≡ true)
   pub gone : here it.guest.connection new ≡ 0
-
--- For a private clause: the first that is late was taken out, or nobody is.
-abbrev pub IsFirstLate : (Guest → Bool) → List Guest → List Guest → Option Ready → Type 0
-IsFirstLate late old new None = (None ≡ find late old) × (new ≡ old)
-IsFirstLate late old new (Some ready) = (ready.reason ≡ Late) × (Some ready.guest ≡ find late old) × (new ≡ without_first late old)

@@ -1,10 +1,10 @@
 -- WHO WAITS, in the order in which something was heard of them last, AND WHO IS READY, in the order in which they became so.
-use Rattle.std.specs.Prelude.{◌≡◌, ◌≢◌, ◌⊎◌, ℕ, ◌+◌, ◌*◌, ◌^◌, ◌<◌, ◌≤◌, nat_le, ◌||◌, Bool, true, false, ◌==◌, if◌then◌else◌, List, [], ◌∷◌, length, map}
+use Rattle.std.specs.Prelude.{◌≡◌, ◌≢◌, ◌⊎◌, ℕ, ◌+◌, ◌*◌, ◌^◌, ◌<◌, ◌≤◌, nat_le, ◌||◌, Bool, true, false, ◌==◌, if◌then◌else◌, List, [], ◌∷◌, ◌++◌, length, map}
 use Rattle.std.specs.List.{AllByRecursion}
 use Rattle.gate_waiting.specs.Events.{Event, bytes_of, came_at, heard_at}
 use Rattle.gate_waiting.specs.declared.guest.Guest.{Guest}
 use Rattle.gate_waiting.specs.declared.guest.Ready.{Ready}
-use Rattle.gate_waiting.specs.declared.guest.Reason.TheVariants.{Late, Lost, Whole}
+use Rattle.gate_waiting.specs.declared.guest.Reason.TheVariants.{Lost, Whole}
 
 -- how many are here at once
 abbrev pub most : ℕ
@@ -39,8 +39,8 @@ times n (m ∷ ms) = (if m == n then 1 else 0) + times n ms
 abbrev pub here : {W : Type 0} → ℕ → Room W → ℕ
 here n room = times n (waiting_numbers room.guests) + times n (ready_numbers room.ready)
 
--- WHAT A ROOM KEEPS: no connection is here twice, each is under a number below the next one, and there are not too many. Of one that waits
--- the request isn't whole, and of one that is ready since it is whole, it is. None is ready for being late.
+-- WHAT A ROOM KEEPS: no connection is here twice, each is under a number below the next one, and there are not too many. On one that waits
+-- nothing has come, or its request isn't whole; and of one that is ready since its request is whole, it is.
 pub record IsRoom {W : Type 0} (tells : W → Bool → List ℕ → Type 0) (room : Room W) : Type 0 where
   pub once : (n : ℕ) → here n room ≤ 1
   pub below : (n : ℕ) → room.next ≤ n → here n room ≡ 0
@@ -48,7 +48,6 @@ pub record IsRoom {W : Type 0} (tells : W → Bool → List ℕ → Type 0) (roo
   pub patient : room.patience < 2 ^ 60
   pub short : AllByRecursion (λ g. (g.bytes ≡ []) ⊎ tells room.whole false g.bytes) room.guests
   pub whole : AllByRecursion (λ r. r.reason ≡ Whole → tells room.whole true r.guest.bytes) room.ready
-  pub timely : AllByRecursion (λ r. r.reason ≢ Late) room.ready
 
 -- LATE is one on which nothing came for so long as the patience, or that has been here for ten times that
 abbrev pub is_later : ℕ → ℕ → ℕ → Guest → Bool
@@ -57,12 +56,17 @@ is_later patience in_all now guest = nat_le (guest.heard + patience) now || nat_
 abbrev pub is_late : {W : Type 0} → Room W → ℕ → Guest → Bool
 is_late room now guest = is_later room.patience (10 * room.patience) now guest
 
--- WHAT IS KNOWN OF A CONNECTION is what the events say of it; but of one for whose bytes there was no memory they are lost.
+-- WHAT IS KNOWN OF A CONNECTION is what the events say of it.
 pub record IsAsTold (events : List Event) (guest : Guest) : Type 0 where
   pub bytes : guest.bytes ≡ bytes_of guest.connection events
   pub came : guest.came ≡ came_at guest.connection events
   pub heard : guest.heard ≡ heard_at guest.connection events
 
+-- But of one for whose last bytes there was no memory these are lost, and nothing before them.
+pub record IsReadyAsTold (events : List Event) (ready : Ready) : Type 0 where
+  pub all : ready.reason ≢ Lost → IsAsTold events ready.guest
+  pub front : (lost : List ℕ) × (bytes_of ready.guest.connection events ≡ ready.guest.bytes ++ lost)
+
 pub record Tells {W : Type 0} (events : List Event) (room : Room W) : Type 0 where
   pub guests : AllByRecursion (IsAsTold events) room.guests
-  pub ready : AllByRecursion (λ r. r.reason ≢ Lost → IsAsTold events r.guest) room.ready
+  pub ready : AllByRecursion (IsReadyAsTold events) room.ready

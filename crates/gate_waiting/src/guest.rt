@@ -1,6 +1,6 @@
 use crate::bytes::Bytes;
 
-/// A connection that is waited for. Times are nanoseconds of one clock.
+/// A connection that is waited for. Times are microseconds of one clock.
 #[derive(Drop)]
 pub struct Guest {
     /// The number of the connection.

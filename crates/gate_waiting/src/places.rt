@@ -1,12 +1,11 @@
-ghost use Rattle.std.specs.Prelude.{◌≡◌, ◌+◌, ◌≤◌, ◌<◌, ◌++◌, ◌∷◌, [], length, drop, take, IfOk};
+ghost use Rattle.std.specs.Prelude.{◌≡◌, ◌<◌, ◌++◌, ◌∷◌, [], length, slice_index_or, IfOk};
 ghost use Rattle.std.specs.List.{remove};
-ghost use Rattle.std.specs.Prelude.{slice_index_or};
 
 use crate::guest::Guest;
 use std::alloc::{AllocError, Global};
 use std::marker::Model;
 
-/// How many connections are waited for, or ready, at once.
+/// How many connections are waited for or ready at once, at most.
 pub const MOST: usize = 256;
 
 // Up to 256 items in an order, for which there is memory from the start. A contract sees them as their list.

@@ -1,9 +1,9 @@
 ghost use Rattle.std.specs.Prelude.{◌≡◌, ◌≢◌, ◌⊎◌, ◌+◌, ◌*◌, ◌-◌, ◌^◌, ◌≤◌, ◌<◌, ◌↔◌, ◌∷◌, [], List, IsTrue, length, None, Some, IfOk, IfSome};
 ghost use Rattle.std.specs.List.{find, list_any};
 ghost use Rattle.gate_waiting.specs.Calls as calls;
-ghost use Rattle.gate_waiting.specs.Calls.{Hears, IsFirstLate, IsHanded, IsJudged, is_of, stops, with_bytes, with_guest};
+ghost use Rattle.gate_waiting.specs.Calls.{Hears, IsHanded, IsJudged, is_of, stops, with_guest};
 ghost use Rattle.gate_waiting.specs.Events.{Event, came, heard};
-ghost use Rattle.gate_waiting.specs.Room.{IsAsTold, Tells, empty_room, is_later, most};
+ghost use Rattle.gate_waiting.specs.Room.{IsReadyAsTold, Tells, empty_room, most};
 ghost use Rattle.gate_waiting.specs.declared.guest.Guest.{Guest as GuestOf};
 
 use crate::bytes::Bytes;
@@ -13,7 +13,7 @@ use crate::taking::{LateAt, Numbered, first_place, take_out};
 use std::alloc::{AllocError, Global};
 use std::marker::Model;
 
-/// What makes a request whole.
+/// What makes a request whole. Nothing here asks that bytes can't be told both to be whole and not to be.
 pub trait Whole {
     ghost use Rattle.std.specs.Prelude.{ℕ, List, Bool};
 
@@ -25,7 +25,9 @@ pub trait Whole {
         ensures value { IfOk result (λ whole. tells self.now whole bytes.now) };
 }
 
-/// The connections that are waited for, and those that are ready.
+/// The connections that are waited for, and those that are ready, at most 256 together. Times are microseconds of one clock, as its owner
+/// tells them. Of those that are ready the one that has been so the longest is handed on first. One that is late is given up: it is ready
+/// as well, behind the others.
 #[derive(Drop)]
 pub struct Waiting<W: Whole> {
     whole: W,
@@ -42,13 +44,16 @@ impl<W: Whole> Model for Waiting<W> {
 
     ghost view = { λ w. record { whole = w.whole; patience = w.patience; next = w.next; guests = w.guests; ready = w.ready } };
 
-    ghost invariant = { λ w. IsRoom W.tells (record { whole = w.whole; patience = w.patience; next = w.next; guests = w.guests; ready = w.ready }) };
+    ghost invariant = { λ w. IsRoom W.tells
+        (record { whole = w.whole; patience = w.patience; next = w.next; guests = w.guests; ready = w.ready }) };
 }
 
 impl<W: Whole + Drop> Waiting<W> {
-    /// Nobody waits. The patience is in seconds. `AllocError` if there is no memory for the lists.
+    /// Nobody waits. The patience is in seconds; with 0 everybody is late at once. `AllocError` if there is no memory for the lists, and
+    /// then `whole` is let go. Later no call needs memory for them.
     pub fn new(alloc: Global, whole: W, patience: u32) -> Result<Waiting<W>, AllocError>
         ensures value { IfOk result (λ waiting. waiting ≡ empty_room whole (patience * 1000000)) }
+        ensures told { IfOk result (Tells []) }
     {
         Ok(Waiting {
             whole,
@@ -59,8 +64,8 @@ impl<W: Whole + Drop> Waiting<W> {
         })
     }
 
-    /// Takes in a connection that comes at this time, in microseconds, and gives its number. `None` if it is turned away, since as many
-    /// are here as may be, or no number is left.
+    /// Takes in a connection that comes at this time, and gives its number, which is never given again. `None` if it is turned away,
+    /// since 256 are here, or no number is left; then nothing changes. It takes no memory.
     pub fn come(&mut self, alloc: Global, now: u64) -> Option<u64>
         ensures room { IfSome result (λ connection. (connection ≡ self.old.next) × (self.new ≡ with_guest now self.old)) }
         ensures away { result ≡ None → (self.new ≡ self.old)
@@ -96,14 +101,15 @@ impl<W: Whole + Drop> Waiting<W> {
         self.guests.len() == 0 && self.ready.len() == 0
     }
 
-    /// Whether there is a place for one more.
+    /// Whether there is a place for one more. `come` refuses it all the same if no number is left.
     pub fn has_place(&self) -> bool
         ensures value { IsTrue result ↔ (length self.now.guests + length self.now.ready < most) }
     {
         self.guests.len() + self.ready.len() < MOST
     }
 
-    /// Makes room for so many bytes more of a connection. If it is waited for, and there is no memory for them, it is ready.
+    /// Makes room for so many bytes more of a connection. If there is no memory for them, it is ready, with `NoMemory` and the bytes that
+    /// it has. Nothing happens if it isn't waited for.
     pub fn make_room(&mut self, connection: u64, more: usize)
         ensures room { (self.new ≡ self.old) ⊎ (self.new ≡ stops connection Reason.NoMemory self.old) }
         ensures told { (events : List Event) → Tells events self.old → Tells events self.new }
@@ -113,8 +119,9 @@ impl<W: Whole + Drop> Waiting<W> {
         }
     }
 
-    /// Takes bytes that come on a connection at this time. If they make its request whole, it is ready; so it is if there is no memory to
-    /// tell, or none for them, and then they are lost. On one that isn't waited for nothing is taken.
+    /// Takes bytes that come on a connection at this time. If they make its request whole, it is ready, with `Whole`. If there is no
+    /// memory to tell, it is ready with `NoMemory`. If there is none for the bytes, they are lost, and it is ready with `Lost`. On one that
+    /// isn't waited for nothing is taken.
     pub fn hear(&mut self, alloc: Global, now: u64, connection: u64, bytes: &[u8])
         ensures heard { Hears W.tells now connection bytes.now self.old self.new }
         ensures told { (guest : GuestOf) → find (is_of connection) self.old.guests ≡ Some guest → (events : List Event)
@@ -129,7 +136,7 @@ impl<W: Whole + Drop> Waiting<W> {
         }
     }
 
-    /// Notes that no more comes on a connection. If it is waited for, it is ready.
+    /// Notes that no more comes on a connection. If it is waited for, it is ready, with `Ended`. Else nothing happens.
     pub fn end(&mut self, connection: u64)
         ensures room { self.new ≡ stops connection Reason.Ended self.old }
         ensures told { (events : List Event) → Tells events self.old → Tells events self.new }
@@ -137,7 +144,7 @@ impl<W: Whole + Drop> Waiting<W> {
         self.stop(connection, Reason::Ended);
     }
 
-    /// Notes that a connection can't be read. If it is waited for, it is ready.
+    /// Notes that a connection can't be read. If it is waited for, it is ready, with `Failed`. Else nothing happens.
     pub fn fail(&mut self, connection: u64)
         ensures room { self.new ≡ stops connection Reason.Failed self.old }
         ensures told { (events : List Event) → Tells events self.old → Tells events self.new }
@@ -147,7 +154,7 @@ impl<W: Whole + Drop> Waiting<W> {
 
     fn stop(&mut self, connection: u64, reason: Reason)
         requires some { reason ≢ Reason.Whole }
-        requires timely { reason ≢ Reason.Late }
+        requires kept { reason ≢ Reason.Lost }
         ensures room { self.new ≡ stops connection reason self.old }
         ensures told { (events : List Event) → Tells events self.old → Tells events self.new }
     {
@@ -157,26 +164,43 @@ impl<W: Whole + Drop> Waiting<W> {
         }
     }
 
-    /// Hands on the connection that has been ready the longest, or else the first that is late at this time. `None` if there is none.
-    pub fn next(&mut self, now: u64) -> Option<Ready>
-        ensures next { (result, self.new) ≡ calls.next now self.old }
-
-        // A request that isn't whole is never handed on as one that is, nobody is late who isn't, and nothing is kept of who has gone.
-        ensures handed { IfSome result (IsHanded W.tells self.old now self.new) }
-
-        // The bytes are those that came on the connection, in their order.
-        ensures told { (events : List Event) → Tells events self.old → Tells events self.new
-            × IfSome result (λ it. it.reason ≢ Reason.Lost → IsAsTold events it.guest) }
+    // Has the first of those that are late at this time be ready, behind the others.
+    fn give_up(&mut self, now: u64)
+        ensures room { self.new ≡ calls.gives_up now self.old }
+        ensures told { (events : List Event) → Tells events self.old → Tells events self.new }
     {
-        if self.ready.len() > 0 {
-            return Some(self.ready.remove(0));
-        }
         let late = LateAt {
             time: now,
             patience: self.patience,
             in_all: 10 * self.patience,
         };
-        first_late(&mut self.guests, &late)
+        match take_out(&mut self.guests, &late) {
+            Some(guest) => self.ready.add(Ready {
+                guest,
+                reason: Reason::Late,
+            }),
+            None => {}
+        }
+    }
+
+    /// Hands on the connection that has been ready the longest, with the reason. Before that, if some are late at this time, one of them is
+    /// given up: the one of which something was heard last the longest ago. It is behind those that are ready, so if nobody else is, it is
+    /// handed on. `None` if nobody is ready and nobody late; then nothing changes.
+    pub fn next(&mut self, now: u64) -> Option<Ready>
+        ensures next { (result, self.new) ≡ calls.next now self.old }
+
+        // A request that isn't whole is never handed on as one that is, and nothing is kept of who has gone.
+        ensures handed { IfSome result (IsHanded W.tells self.old self.new) }
+
+        // The bytes are those that came on the connection, in their order.
+        ensures told { (events : List Event) → Tells events self.old → Tells events self.new × IfSome result (IsReadyAsTold events) }
+    {
+        self.give_up(now);
+        if self.ready.len() > 0 {
+            Some(self.ready.remove(0))
+        } else {
+            None
+        }
     }
 }
 
@@ -196,19 +220,6 @@ fn has_room(guests: &mut Places<Guest>, connection: u64, more: usize) -> bool
     }
 }
 
-// Takes out the first that is late.
-fn first_late(guests: &mut Places<Guest>, late: &LateAt) -> Option<Ready>
-    ensures { IsFirstLate (is_later late.now.patience late.now.in_all late.now.time) guests.old guests.new result }
-{
-    match take_out(guests, late) {
-        Some(guest) => Some(Ready {
-            guest,
-            reason: Reason::Late,
-        }),
-        None => None,
-    }
-}
-
 // Adds bytes to those of a connection, and says why it is ready, if it is.
 fn judge<W: Whole>(
     whole: &W,
@@ -217,7 +228,7 @@ fn judge<W: Whole>(
     now: u64,
     bytes: &[u8],
 ) -> Option<Reason>
-    ensures { IsJudged (W.tells whole.now) (with_bytes now bytes.now guest.old) result guest.new }
+    ensures { IsJudged (W.tells whole.now) now bytes.now guest.old result guest.new }
 {
     guest.heard = now;
     if guest.bytes.add(bytes).is_err() {

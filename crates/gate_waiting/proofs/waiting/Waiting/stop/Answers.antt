@@ -9,7 +9,7 @@ pub invariant_of-self : goal.invariant_of-self
 invariant_of-self g c =
     let guest = c.in-Some.guest in
     room_ready g.W.Whole.tells _ c.self.invariant c.take_out.new.guests c.add.new.self (is_of c.args.connection) guest guest c.args.reason
-    (sym c.in-Some.ensures.found) c.in-Some.ensures.rest c.add.ensures.value refl (λ is. absurd (c.requires.some is)) c.requires.timely
+    (sym c.in-Some.ensures.found) c.in-Some.ensures.rest c.add.ensures.value refl (λ is. absurd (c.requires.some is))
 
 pub returns-in-Some-clause-told : goal.returns-in-Some-clause-told
 returns-in-Some-clause-told g c = λ events told.
