@@ -161,7 +161,8 @@ class Server:
     """`gate serve` for so many connections, from the moment that it listens. It is killed in the end, if it hasn't ended."""
 
     def __init__(self, program, connections=MANY_CONNECTIONS, words=(), port=None, **how):
-        self.path, self.words, self.how = program.path, ["--count", str(connections), *words], how
+        self.path, self.words = program.path, ["--count", str(connections), *words]
+        self.how = {"stdin": subprocess.DEVNULL, **how}
         # Where it is to listen is a port that somebody named, or any. A port that was free is at times somebody else's a moment later.
         self.starts = 1 if port else 3
         self.start(port or free_port())
@@ -171,7 +172,7 @@ class Server:
         words = [self.path, "serve", "--port", str(port), *self.words]
         pipe = subprocess.PIPE
         # Without a buffer, so that nothing is taken with the first line.
-        self.child = subprocess.Popen(words, stdin=subprocess.DEVNULL, stdout=pipe, stderr=pipe, bufsize=0, **self.how)
+        self.child = subprocess.Popen(words, stdout=pipe, stderr=pipe, bufsize=0, **self.how)
         self.starts -= 1
 
     def __enter__(self):
@@ -195,8 +196,16 @@ class Server:
     def end(self):
         self.child.kill()
         self.child.wait()
+        self.close_input()
         self.child.stdout.close()
         self.child.stderr.close()
+
+    def close_input(self):
+        """Closes its standard input, if that is a pipe."""
+        if self.child.stdin:
+            self.child.stdin.close()
+            # Else it would be closed once more.
+            self.child.stdin = None
 
     def connection(self):
         return socket.create_connection(("127.0.0.1", self.port), SECONDS)

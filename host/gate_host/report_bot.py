@@ -18,8 +18,9 @@ import socket
 import subprocess
 import tempfile
 import time
+from contextlib import suppress
 from pathlib import Path
-from typing import Optional, Tuple
+from typing import List, Optional, Tuple
 
 ADDRESS = "127.0.0.1"
 # The most that the program takes. Each request is one, and so is each connection of somebody without the token.
@@ -28,6 +29,7 @@ CONNECTIONS = 1000000
 SECONDS = 2
 # A report of a queue of thousands of batches is shorter.
 MOST_BYTES = 64 * 2 ** 20
+# In which the program ends once its input is closed, or notes that its connection was cut off.
 SECONDS_TO_END = 0.2
 # As long as the first answer of the bot that decides: both read the same file. Nobody is held up meanwhile.
 SECONDS_TO_START = 600
@@ -45,8 +47,9 @@ class NoReport(Exception):
 
 
 class ReportBot:
-    """A running bot for reports, over the file `bot.db` of a folder that nobody else may read. It ends with the host, however that
-    ends."""
+    """A running bot for reports, over the file `bot.db` of a folder that nobody else may read. It ends when its input is closed, of which
+    the host alone has the other end. So it ends with the host, however that ends. While it reads its file it doesn't look at its input.
+    So the system ends it too."""
 
     def __init__(self, program: str, folder: Path):
         self.program = program
@@ -65,21 +68,26 @@ class ReportBot:
         self.line = b""
         command = [
             self.program, "serve", "--db", str(self.folder / "bot.db"), "--port", str(self.port), "--count", str(CONNECTIONS),
-            "--token", str(self.folder / "token"),
+            "--token", str(self.folder / "token"), "--until-input-ends",
         ]
         host = os.getpid()
         self.said = tempfile.TemporaryFile()
-        self.output, output = os.pipe()
+        self.output = self.input = -1
+        theirs: List[int] = []
         try:
+            self.output, output = os.pipe()
+            theirs.append(output)
+            given, self.input = os.pipe()
+            theirs.append(given)
             self.process = subprocess.Popen(
-                command, stdin=subprocess.DEVNULL, stdout=output, stderr=self.said, start_new_session=True,
-                preexec_fn=lambda: end_with(host),
+                command, stdin=given, stdout=output, stderr=self.said, start_new_session=True, preexec_fn=lambda: end_with(host),
             )
         except (OSError, subprocess.SubprocessError) as fault:
             self.close_files()
             raise NoReport(f"{self.program} can't be started: {fault}") from fault
         finally:
-            os.close(output)
+            for file in theirs:
+                os.close(file)
 
     def is_ready(self, seconds: float) -> bool:
         """Whether it listens, for which it is waited so long. If it ends before, it gets another port."""
@@ -161,12 +169,21 @@ class ReportBot:
         return NoReport(f"the bot for reports has ended: {words or f'status {status}'}")
 
     def close(self) -> None:
-        """Ends it. Its file is a copy that nobody needs, so it isn't waited until that is in order."""
+        """Ends it, by its input. Its file is a copy that nobody needs, so it is waited for a moment only, and then killed."""
+        self.close_input()
+        with suppress(subprocess.TimeoutExpired):
+            self.process.wait(SECONDS_TO_END)
         self.process.kill()
         self.process.wait()
         self.close_files()
 
+    def close_input(self) -> None:
+        if self.input >= 0:
+            os.close(self.input)
+        self.input = -1
+
     def close_files(self) -> None:
+        self.close_input()
         if self.output >= 0:
             os.close(self.output)
         self.output = -1

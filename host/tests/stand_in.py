@@ -22,10 +22,11 @@ SECONDS = 20
 WALK = 300
 
 # Stands in for `gate serve`. Each start writes its arguments and each request its line to a file beside it. How it behaves is read from
-# another one each time: `bind` ends the start, `ends` and `fails` a request. `gone` has another process serve after its own end.
+# another one each time: `bind` ends the start, `ends` and `fails` a request. `gone` has another process serve after its own end. With
+# `stays` it goes on after its input was closed. Else it ends then, and tells so, if it was started with the option for that.
 STAND_IN = """\
 #!{python}
-import json, os, sys, time
+import json, os, sys, threading, time
 from http.server import BaseHTTPRequestHandler, HTTPServer
 from pathlib import Path
 room = Path({room!r})
@@ -55,6 +56,11 @@ class Answers(BaseHTTPRequestHandler):
     do_GET = do_POST = do
     def log_message(self, *_):
         pass
+def end_with_input():
+    sys.stdin.read()
+    if "stays" not in mode():
+        tell(["end of input"])
+        os._exit(0)
 tell(sys.argv[1:])
 if "bind" in mode():
     left = int(mode()[1])
@@ -73,6 +79,8 @@ if "gone" in mode():
     (room / "impostor").write_text(str(os.getpid()))
     server.handle_request()
     os._exit(0)
+if "--until-input-ends" in sys.argv:
+    threading.Thread(target=end_with_input, daemon=True).start()
 print("hello" if "other" in mode() else f"listening on 127.0.0.1:{{given['--port']}}", flush=True)
 server.serve_forever()
 """

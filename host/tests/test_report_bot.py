@@ -1,6 +1,7 @@
 """Tests of the bot for reports, with a program that stands in for it."""
 import json
 import os
+import signal
 import socket
 import subprocess
 import sys
@@ -19,7 +20,10 @@ sys.path.insert(0, str(HOST))
 from gate_host import report_bot  # noqa: E402
 from gate_host.report_bot import NoReport, ReportBot, end_with, free_port  # noqa: E402
 
-from stand_in import EMPTY, SECONDS, WithStandIn, is_there  # noqa: E402
+from stand_in import EMPTY, PROGRAM, SECONDS, WithStandIn, is_built, is_there  # noqa: E402
+
+# Has the system not end the program when the host ends.
+WITHOUT_THE_SYSTEM = "report_bot.end_with = lambda host: None"
 
 
 class ReportBotTests(WithStandIn):
@@ -124,15 +128,15 @@ class ReportBotTests(WithStandIn):
             files = {os.readlink(it) for it in Path(f"/proc/{bot.process.pid}/fd").iterdir()}
         self.assertNotIn(str(self.room / "lock"), files)
 
-    def test_it_ends_with_the_host_however_that_ends(self):
-        folder = self.room / "folder"
-        folder.mkdir()
+    def ends_with_a_killed_host(self, program, more=""):
+        """A host starts the program, runs these lines before, and is killed."""
         text = f"""\
             import sys, time
             sys.path.insert(0, {str(HOST)!r})
             from pathlib import Path
-            from gate_host.report_bot import ReportBot
-            bot = ReportBot({str(self.program)!r}, Path({str(folder)!r}))
+            from gate_host import report_bot
+            {more}
+            bot = report_bot.ReportBot({str(program)!r}, Path({tempfile.mkdtemp(dir=self.room)!r}))
             assert bot.is_ready({SECONDS})
             print(bot.process.pid, flush=True)
             time.sleep(600)
@@ -144,6 +148,44 @@ class ReportBotTests(WithStandIn):
         host.wait()
         host.stdout.close()
         self.until("the bot for reports ends", lambda: not is_there(child))
+
+    def test_it_ends_with_the_host_however_that_ends(self):
+        self.behave("stays")
+        self.ends_with_a_killed_host(self.program)
+
+    def test_it_ends_with_the_host_by_its_input_alone(self):
+        """As if the system didn't end it."""
+        self.ends_with_a_killed_host(self.program, WITHOUT_THE_SYSTEM)
+        self.assertEqual(self.seen()[-1], ["end of input"])
+
+    @is_built
+    def test_the_program_ends_with_the_host(self):
+        for more in ("", WITHOUT_THE_SYSTEM):
+            self.ends_with_a_killed_host(PROGRAM, more)
+
+    def test_it_ends_in_order_when_its_input_is_closed(self):
+        """Another one that was started meanwhile has no end of its input, and goes on."""
+        bots = [self.ready(), self.ready()]
+        with mock.patch.object(report_bot, "SECONDS_TO_END", SECONDS):
+            bots[0].close()
+        self.assertEqual((bots[0].process.returncode, self.seen()[-1]), (0, ["end of input"]))
+        self.assertEqual(bots[1].queue(), EMPTY)
+
+    @is_built
+    def test_the_program_ends_in_order(self):
+        bot = ReportBot(str(PROGRAM), Path(tempfile.mkdtemp(dir=self.room)))
+        self.addCleanup(bot.close)
+        self.assertTrue(bot.is_ready(SECONDS))
+        self.assertEqual(bot.queue(), EMPTY)
+        with mock.patch.object(report_bot, "SECONDS_TO_END", SECONDS):
+            bot.close()
+        self.assertEqual(bot.process.returncode, 0)
+
+    def test_one_that_goes_on_is_killed(self):
+        self.behave("stays")
+        bot = self.ready()
+        bot.close()
+        self.assertEqual(bot.process.returncode, -signal.SIGKILL)
 
     def test_it_does_not_begin_without_a_host(self):
         for host, due in ((os.getpid(), 7), (1, 1)):

@@ -7,7 +7,7 @@ mod running;
 mod serving;
 
 use crate::records::{book_in_memory, close};
-use crate::serving::{Service, serve, serve_in_file, token_in};
+use crate::serving::{Service, routes_of, serve, serve_in_file, token_in};
 use gate_jobs::{
     Ending, Job, JobFault, WordsFault, complaint, ended, explain, no_text, read_words, status,
 };
@@ -58,14 +58,16 @@ fn done<S: Start>(rt: &HostRuntime, job: &Job, start: S) -> Result<(), JobFault>
             db,
             token,
             log,
+            until_input_ends,
         } => {
-            let token = token_in(rt, token.as_ref())?;
+            let routes = routes_of(rt, token_in(rt, token.as_ref())?)?;
             let service = Service {
                 port: *port,
                 count: *count,
                 patience: *patience,
-                token: token.as_ref(),
+                routes: &routes,
                 has_log: *log,
+                until_input_ends: *until_input_ends,
             };
             match db {
                 None => serve(rt, service),

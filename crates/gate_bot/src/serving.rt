@@ -1,30 +1,31 @@
-ghost use Rattle.std.specs.Prelude.{◌≡◌, ◌↔◌, List, length, option_copied, IfErr, IfOk, IsSome};
+ghost use Rattle.std.specs.Prelude.{◌≡◌, ◌↔◌, List, length, IfErr, IfOk, IsSome};
 ghost use Rattle.std.specs.List.{All};
 ghost use Rattle.gate_bot.specs.Program.{IsOfTokens};
 ghost use Rattle.gate_jobs.specs.Accepting.{AreAcceptedInTurn, AreEndedInTurn, Connection};
 ghost use Rattle.gate_jobs.specs.Serving.{AreAccepted, AreServedInTurn, AreServedOver, IsTakenAsNeeded};
 
 use crate::records::{book_in_file, book_in_memory, close};
-use gate_hook::Token;
+use gate_hook::{HookFault, Routes, Token};
 use gate_jobs::{Acceptor, Connections, JobFault, LineLog, Log, Silence, announce, token_of};
 use gate_queue::Fault;
 use gate_store::{Book, Keeper};
+use mio::Poll;
 use sqlite::Start;
 use std::alloc::Global;
 use std::fs::File;
-use std::io;
-use std::io::{Read, Write};
+use std::io::{self, ErrorKind, Read, Write};
 use std::net::TcpListener;
 
-/// On which port connections are served, how many, how long each is waited for in seconds, the token that a request has to bear, if any,
-/// and whether there is a log.
+/// On which port connections are served, how many, how long each is waited for in seconds, by which routes, whether there is a log, and
+/// whether they end when standard input is closed.
 #[derive(Clone, Copy)]
 pub struct Service<'a> {
     pub port: u16,
     pub count: u32,
     pub patience: u32,
-    pub token: Option<&'a Token>,
+    pub routes: &'a Routes,
     pub has_log: bool,
+    pub until_input_ends: bool,
 }
 
 /// The token that a file holds, if one is named. It is read before all else. The fault is `Token` if the file can't be read or holds none,
@@ -41,6 +42,14 @@ pub fn token_in(rt: &HostRuntime, file: Option<&String>) -> Result<Option<Token>
         Ok(mut file) => Ok(Some(token_of(rt.alloc(), &mut file)?)),
         Err(_) => Err(JobFault::Token),
     }
+}
+
+/// The routes of requests, which have to bear this token, if there is one. The fault is `Gate(Memory)` if there is no memory for them.
+pub fn routes_of(rt: &HostRuntime, token: Option<Token>) -> Result<Routes, JobFault>
+    ensures token { IfOk result (λ routes. routes ≡ token) }
+    ensures fault { IfErr result (λ fault. fault ≡ JobFault.Hook (HookFault.Gate Fault.Memory)) }
+{
+    Routes::new(rt.alloc(), token).map_err(|_| JobFault::from(Fault::Memory))
 }
 
 /// Serves connections over records in memory, which are made before the address is bound.
@@ -80,19 +89,47 @@ fn serve_on<'a, B: Book>(
 ) -> Result<(), JobFault> {
     match TcpListener::bind(rt, ("127.0.0.1", service.port)) {
         Ok(listener) => {
-            let mut connections = Connections::new(
-                rt.alloc(),
-                rt,
-                &listener,
-                service.token,
-                service.patience,
-            ).map_err(|_| JobFault::from(Fault::Memory))?;
+            let mut connections = connections_of(rt, &listener, service)?;
             announce(rt.alloc(), service.port, &mut io::writer(rt))?;
             let mut log = LineLog::new(rt.alloc(), rt, rt.stderr());
             let served = serve_with(rt.alloc(), keeper, &mut connections, &mut log, service);
+            let have_ended = connections.have_ended();
             connections.finish();
-            served
+            match served {
+                Err(JobFault::Accept) if have_ended => Ok(()),
+                served => served,
+            }
         }
+        Err(_) => Err(JobFault::Bind),
+    }
+}
+
+// The connections of a listener. The fault is `Gate(Memory)` if there is no memory for them, and `Bind` if the listener can't be waited
+// for.
+fn connections_of<'a>(
+    rt: &'a HostRuntime,
+    listener: &'a TcpListener,
+    service: Service<'a>,
+) -> Result<Connections<'a, HostRuntime>, JobFault> {
+    let made = match Poll::new(rt) {
+        Ok(poll) => Connections::new(
+            rt.alloc(),
+            rt,
+            poll,
+            listener,
+            service.routes,
+            service.patience,
+        ),
+        Err(error) => Err(error),
+    };
+    match made {
+        Ok(mut connections) => {
+            if service.until_input_ends {
+                connections.end_with_input();
+            }
+            Ok(connections)
+        }
+        Err(error) if error.kind() == ErrorKind::OutOfMemory => Err(JobFault::from(Fault::Memory)),
         Err(_) => Err(JobFault::Bind),
     }
 }
@@ -110,17 +147,16 @@ fn serve_with<B: Book, R: Read, W: Write, A: Acceptor<R, W>, L: Log>(
         × AreAcceptedInTurn connections (A.waiting acceptor.old) (A.waiting acceptor.new)
         × AreEndedInTurn (λ connection. connection.written) connections (A.ended acceptor.old) (A.ended acceptor.new)
         × AreEndedInTurn (λ connection. connection.left) connections (A.unread acceptor.old) (A.unread acceptor.new)
-        × All (IsTakenAsNeeded (option_copied service.entry.token)) connections
-        × (B.is_sound keeper.new
-        → AreServedInTurn (option_copied service.entry.token) connections (B.shows keeper.old) (B.shows keeper.new))
+        × All (IsTakenAsNeeded service.entry.routes.now) connections
+        × (B.is_sound keeper.new → AreServedInTurn service.entry.routes.now connections (B.shows keeper.old) (B.shows keeper.new))
         × (B.is_honest keeper.new
-        → AreServedOver B.shows B.is_sound (option_copied service.entry.token) connections keeper.old keeper.new) }
+        → AreServedOver B.shows B.is_sound service.entry.routes.now connections keeper.old keeper.new) }
     ensures cause { IfErr result (λ fault. fault ≡ JobFault.Accept) }
 {
-    let Service { token, count, .. } = service;
+    let Service { routes, count, .. } = service;
     if service.has_log {
-        gate_jobs::serve(alloc, keeper, token, log, acceptor, count)
+        gate_jobs::serve(alloc, keeper, routes, log, acceptor, count)
     } else {
-        gate_jobs::serve(alloc, keeper, token, &mut Silence, acceptor, count)
+        gate_jobs::serve(alloc, keeper, routes, &mut Silence, acceptor, count)
     }
 }

@@ -2,6 +2,7 @@ pub mod Asking
 pub mod Bearing
 pub mod Ending
 pub mod FirstDenials
+pub mod HeadRead
 pub mod Kept
 pub mod Losing
 pub mod Needing

@@ -82,6 +82,12 @@ sends-fault token (Err Read) fault input old new before after text is breaks sen
 sends-fault token (Err (Gate other)) fault input old new before after text is breaks sent = absurd sent
 sends-fault token (Err TooMuch) fault input old new before after text is breaks sent = absurd sent
 
+pub sends-unread : (token : Option (List ℕ)) (fault : HookFault) (input : List ℕ) (old new : Records) (written : Option (List ℕ)) → fault ≡ Read
+    → Answers token (Err fault) input old new → AnswersOne token (Err fault) input old new written written
+sends-unread token fault input old new written read is =
+    subst (λ (met : HookFault). AnswersOne token (Err met) input old new written written) (sym read)
+    (subst (λ (met : HookFault). Answers token (Err met) input old new) read is, Appends-nil written)
+
 -- THE TRANSCRIPT
 pub consumed-anyhow : {X : Type 0} (result : Result X HookFault) (before after : Option (List ℕ)) (bytes : List ℕ) → Consumes before after bytes → HasConsumed result before after bytes
 consumed-anyhow (Ok done) before after bytes consumed = consumed

@@ -6,8 +6,10 @@
 --     Served       what is sent for one request, and the records after it
 --     Denials      the rule by which a request was denied, for a log
 -- Of the other files public clauses cite `IsCutOff` (Sending), `IsInput`, `HasTaken`, `HasReadToken` and `IsEnough` (Receiving), and
--- `IsTranscript` (Responding), which cites `HasKept` (Receiving). The rest is of functions within the crate.
+-- `IsTranscript` (Responding), which cites `HasKept` (Receiving). A transcript is an `Exchange` (Exchanges). The rest is of functions
+-- within the crate.
 pub mod Denials
+pub mod Exchanges
 pub mod Lines
 pub mod Receiving
 pub mod Requests

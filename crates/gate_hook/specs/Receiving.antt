@@ -6,7 +6,7 @@ use Rattle.httparse.specs.Spans.{RequestOverflows}
 use Rattle.gate_queue.specs.declared.fault.Fault.TheVariants.{Memory}
 use Rattle.gate_hook.specs.Requests.{Asks, TakesAsNeeded, piece}
 use Rattle.gate_http.specs.declared.refusal.Refusal.{Refusal}
-use Rattle.gate_http.specs.Heads.{max_fields, max_head, ask_in, needed_by, HasNoHead, IsHeadOf}
+use Rattle.gate_http.specs.Heads.{max_fields, max_head, ask_in, needed_by, HasNoHead, IsHeadOf, IsHeadRead}
 use Rattle.gate_hook.specs.declared.fault.HookFault.{HookFault}
 use Rattle.gate_hook.specs.declared.fault.HookFault.TheVariants.{Gate, Read, Write, TooMuch}
 use Rattle.gate_http.specs.declared.head.Head.{Head}
@@ -51,13 +51,14 @@ abbrev pub Fails : Option (List ℕ) → HookFault → Option (List ℕ) → Opt
 Fails token fault before after = IsUnread fault × HasTaken token before after
 
 -- The bytes that were read begin with a head within the limit, and fewer than a piece stand behind it; or with what is left of the
--- input they have no head. If it failed, they are what was kept.
+-- input they have no head. If it failed, they are what was kept, without a head.
 abbrev pub HasReadHead : Option (List ℕ) → Result (Option Head) HookFault → Option (List ℕ) → Option (List ℕ) → List ℕ → Type 0
 HasReadHead token (Ok (Some told)) before after bytes =
     Consumes before after bytes × IsHeadOf token told bytes × (told.len ≤ max_head) × (length bytes < told.len + piece)
 HasReadHead token (Ok None) before after bytes =
     Consumes before after bytes × ((rest : List ℕ) × IsLeft after rest × HasNoHead (bytes ++ rest)) × (length bytes ≤ max_head)
-HasReadHead token (Err fault) before after bytes = Fails token fault before after × HasKept before after bytes
+    × IsHeadRead None bytes
+HasReadHead token (Err fault) before after bytes = Fails token fault before after × HasKept before after bytes × IsHeadRead None bytes
 
 -- There are no more bytes, or they end within so many behind the first `front`.
 abbrev pub EndsWithin : (old more : List ℕ) (front size : ℕ) → Type 0

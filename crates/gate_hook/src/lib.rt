@@ -14,7 +14,7 @@ mod sending;
 pub use denials::denial_in;
 pub use fault::HookFault;
 pub use gate_deliveries::{DeliveryFault, Field, error_text, read_delivery};
-pub use gate_http::{RequestLine, Token, request_line};
+pub use gate_http::{RequestLine, Routes, Token};
 pub use laws::{law_of_lines, law_of_requests};
 pub use lines::serve_lines;
 pub use receiving::{is_enough, read_token};

@@ -1,10 +1,9 @@
-ghost use Rattle.std.specs.Prelude.{◌≡◌, ◌<◌, ◌≤◌, [], length, IfOk, option_copied};
+ghost use Rattle.std.specs.Prelude.{◌≡◌, ◌<◌, ◌≤◌, [], length};
 ghost use Rattle.gate_hook.specs.Receiving.{IsEnough, IsRead, IsMore, HasReadHead, HasReadBody, HasReadToken};
 
 use crate::fault::HookFault;
-use gate_http::{Found, Head, MAX_HEAD, MAX_TOKEN, Token, head_in};
-use gate_queue::Fault;
-use std::alloc::{AllocError, Global};
+use gate_http::{Found, Head, MAX_HEAD, MAX_TOKEN, Routes, Token, head_in};
+use std::alloc::Global;
 use std::io::Read;
 
 // So many bytes are no token, whatever comes behind them: those of the longest, and of the end of a line, and one more.
@@ -43,21 +42,18 @@ fn read_more<R: Read>(reader: &mut R, bytes: &mut Vec<u8>, room: usize) -> Resul
 /// Reads until the head of a request is whole, or shows that there is none within the limits. It asks for no byte more once it
 /// knows.
 pub fn read_head<R: Read>(
-    alloc: Global,
-    token: Option<&Token>,
+    routes: &Routes,
     reader: &mut R,
     bytes: &mut Vec<u8>,
 ) -> Result<Option<Head>, HookFault>
     requires { bytes.old.items ≡ [] }
-    ensures { HasReadHead (option_copied token.entry) result (R.remaining reader.old)
-        (R.remaining reader.new) bytes.new.items }
+    ensures { HasReadHead routes.now result (R.remaining reader.old) (R.remaining reader.new) bytes.new.items }
 {
     loop {
-        match head_in(alloc, token, bytes) {
-            Ok(Found::Whole(head)) => return Ok(Some(head)),
-            Ok(Found::Never) => return Ok(None),
-            Ok(Found::Unfinished) => {}
-            Err(_) => return Err(HookFault::Gate(Fault::Memory)),
+        match head_in(routes, bytes) {
+            Found::Whole(head) => return Ok(Some(head)),
+            Found::Never => return Ok(None),
+            Found::Unfinished => {}
         }
         let room = MAX_HEAD - bytes.len();
         if room == 0 {
@@ -93,16 +89,14 @@ pub fn read_body<R: Read>(
     Ok(())
 }
 
-/// Whether these bytes of a request are as many as its answer needs, if this token is needed, or none; so that no byte more is waited
-/// for. `AllocError` if there is no memory to tell.
-pub fn is_enough(alloc: Global, token: Option<&Token>, bytes: &[u8]) -> Result<bool, AllocError>
-    ensures value { IfOk result (λ enough. IsEnough (option_copied token.entry) enough bytes.now) }
+/// Whether these bytes of a request are as many as its answer needs, by these routes, so that no byte more is waited for.
+pub fn is_enough(routes: &Routes, bytes: &[u8]) -> bool
+    ensures value { IsEnough routes.now result bytes.now }
 {
-    match head_in(alloc, token, bytes) {
-        Ok(Found::Whole(head)) => Ok(head.needed() <= bytes.len().saturating_sub(head.len)),
-        Ok(Found::Unfinished) => Ok(bytes.len() >= MAX_HEAD),
-        Ok(Found::Never) => Ok(true),
-        Err(error) => Err(error),
+    match head_in(routes, bytes) {
+        Found::Whole(head) => head.needed() <= bytes.len().saturating_sub(head.len),
+        Found::Unfinished => bytes.len() >= MAX_HEAD,
+        Found::Never => true,
     }
 }
 

@@ -1,4 +1,4 @@
-ghost use Rattle.std.specs.Prelude.{◌≡◌, ◌≤◌, ◌↔◌, ℕ, List, [], Ok, Some, None, IfSome, IsSome, length, option_copied, drop, IfOk, IfErr, OnErr, OnOk, ◌⊎◌, false};
+ghost use Rattle.std.specs.Prelude.{◌≡◌, ◌≤◌, ◌↔◌, ℕ, List, [], Ok, Some, None, IfSome, IsSome, length, drop, IfOk, IfErr, OnErr, OnOk, ◌⊎◌, false};
 ghost use Rattle.std.specs.Option.{option_map};
 ghost use Rattle.std.specs.String.{string_bytes};
 ghost use Rattle.gate_store.specs.Outlasting.{Outlasts, RemainsSound};
@@ -7,7 +7,8 @@ ghost use Rattle.gate_deliveries.specs.Deliveries.{delivery_of};
 ghost use Rattle.gate_hook.specs.Receiving.{HasAsked, HasTaken, IsInput};
 ghost use Rattle.gate_hook.specs.Requests.{asked_by, delivery_or_refusal};
 ghost use Rattle.gate_hook.specs.Responding.{Answers, HasConsumed, HasSent, IsTranscript, MakesAnyhow, MayFail, Responds, RespondsAnyhow};
-ghost use Rattle.gate_http.specs.Responses.{IsResponse};
+ghost use Rattle.gate_http.specs.Heads.{IsHeadRead, IsLineOf};
+ghost use Rattle.gate_http.specs.Responses.{IsResponse, fault_response, response_text};
 ghost use Rattle.gate_hook.specs.declared.requests.Request.TheVariants.{Delivery as DeliveryOf, Report as ReportOf};
 ghost use Rattle.gate_hook.specs.Served.{AnswersAnyhow, AnswersOne, AsksNoDelivery, StaysServing, report_in, response_to, response_to_report};
 ghost use Rattle.gate_hook.specs.Serving.{StaysSound};
@@ -18,7 +19,8 @@ use crate::receiving::{read_body, read_head};
 use crate::sending::send;
 use gate_deliveries::{DeliveryFault, read_delivery};
 use gate_http::{
-    Ask, Head, Refusal, Report, Response, Token, json_response, refusal_response, report_response,
+    Ask, Head, Refusal, Report, RequestLine, Response, Routes, json_response, refusal_response,
+    report_response,
 };
 use gate_queue::{Fault, Gate};
 use gate_report::{change_text, queue_text};
@@ -26,6 +28,7 @@ use gate_store::{Book, Delivery, Keeper};
 use http::StatusCode;
 use std::alloc::{AllocError, Global};
 use std::io::{Read, Write};
+use std::marker::Model;
 
 // The response after a fault. It takes no memory.
 const UNAVAILABLE: &str =
@@ -40,25 +43,63 @@ pub struct Served {
     pub fault: Option<Fault>,
 }
 
-/// What came in and what went out of one request. It isn't to be printed, since a head may bear a token.
+/// What came in and what went out of one request. It isn't to be printed, since a head may bear a token. A contract sees an `Exchange`,
+/// which is the bytes of both.
 #[derive(Drop)]
 pub struct Transcript {
-    /// The bytes that were taken of the input. If there was no memory for the last ones, these are missing.
-    pub request: Vec<u8>,
-    /// The response, if it was written whole, and isn't the one after a fault.
-    pub response: String,
+    request: Vec<u8>,
+    // The head of the request, as it was read.
+    head: Option<Head>,
+    response: String,
+}
+
+impl Model for Transcript {
+    ghost use Rattle.std.specs.String.{string_bytes};
+    ghost use Rattle.gate_http.specs.Heads.{IsHeadRead};
+    ghost use Rattle.gate_hook.specs.Exchanges.{Exchange};
+
+    ghost Value = { Exchange };
+
+    ghost view = { λ inside. record { request = inside.request.items; response = string_bytes inside.response } };
+
+    ghost invariant = { λ inside. IsHeadRead inside.head inside.request.items };
 }
 
 impl Transcript {
     /// One in which nothing stands yet. It takes no memory.
     pub fn new(alloc: Global) -> Transcript
-        ensures request { result.request.items ≡ [] }
-        ensures response { string_bytes result.response ≡ [] }
+        ensures request { result.request ≡ [] }
+        ensures response { result.response ≡ [] }
     {
         Transcript {
             request: Vec::new(alloc),
+            head: None,
             response: String::new(alloc),
         }
+    }
+
+    /// The bytes that were taken of the input. If there was no memory for the last ones, these are missing.
+    pub fn request(&self) -> &[u8]
+        ensures request { result.now ≡ self.now.request }
+    {
+        self.request.as_slice()
+    }
+
+    /// The method and the path of the request, if it has a head of at most 64 fields.
+    pub fn line(&self) -> Option<RequestLine<'_>>
+        ensures line { IsLineOf result self.now.request }
+    {
+        match self.head {
+            Some(head) => Some(head.line(self.request.as_slice())),
+            None => None,
+        }
+    }
+
+    /// The response, if it was written whole, and isn't the one after a fault.
+    pub fn response(&self) -> &str
+        ensures response { result.now ≡ self.now.response }
+    {
+        self.response.as_str()
     }
 }
 
@@ -101,27 +142,31 @@ fn wish_in(alloc: Global, bytes: &[u8], head: &Head) -> Result<Wish, AllocError>
     }
 }
 
-// Reads a request, as far as its answer needs.
+// Reads a request, as far as its answer needs, and has its head told if there is one.
 fn read_wish<R: Read>(
     alloc: Global,
-    token: Option<&Token>,
+    routes: &Routes,
     reader: &mut R,
     bytes: &mut Vec<u8>,
+    head: &mut Option<Head>,
 ) -> Result<Wish, HookFault>
     requires { bytes.old.items ≡ [] }
-    ensures asked { HasAsked (option_copied token.entry) result (R.remaining reader.old) (R.remaining reader.new) }
+    ensures asked { HasAsked routes.now result (R.remaining reader.old) (R.remaining reader.new) }
     ensures consumed { HasConsumed result (R.remaining reader.old) (R.remaining reader.new) bytes.new.items }
+    ensures head { IsHeadRead head.new bytes.new.items }
 {
-    let head = match read_head(alloc, token, reader, bytes) {
-        Ok(Some(head)) => head,
+    *head = None;
+    let found = match read_head(routes, reader, bytes) {
+        Ok(Some(found)) => found,
         Ok(None) => return Ok(Err(Refusal::BadRequest)),
         Err(fault) => return Err(fault),
     };
-    match read_body(reader, bytes, head.len, head.needed()) {
+    *head = Some(found);
+    match read_body(reader, bytes, found.len, found.needed()) {
         Ok(()) => {}
         Err(fault) => return Err(fault),
     }
-    Ok(wish_in(alloc, bytes, &head)?)
+    Ok(wish_in(alloc, bytes, &found)?)
 }
 
 // The response to a delivery.
@@ -210,28 +255,30 @@ fn respond<B: Book>(
     }
 }
 
-// Reads a request, and makes its response.
+// Reads a request, has its head told if there is one, and makes its response.
 fn answer<B: Book, R: Read>(
     alloc: Global,
     keeper: &mut Keeper<B>,
-    token: Option<&Token>,
+    routes: &Routes,
     reader: &mut R,
     bytes: &mut Vec<u8>,
+    head: &mut Option<Head>,
 ) -> Result<Response, HookFault>
     requires { bytes.old.items ≡ [] }
     ensures consumed { HasConsumed result (R.remaining reader.old) (R.remaining reader.new) bytes.new.items }
+    ensures head { IsHeadRead head.new bytes.new.items }
     ensures answered { (input : List ℕ) × IsInput (R.remaining reader.old) (R.remaining reader.new) input
         × (B.is_sound keeper.new
-        → Answers (option_copied token.entry) result input (B.shows keeper.old) (B.shows keeper.new)) }
+        → Answers routes.now result input (B.shows keeper.old) (B.shows keeper.new)) }
     ensures anyhow { B.is_honest keeper.new → B.is_sound keeper.new
         ⊎ ((input : List ℕ) × IsInput (R.remaining reader.old) (R.remaining reader.new) input
-        × MakesAnyhow (option_copied token.entry) result input) }
-    ensures taken { HasTaken (option_copied token.entry) (R.remaining reader.old) (R.remaining reader.new) }
+        × MakesAnyhow routes.now result input) }
+    ensures taken { HasTaken routes.now (R.remaining reader.old) (R.remaining reader.new) }
     ensures outlasts { Outlasts B.Book keeper.old keeper.new }
     ensures stays { RemainsSound B.Book keeper.old keeper.new (StaysSound result) }
     ensures cause { IfErr result (MayFail B.may_answer) }
 {
-    let wish = match read_wish(alloc, token, reader, bytes) {
+    let wish = match read_wish(alloc, routes, reader, bytes, head) {
         Ok(wish) => wish,
         Err(fault) => return Err(fault),
     };
@@ -244,6 +291,18 @@ fn send_as<W: Write>(writer: &mut W, text: &str, served: Served) -> Result<Serve
 {
     send(writer, text.as_bytes())?;
     Ok(served)
+}
+
+// Sends the response after this fault.
+fn send_unavailable<W: Write>(writer: &mut W, fault: Fault) -> Result<Served, HookFault>
+    ensures { HasSent result (record { status = 503; fault = Some fault }) (response_text fault_response)
+        (W.contents writer.old) (W.contents writer.new) }
+{
+    let served = Served {
+        status: StatusCode::SERVICE_UNAVAILABLE,
+        fault: Some(fault),
+    };
+    send_as(writer, UNAVAILABLE, served)
 }
 
 // Sends a response, and has it told if all of it was written.
@@ -268,35 +327,36 @@ fn send_response<W: Write>(
     sent
 }
 
-/// Serves one request as `serve_one` does, but if a token is given, a request that doesn't bear it is refused first, whatever else it
-/// is: a head without exactly one field `Authorization`, of the scheme `Bearer` and with this token (RFC 6750, section 2.1), gets the
-/// status 401. Its body isn't waited for; up to 1,023 bytes of it may be taken with the head. Input without a head is refused as ever.
+/// Serves one request as `serve_one` does, but if the routes ask for a token, a request that doesn't bear it is refused first,
+/// whatever else it is: a head without exactly one field `Authorization`, of the scheme `Bearer` and with this token (RFC 6750,
+/// section 2.1), gets the status 401. Its body isn't waited for; up to 1,023 bytes of it may be taken with the head. Input
+/// without a head is refused as ever.
 ///
 /// Into the transcript it puts what came in and what went out, in place of what stood there. All else is said at `serve_one`.
 pub fn serve_guarded<B: Book, R: Read, W: Write>(
     alloc: Global,
     keeper: &mut Keeper<B>,
-    token: Option<&Token>,
+    routes: &Routes,
     transcript: &mut Transcript,
     reader: &mut R,
     writer: &mut W,
 ) -> Result<Served, HookFault>
     // Whatever comes of it, the transcript has what was taken of the input, and the response, and nothing else.
-    ensures transcript { IsTranscript result transcript.new.request.items (string_bytes transcript.new.response)
+    ensures transcript { IsTranscript result transcript.new.request transcript.new.response
         (R.remaining reader.old) (R.remaining reader.new) (W.contents writer.old) (W.contents writer.new) }
 
     // What is written, and the records after it, are those that the input asks for.
     ensures served { (input : List ℕ) × IsInput (R.remaining reader.old) (R.remaining reader.new) input
         × (B.is_sound keeper.new
-        → AnswersOne (option_copied token.entry) result input (B.shows keeper.old) (B.shows keeper.new)
+        → AnswersOne routes.now result input (B.shows keeper.old) (B.shows keeper.new)
         (W.contents writer.old) (W.contents writer.new)) }
 
     // Of the input no more is taken than the answer needs, whatever comes of it.
-    ensures taken { HasTaken (option_copied token.entry) (R.remaining reader.old) (R.remaining reader.new) }
+    ensures taken { HasTaken routes.now (R.remaining reader.old) (R.remaining reader.new) }
 
     // Input that asks for no delivery leaves the records as they were.
     ensures same { B.is_sound keeper.new → (input : List ℕ) → R.remaining reader.old ≡ Some input
-        → AsksNoDelivery (option_copied token.entry) input → B.shows keeper.new ≡ B.shows keeper.old }
+        → AsksNoDelivery routes.now input → B.shows keeper.new ≡ B.shows keeper.old }
 
     // It ends by a failed read or a failed write alone.
     ensures ends { IfErr result (λ fault. (fault ≡ HookFault.Read) ⊎ (fault ≡ HookFault.Write)) }
@@ -319,19 +379,14 @@ pub fn serve_guarded<B: Book, R: Read, W: Write>(
     // gets 503, and a refusal is sent as ever. A report gets 503 too, or is of a state that was at hand.
     ensures anyhow { B.is_honest keeper.new → B.is_sound keeper.new
         ⊎ ((input : List ℕ) × IsInput (R.remaining reader.old) (R.remaining reader.new) input
-        × AnswersAnyhow (option_copied token.entry) result input (W.contents writer.old) (W.contents writer.new)) }
+        × AnswersAnyhow routes.now result input (W.contents writer.old) (W.contents writer.new)) }
 {
     transcript.request.clear();
     transcript.response.clear();
-    match answer(alloc, keeper, token, reader, &mut transcript.request) {
+    let request = &mut transcript.request;
+    match answer(alloc, keeper, routes, reader, request, &mut transcript.head) {
         Ok(response) => send_response(writer, response, &mut transcript.response),
-        Err(HookFault::Gate(fault)) => {
-            let served = Served {
-                status: StatusCode::SERVICE_UNAVAILABLE,
-                fault: Some(fault),
-            };
-            send_as(writer, UNAVAILABLE, served)
-        }
+        Err(HookFault::Gate(fault)) => send_unavailable(writer, fault),
         Err(fault) => Err(fault),
     }
 }
@@ -340,11 +395,12 @@ pub fn serve_guarded<B: Book, R: Read, W: Write>(
 /// report that it asks for, and writes one response. It asks for no more bytes once the answer is known. Up to 1,023 bytes behind the
 /// head may have been taken with it.
 ///
-/// Deliveries go to `POST /deliveries`; reports are `GET /queue` and `GET /changes/{n}`. A report changes nothing, and neither does a
-/// request that is refused; the checks stand in `specs/Heads.antt` of gate_http and in `specs/Requests.antt`, in their order, and in
-/// `specs/Served.antt` the last one of a report, that its change was opened. After a fault of the keeper, or if there is no memory for a
-/// request or a response, the status is 503, and the response takes no memory. Nothing has changed then; but after `Memory` the delivery
-/// may have acted, with its answer kept. Whatever the fault, an answer that is kept is sent if the delivery is handed in again.
+/// Deliveries go to `POST /deliveries`; reports are `GET /queue` and `GET /changes/{n}`. A report changes nothing, and neither
+/// does a request that is refused; the checks stand in `specs/Heads.antt` of gate_http and in `specs/Requests.antt`, in their
+/// order, and in `specs/Served.antt` the last one of a report, that its change was opened. After a fault of the keeper, or if
+/// there is no memory for the routes, a request or a response, the status is 503, and the response takes no memory. Nothing has
+/// changed then; but after `Memory` the delivery may have acted, with its answer kept. Whatever the fault, an answer that is kept
+/// is sent if the delivery is handed in again.
 ///
 /// The two errors are `Read`, after which nothing is written and nothing has changed, and `Write`, after which a part of the
 /// response, but not all, is written, and a delivery that acted stays. The writer isn't flushed.
@@ -393,9 +449,13 @@ pub fn serve_one<B: Book, R: Read, W: Write>(
         ⊎ ((input : List ℕ) × IsInput (R.remaining reader.old) (R.remaining reader.new) input
         × AnswersAnyhow None result input (W.contents writer.old) (W.contents writer.new)) }
 {
+    let Ok(routes) = Routes::new(alloc, None) else {
+        return send_unavailable(writer, Fault::Memory);
+    };
     let mut transcript = Transcript::new(alloc);
-    let served = serve_guarded(alloc, keeper, None, &mut transcript, reader, writer);
+    let served = serve_guarded(alloc, keeper, &routes, &mut transcript, reader, writer);
     // By name, since what ends with its function is dear to prove.
     drop(transcript);
+    drop(routes);
     served
 }

@@ -1,4 +1,5 @@
 use crate::checks::check_words;
+use crate::guarded::routes_of;
 use crate::logs::line_over;
 use crate::requests::REQUEST;
 use gate_hook::{serve_lines, serve_one};
@@ -139,7 +140,9 @@ fn a_report_of_a_broken_book(rt: HostRuntime) {
 #[test]
 fn a_line_of_a_broken_book(rt: HostRuntime) {
     let book = broken_book(rt.alloc(), Broken::Kept);
-    let found = line_over(&rt, rt.alloc(), book, None, 45_296, REQUEST);
+    let routes = routes_of(&rt, rt.alloc(), None);
+    let found = line_over(&rt, rt.alloc(), book, &routes, 45_296, REQUEST);
+    drop(routes);
     check_words(
         &rt,
         REQUEST,

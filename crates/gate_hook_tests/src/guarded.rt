@@ -3,7 +3,7 @@ use crate::fakes::{Run, Sink, Source};
 use crate::parts::row_of;
 use crate::requests::{REQUEST, RESPONSE};
 use crate::runs::request;
-use gate_hook::{Token, Transcript, read_token, serve_guarded};
+use gate_hook::{Routes, Token, Transcript, read_token, serve_guarded};
 use gate_queue::Gate;
 use gate_store::{Keeper, PlainBook};
 use std::alloc::Global;
@@ -20,8 +20,17 @@ fn token_of(rt: &impl Abort, alloc: Global, text: &str) -> Token {
         .expect(rt, "a token")
 }
 
-// What a bot that needs this token answers to a run, and how much of it is read.
-fn check_guarded(rt: &impl Abort, alloc: Global, token: &Token, run: &Run<'_>) {
+/// The routes of a bot that needs this token, if one is given.
+pub(crate) fn routes_of(rt: &impl Abort, alloc: Global, token: Option<&str>) -> Routes {
+    let token = match token {
+        Some(text) => Some(token_of(rt, alloc, text)),
+        None => None,
+    };
+    Routes::new(alloc, token).expect(rt, "memory")
+}
+
+// What a bot with these routes answers to a run, and how much of it is read.
+fn check_guarded(rt: &impl Abort, alloc: Global, routes: &Routes, run: &Run<'_>) {
     let mut keeper = Keeper::new(PlainBook::new(alloc, Gate::new(alloc)));
     let mut source = Source::new(run);
     let mut sink = Sink::new(run);
@@ -29,7 +38,7 @@ fn check_guarded(rt: &impl Abort, alloc: Global, token: &Token, run: &Run<'_>) {
     let served = serve_guarded(
         alloc,
         &mut keeper,
-        Some(token),
+        routes,
         &mut transcript,
         &mut source,
         &mut sink,
@@ -46,18 +55,18 @@ fn check_guarded(rt: &impl Abort, alloc: Global, token: &Token, run: &Run<'_>) {
 }
 
 // The same request with these fields besides, which begin behind its first line.
-fn check_fields(rt: &impl Abort, alloc: Global, token: &Token, fields: &str, output: &str) {
+fn check_fields(rt: &impl Abort, alloc: Global, routes: &Routes, fields: &str, output: &str) {
     let (line, rest) = REQUEST.split_once("\r\n").unwrap_or((REQUEST, ""));
     let fields = fields.replace(alloc, "|", "\r\n").expect(rt, "memory");
     let input = format!(in alloc; "{line}\r\n{fields}\r\n{rest}").expect(rt, "memory");
-    check_guarded(rt, alloc, token, &request(input.as_str(), output));
+    check_guarded(rt, alloc, routes, &request(input.as_str(), output));
 }
 
 // Each row is of the fields of a request, which end in a bar, and of the status of its response.
 #[test]
 fn requests_that_bear_a_token(rt: HostRuntime) {
     let alloc = rt.alloc();
-    let token = token_of(&rt, alloc, "s3cret==");
+    let routes = routes_of(&rt, alloc, Some("s3cret=="));
     let table = "
         Authorization: Bearer s3cret== => 200
         authorization: bearer s3cret== => 200
@@ -89,17 +98,17 @@ fn requests_that_bear_a_token(rt: HostRuntime) {
             } else {
                 UNAUTHORIZED
             };
-            check_fields(&rt, alloc, &token, fields, output);
+            check_fields(&rt, alloc, &routes, fields, output);
         }
     }
-    drop(token);
+    drop(routes);
 }
 
 // Nothing but the head is looked at before the token, and the body isn't read.
 #[test]
 fn the_token_comes_first(rt: HostRuntime) {
     let alloc = rt.alloc();
-    let token = token_of(&rt, alloc, "s3cret");
+    let routes = routes_of(&rt, alloc, Some("s3cret"));
     for head in [
         "GET /nowhere HTTP/1.1\r\n\r\n",
         "PUT /deliveries HTTP/1.1\r\nHost: here\r\nTransfer-Encoding: chunked\r\n\r\n",
@@ -112,9 +121,9 @@ fn the_token_comes_first(rt: HostRuntime) {
             reads: Some(head.len()),
             ..request(input.as_str(), UNAUTHORIZED)
         };
-        check_guarded(&rt, alloc, &token, &run);
+        check_guarded(&rt, alloc, &routes, &run);
     }
-    drop(token);
+    drop(routes);
 }
 
 const BAD_REQUEST: &str =
@@ -123,10 +132,10 @@ const BAD_REQUEST: &str =
 // What is no head is refused as ever.
 #[test]
 fn no_head_for_a_token(rt: HostRuntime) {
-    let token = token_of(&rt, rt.alloc(), "s3cret");
+    let routes = routes_of(&rt, rt.alloc(), Some("s3cret"));
     let run = request("hello\r\n\r\n", BAD_REQUEST);
-    check_guarded(&rt, rt.alloc(), &token, &run);
-    drop(token);
+    check_guarded(&rt, rt.alloc(), &routes, &run);
+    drop(routes);
 }
 
 // Whether a file with this text holds a token.

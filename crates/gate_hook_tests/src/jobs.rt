@@ -1,4 +1,5 @@
 use crate::checks::{check_that, check_words};
+use crate::guarded::routes_of;
 use crate::requests::{POST_ALONE, REQUEST, RESPONSE};
 use gate_hook::HookFault;
 use gate_jobs::{
@@ -7,6 +8,7 @@ use gate_jobs::{
 };
 use gate_queue::{Fault, Gate};
 use gate_store::{Keeper, PlainBook};
+use mio::Poll;
 use std::alloc::Global;
 use std::io::{self, Error, ErrorKind, Write};
 use std::net::{Net, TcpListener, TcpStream};
@@ -20,11 +22,17 @@ fn job_words(rt: &impl Abort, alloc: Global, job: &Job) -> String {
         Job::Run { db: Some(db) } => format!(in alloc; "Run {db}"),
         Job::Serve {
             port,
+            until_input_ends: true,
+            ..
+        } => format!(in alloc; "Serve {port} until input ends"),
+        Job::Serve {
+            port,
             count,
             patience,
             db: None,
             token: None,
             log: false,
+            ..
         } => format!(in alloc; "Serve {port} {count} {patience}"),
         Job::Serve {
             port,
@@ -33,6 +41,7 @@ fn job_words(rt: &impl Abort, alloc: Global, job: &Job) -> String {
             db: Some(db),
             token: None,
             log: false,
+            ..
         } => format!(in alloc; "Serve {port} {count} {patience} {db}"),
         Job::Serve {
             port,
@@ -110,6 +119,10 @@ fn words_ask_for_jobs(rt: HostRuntime) {
         serve --port 8080 --count 2 --log yes => Usage
         serve --port 8080 --count 2 --log=yes => Usage
         run --log => Usage
+        serve --port 8080 --until-input-ends --count 2 => Serve 8080 until input ends
+        serve --port 8080 --count 2 --until-input-ends --until-input-ends => Usage
+        serve --port 8080 --count 2 --until-input-ends=yes => Usage
+        run --until-input-ends => Usage
         serve --port 8080 --count 2 --patience 0 => Usage
         serve --port 8080 --count 2 --patience 3601 => Usage
         serve --port 8080 --count 2 --patience => Usage
@@ -190,11 +203,25 @@ fn check_answer(rt: &impl Abort, alloc: Global, stream: TcpStream, due: &str) {
 }
 
 // Over a book without a database: what `serve` does is the same over any book.
-fn serve_two<'a, R: Abort + Clock>(rt: &'a R, alloc: Global, listener: &'a TcpListener) {
+fn serve_two<'a, R: Abort + Clock + Net>(rt: &'a R, alloc: Global, listener: &'a TcpListener) {
     let mut keeper = Keeper::new(PlainBook::new(alloc, Gate::new(alloc)));
-    let mut connections = Connections::new(alloc, rt, listener, None, 1).expect(rt, "memory");
-    let is_done = serve(alloc, &mut keeper, None, &mut Silence, &mut connections, 2).is_ok();
+    let routes = routes_of(rt, alloc, None);
+    let poll = Poll::new(rt).expect(rt, "a poll");
+    let mut connections = Connections::new(alloc, rt, poll, listener, &routes, 1).expect(
+        rt,
+        "connections",
+    );
+    let is_done = serve(
+        alloc,
+        &mut keeper,
+        &routes,
+        &mut Silence,
+        &mut connections,
+        2,
+    )
+    .is_ok();
     connections.finish();
+    drop(routes);
     drop(keeper);
     check_that(rt, "serve", is_done);
 }
@@ -256,8 +283,10 @@ fn serves_any_connections(rt: HostRuntime) {
         alloc,
     };
     let mut keeper = Keeper::new(PlainBook::new(alloc, Gate::new(alloc)));
-    let served = serve(alloc, &mut keeper, None, &mut Silence, &mut texts, 4);
+    let routes = routes_of(&rt, alloc, None);
+    let served = serve(alloc, &mut keeper, &routes, &mut Silence, &mut texts, 4);
     drop(keeper);
+    drop(routes);
     check_that(
         &rt,
         "the fourth connection",

@@ -1,6 +1,7 @@
 use crate::checks::check_words;
+use crate::guarded::routes_of;
 use crate::requests::REQUEST;
-use gate_hook::{HookFault, Served, Token, Transcript, serve_guarded};
+use gate_hook::{HookFault, Routes, Served, Transcript, serve_guarded};
 use gate_jobs::log_line;
 use gate_queue::Gate;
 use gate_store::{Book, Keeper, PlainBook};
@@ -8,16 +9,10 @@ use std::alloc::Global;
 use std::io;
 use std::process::Abort;
 
-// The line of a request to a bot of its own, which needs a token if one is given, at this second of 1970.
-fn line_of(
-    rt: &impl Abort,
-    alloc: Global,
-    token: Option<&Token>,
-    seconds: u64,
-    request: &str,
-) -> String {
+// The line of a request to a bot of its own, with these routes, at this second of 1970.
+fn line_of(rt: &impl Abort, alloc: Global, routes: &Routes, seconds: u64, request: &str) -> String {
     let book = PlainBook::new(alloc, Gate::new(alloc));
-    line_over(rt, alloc, book, token, seconds, request)
+    line_over(rt, alloc, book, routes, seconds, request)
 }
 
 /// The same over any book.
@@ -25,7 +20,7 @@ pub(crate) fn line_over<B: Book + Drop>(
     rt: &impl Abort,
     alloc: Global,
     book: B,
-    token: Option<&Token>,
+    routes: &Routes,
     seconds: u64,
     request: &str,
 ) -> String {
@@ -34,7 +29,7 @@ pub(crate) fn line_over<B: Book + Drop>(
     let served = serve_guarded(
         alloc,
         &mut keeper,
-        token,
+        routes,
         &mut transcript,
         &mut request.as_bytes(),
         &mut io::sink(),
@@ -56,7 +51,9 @@ fn line_by(
 }
 
 fn check_line(rt: &impl Abort, alloc: Global, seconds: u64, request: &str, due: &str) {
-    let found = line_of(rt, alloc, None, seconds, request);
+    let routes = routes_of(rt, alloc, None);
+    let found = line_of(rt, alloc, &routes, seconds, request);
+    drop(routes);
     check_words(rt, request, found.as_str(), due);
 }
 
@@ -98,18 +95,16 @@ fn lines_of_a_log(rt: HostRuntime) {
 #[test]
 fn a_log_with_a_token(rt: HostRuntime) {
     let alloc = rt.alloc();
-    let token = Token::read(alloc, b"s3cret")
-        .expect(&rt, "memory")
-        .expect(&rt, "a token");
+    let routes = routes_of(&rt, alloc, Some("s3cret"));
     for (sent, status) in [("s3cret", "200"), ("other", "401")] {
         let request = format!(in alloc;
             "GET /queue?access_token={sent} HTTP/1.1\r\nHost: here\r\nAuthorization: Bearer {sent}\r\n\r\n"
         ).expect(&rt, "memory");
         let due = format!(in alloc; "00:00:00Z GET /queue {status}\n").expect(&rt, "memory");
-        let found = line_of(&rt, alloc, Some(&token), 0, request.as_str());
+        let found = line_of(&rt, alloc, &routes, 0, request.as_str());
         check_words(&rt, sent, found.as_str(), due.as_str());
     }
-    drop(token);
+    drop(routes);
 }
 
 // A path is cut, and what couldn't be served shows the fault.

@@ -13,7 +13,7 @@ use Rattle.gate_http.proofs.Numerals.{both}
 use Rattle.gate_http.proofs.Walks.{are_bytes, is_byte}
 use Rattle.gate_http.specs.Routes.{change_route}
 use Rattle.gate_http.specs.Targets.{before_number}
-use Rattle.gate_http.specs.declared.target.Route.{Route}
+use Rattle.gate_http.specs.declared.routes.Route.{Route}
 
 -- bytes of a pattern stand for one byte of the path each
 past-bytes : (w rest : List ℕ) (len token at : ℕ) → are_bytes w ≡ true → at + length w ≤ len

@@ -17,8 +17,8 @@ use Rattle.gate_http.proofs.Walks.{nothing, seek-byte, seek-front, seek-none, se
 use Rattle.gate_http.specs.Routes.{change_route, deliveries_route, queue_route, the_routes}
 use Rattle.gate_http.specs.Targets.{before_number, change_of, target_of}
 use Rattle.gate_http.specs.declared.target.Report.TheVariants.{Queue as TheQueue}
-use Rattle.gate_http.specs.declared.target.Route.{Route}
-use Rattle.gate_http.specs.declared.target.Route.TheVariants.{Change, Deliveries, Queue}
+use Rattle.gate_http.specs.declared.routes.Route.{Route}
+use Rattle.gate_http.specs.declared.routes.Route.TheVariants.{Change, Deliveries, Queue}
 use Rattle.gate_http.specs.declared.target.Target.TheVariants.{Deliveries as ToDeliveries, Report as ToReport}
 
 -- what it tells of a path that a route was found

@@ -6,7 +6,7 @@ use Rattle.std.specs.Char.{is_ascii_digit, to_ascii_lowercase}
 use Rattle.std.specs.Str.{bytes_eq}
 use Rattle.std.specs.Str.Parse.{digits_value}
 use Rattle.httparse.specs.Grammar.{RequestHead, ReadsRequest, HasNoRequest, print_request}
-use Rattle.httparse.specs.Spans.{RequestOverflows, name_and_value}
+use Rattle.httparse.specs.Spans.{IsWithin, RequestOverflows, name_and_value, span_bytes}
 use Rattle.gate_text.specs.Steps.{◌>>=◌}
 use Rattle.gate_http.specs.Targets.{method_of, target_of}
 use Rattle.gate_http.specs.Tokens.{is_let_in}
@@ -128,11 +128,19 @@ abbrev pub first_value : List (List ℕ) → Option (List ℕ)
 first_value [] = None
 first_value (value ∷ others) = Some value
 
+-- the method and the target of this head stand in the bytes, where it is told
+pub record IsLineAt (told : Head) (bytes : List ℕ) (head : RequestHead) : Type 0 where
+  pub method_within : IsWithin (length bytes) told.method
+  pub target_within : IsWithin (length bytes) told.target
+  pub method : span_bytes bytes told.method ≡ head.method
+  pub target : span_bytes bytes told.target ≡ head.target
+
 -- these bytes begin with a head, of which this is told, if this token is needed, or none
 pub record IsHeadOf (token : Option (List ℕ)) (told : Head) (bytes : List ℕ) : Type 0 where
   pub head : RequestHead
   pub reads : ReadsRequest bytes head (drop told.len bytes)
   pub len : told.len ≡ length (print_request head)
+  pub line : IsLineAt told bytes head
   pub fields : length head.fields ≤ max_fields
   pub ask : told.ask ≡ ask_in token head
 
@@ -146,3 +154,12 @@ abbrev pub IsLineOf : Option RequestLine → List ℕ → Type 0
 IsLineOf None bytes = HasNoRequest bytes ⊎ RequestOverflows max_fields bytes
 IsLineOf (Some line) bytes =
     (head : RequestHead) × (rest : List ℕ) × ReadsRequest bytes head rest × (line.method.now ≡ head.method) × (line.path.now ≡ path_of head.target)
+
+-- these bytes begin with a head, whose method and target stand where this tells
+abbrev pub HasLineAt : Head → List ℕ → Type 0
+HasLineAt told bytes = (head : RequestHead) × (rest : List ℕ) × ReadsRequest bytes head rest × IsLineAt told bytes head
+
+-- this was told of the head with which these bytes begin, or they have none
+abbrev pub IsHeadRead : Option Head → List ℕ → Type 0
+IsHeadRead None bytes = HasNoRequest bytes ⊎ RequestOverflows max_fields bytes
+IsHeadRead (Some told) bytes = HasLineAt told bytes

@@ -2,8 +2,8 @@
 use Rattle.std.specs.Prelude.{ℕ, List, [], ◌∷◌, ◌++◌, codes}
 use Rattle.matchit.specs.Router.{RouteOf}
 use Rattle.matchit.specs.Rows.{RowsOf, param_token}
-use Rattle.gate_http.specs.declared.target.Route.{Route}
-use Rattle.gate_http.specs.declared.target.Route.TheVariants.{Deliveries, Queue, Change}
+use Rattle.gate_http.specs.declared.routes.Route.{Route}
+use Rattle.gate_http.specs.declared.routes.Route.TheVariants.{Deliveries, Queue, Change}
 
 -- a route without a part that varies
 abbrev pub plain_route : List ℕ → Route → RouteOf Route

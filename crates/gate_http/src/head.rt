@@ -1,19 +1,18 @@
-ghost use Rattle.std.specs.Prelude.{◌≡◌, All, length, map, codes, IfOk, IsTrue, option_copied, ◌==◌};
+ghost use Rattle.std.specs.Prelude.{◌≡◌, All, Some, length, map, codes, IsTrue, option_copied, ◌==◌};
 ghost use Rattle.std.specs.List.{list_all};
 ghost use Rattle.std.specs.Char.{is_ascii_digit};
 ghost use Rattle.httparse.specs.Grammar.{RequestHead};
 ghost use Rattle.httparse.specs.Spans.{IsHeaderWithin, IsRequestAt, IsRequestWithin, header_bytes, name_and_value};
 ghost use Rattle.gate_http.specs.Heads as heads;
-ghost use Rattle.gate_http.specs.Heads.{IsFound, IsLineOf, first_value, needed_by};
+ghost use Rattle.gate_http.specs.Heads.{HasLineAt, IsFound, IsLineOf, first_value, needed_by};
 ghost use Rattle.gate_http.specs.Tokens as tokens;
 
 use crate::front::front_before;
 use crate::refusal::Refusal;
-use crate::target::{Report, Target, target_of};
-use crate::token::Token;
+use crate::routes::Routes;
+use crate::target::{Report, Target};
 use httparse::Status;
-use httparse::spans::{EMPTY_HEADER_SPAN, HeaderSpan, RequestSpans, parse_request};
-use std::alloc::{AllocError, Global};
+use httparse::spans::{EMPTY_HEADER_SPAN, HeaderSpan, RequestSpans, Span, parse_request};
 use std::str;
 
 /// The most bytes that a head may have.
@@ -34,11 +33,25 @@ pub enum Ask {
     Report(Report),
 }
 
-/// A head that was read: how many bytes it has, and what it asks for, or why the request is refused.
+/// The method of a request and its path, which is its target up to the first question mark.
+#[derive(Clone, Copy)]
+pub struct RequestLine<'a> {
+    /// The method.
+    pub method: &'a [u8],
+    /// The path.
+    pub path: &'a [u8],
+}
+
+/// A head that was read: how many bytes it has, where its method and its target stand, and what it asks for, or why the request is
+/// refused.
 #[derive(Clone, Copy)]
 pub struct Head {
     /// How many bytes it has.
     pub len: usize,
+    /// Where its method stands.
+    pub method: Span,
+    /// Where its target stands.
+    pub target: Span,
     /// What it asks for, or why the request is refused.
     pub ask: Result<Ask, Refusal>,
 }
@@ -51,6 +64,17 @@ impl Head {
         match self.ask {
             Ok(Ask::Delivery(size)) => size,
             Ok(Ask::Report(_)) | Err(_) => 0,
+        }
+    }
+
+    /// The method and the path, of bytes that begin with this head.
+    pub fn line<'a>(&self, bytes: &'a [u8]) -> RequestLine<'a>
+        requires begins { HasLineAt self.now bytes.now }
+        ensures line { IsLineOf (Some result) bytes.now }
+    {
+        RequestLine {
+            method: self.method.of(bytes),
+            path: path_of(self.target.of(bytes)),
         }
     }
 }
@@ -201,12 +225,12 @@ fn ask_by(
 }
 
 // Whether the fields bear the token, if one is needed.
-fn is_let_in(bytes: &[u8], fields: &[HeaderSpan], token: Option<&Token>) -> bool
+fn is_let_in(routes: &Routes, bytes: &[u8], fields: &[HeaderSpan]) -> bool
     requires { All (IsHeaderWithin (length bytes.now)) fields.now }
-    ensures { result ≡ tokens.is_let_in (option_copied token.entry)
+    ensures { result ≡ tokens.is_let_in routes.now
         (heads.values_in (codes "authorization") (map (header_bytes bytes.now) fields.now)) }
 {
-    let Some(token) = token else {
+    let Some(token) = routes.token() else {
         return true;
     };
     match first_of(bytes, fields, "authorization") {
@@ -217,76 +241,53 @@ fn is_let_in(bytes: &[u8], fields: &[HeaderSpan], token: Option<&Token>) -> bool
 
 // What a request asks for that is let in, or why it is refused.
 fn ask_let_in(
-    alloc: Global,
+    routes: &Routes,
     bytes: &[u8],
     fields: &[HeaderSpan],
     request: &RequestSpans,
-) -> Result<Result<Ask, Refusal>, AllocError>
+) -> Result<Ask, Refusal>
     requires within { IsRequestWithin bytes.now fields.now request.now }
-    ensures { IfOk result (λ ask. (head : RequestHead) → IsRequestAt bytes.now fields.now request.now head → ask ≡ heads.ask_let_in head) }
+    ensures { (head : RequestHead) → IsRequestAt bytes.now fields.now request.now head → result ≡ heads.ask_let_in head }
 {
     let fields = &fields[..request.headers];
     if request.version != 0 && count_of(bytes, fields, "host") != 1 {
-        return Ok(Err(Refusal::BadRequest));
+        return Err(Refusal::BadRequest);
     }
-    match target_of(alloc, path_of(request.path.of(bytes)))? {
-        Some(target) => Ok(ask_by(bytes, fields, &target, request.method.of(bytes))),
-        None => Ok(Err(Refusal::NotFound)),
+    match routes.target_of(path_of(request.path.of(bytes))) {
+        Some(target) => ask_by(bytes, fields, &target, request.method.of(bytes)),
+        None => Err(Refusal::NotFound),
     }
 }
 
 // What a request asks for, or why it is refused.
 fn ask_in(
-    alloc: Global,
-    token: Option<&Token>,
+    routes: &Routes,
     bytes: &[u8],
     fields: &[HeaderSpan],
     request: &RequestSpans,
-) -> Result<Result<Ask, Refusal>, AllocError>
+) -> Result<Ask, Refusal>
     requires within { IsRequestWithin bytes.now fields.now request.now }
-    ensures { IfOk result (λ ask. (head : RequestHead) → IsRequestAt bytes.now fields.now request.now head
-        → ask ≡ heads.ask_in (option_copied token.entry) head) }
+    ensures { (head : RequestHead) → IsRequestAt bytes.now fields.now request.now head → result ≡ heads.ask_in routes.now head }
 {
-    if !is_let_in(bytes, &fields[..request.headers], token) {
-        return Ok(Err(Refusal::Unauthorized));
+    if !is_let_in(routes, bytes, &fields[..request.headers]) {
+        return Err(Refusal::Unauthorized);
     }
-    ask_let_in(alloc, bytes, fields, request)
+    ask_let_in(routes, bytes, fields, request)
 }
 
-/// The method of a request and its path, which is its target up to the first question mark.
-#[derive(Clone, Copy)]
-pub struct RequestLine<'a> {
-    /// The method.
-    pub method: &'a [u8],
-    /// The path.
-    pub path: &'a [u8],
-}
-
-/// The method and the path of the request that these bytes begin with, if they have a head of at most 64 fields.
-pub fn request_line(bytes: &[u8]) -> Option<RequestLine<'_>>
-    ensures line { IsLineOf result bytes.now }
+/// What stands at the front of these bytes, by these routes, and by the token that they ask for, if there is one.
+pub fn head_in(routes: &Routes, bytes: &[u8]) -> Found
+    ensures { IsFound routes.now result bytes.now }
 {
     let mut fields = [EMPTY_HEADER_SPAN; MAX_FIELDS];
     match parse_request(bytes, &mut fields) {
-        Ok(Status::Complete(request)) => Some(RequestLine {
-            method: request.method.of(bytes),
-            path: path_of(request.path.of(bytes)),
-        }),
-        Ok(Status::Partial) | Err(_) => None,
-    }
-}
-
-/// What stands at the front of these bytes, if this token is needed, or none. `AllocError` if there is no memory for the routes.
-pub fn head_in(alloc: Global, token: Option<&Token>, bytes: &[u8]) -> Result<Found, AllocError>
-    ensures { IfOk result (λ found. IsFound (option_copied token.entry) found bytes.now) }
-{
-    let mut fields = [EMPTY_HEADER_SPAN; MAX_FIELDS];
-    match parse_request(bytes, &mut fields) {
-        Ok(Status::Complete(request)) => Ok(Found::Whole(Head {
+        Ok(Status::Complete(request)) => Found::Whole(Head {
             len: request.len,
-            ask: ask_in(alloc, token, bytes, &fields, &request)?,
-        })),
-        Ok(Status::Partial) => Ok(Found::Unfinished),
-        Err(_) => Ok(Found::Never),
+            method: request.method,
+            target: request.path,
+            ask: ask_in(routes, bytes, &fields, &request),
+        }),
+        Ok(Status::Partial) => Found::Unfinished,
+        Err(_) => Found::Never,
     }
 }

@@ -6,11 +6,13 @@ mod front;
 mod head;
 mod refusal;
 mod response;
+mod routes;
 mod target;
 mod token;
 
-pub use head::{Ask, Found, Head, MAX_HEAD, RequestLine, head_in, request_line};
+pub use head::{Ask, Found, Head, MAX_HEAD, RequestLine, head_in};
 pub use refusal::Refusal;
 pub use response::{Response, json_response, refusal_response, report_response, with_line_feed};
+pub use routes::Routes;
 pub use target::{Report, Target};
 pub use token::{MAX_TOKEN, Token};

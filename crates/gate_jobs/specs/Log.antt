@@ -3,7 +3,6 @@ use Rattle.std.specs.Prelude.{◌≡◌, ◌⊎◌, ℕ, ◌/◌, ◌%◌, List,
 use Rattle.std.specs.Char.{is_ascii_graphic}
 use Rattle.std.specs.Io.KnownBytes.{Appends}
 use Rattle.std.specs.List.{list_all}
-use Rattle.std.specs.String.{string_bytes}
 use Rattle.std.specs.Time.{system_time_nanos}
 use Rattle.std.specs.declared.time.SystemTime.{SystemTime}
 use Rattle.gate_jobs.specs.Outcome.{word_of}
@@ -66,8 +65,8 @@ line_text time method path ending = time ++ (codes " " ++ (method ++ (codes " " 
 
 abbrev pub IsLogLine : ℕ → Transcript → Result Served HookFault → List ℕ → Type 0
 IsLogLine seconds transcript served line =
-    (method : List ℕ) × (path : List ℕ) × (denial : Option (List ℕ)) × IsShownOf transcript.request.items method path
-    × IsDenialIn (string_bytes transcript.response) denial × (line ≡ line_text (time_of seconds) method path (how_it_ended served denial))
+    (method : List ℕ) × (path : List ℕ) × (denial : Option (List ℕ)) × IsShownOf transcript.request method path
+    × IsDenialIn transcript.response denial × (line ≡ line_text (time_of seconds) method path (how_it_ended served denial))
 
 -- WHAT IS WRITTEN: such a line, at some second, or a part from its front. Or nothing, if there is no memory for the line.
 abbrev pub IsLogged : Transcript → Result Served HookFault → Option (List ℕ) → Option (List ℕ) → Type 0

@@ -1,82 +1,24 @@
-ghost use Rattle.std.specs.Prelude.{◌≡◌, ◌⊎◌, ◌≤◌, ◌+◌, ◌-◌, ◌*◌, ◌↔◌, IfOk, IfSome, IsNone, IsTrue, drop, length, min, take};
-ghost use Rattle.std.specs.Duration.{as_nanos};
-ghost use Rattle.std.specs.Time.{instant_nanos};
+ghost use Rattle.std.specs.Prelude.{◌≡◌, ◌*◌, IfOk};
 ghost use Rattle.gate_waiting.specs.Room.{empty_room};
 
 use crate::accepting::Acceptor;
-use crate::closing::drop_part;
-use gate_hook::{Token, is_enough};
-use gate_waiting::{MOST, Ready, Reason, Waiting, Whole};
-use std::alloc::{AllocError, Global};
-use std::io::{self, Error, ErrorKind, Read, Write};
-use std::net::{Shutdown, TcpListener, TcpStream};
-use std::thread;
+use crate::leaving::Leaver;
+use crate::limits::Limits;
+use crate::patient::{PatientReader, PatientWriter, rest_of};
+use crate::watching::{News, Watch, news_of};
+use gate_hook::{Routes, is_enough};
+use gate_waiting::{MOST, Ready, Waiting, Whole};
+use mio::Poll;
+use std::alloc::Global;
+use std::io::{self, Error, ErrorKind, Read};
+use std::net::{TcpListener, TcpStream};
 use std::time::{Clock, Duration, Instant};
-
-// A request as a whole may take so many times as long as a single wait.
-const WAITS: u64 = 10;
-
-// For how many seconds a client may be silent behind its response.
-const SILENCE: u32 = 1;
-
-// The most that is read of a connection behind its response: a megabyte, and as much as a head may have.
-const MAX_LEFT: u64 = 1_064_960;
 
 // How many bytes are read at once.
 const PIECE: usize = 8_192;
 
-// So many looks at all connections come one right after the other. If nothing is there by then, there is a pause before the next one. It
-// grows from the first to the longest, in microseconds.
-const FIRST_LOOKS: u64 = 32;
-
-const FIRST_PAUSE: u64 = 50;
-
-const LONGEST_PAUSE: u64 = 10_000;
-
-// How long a connection is waited for: so many seconds at a time, and ten times that in all from a start on.
-#[derive(Clone, Copy)]
-struct Limits {
-    start: Instant,
-    patience: u32,
-}
-
-impl Limits {
-    fn from_now(clock: &impl Clock, patience: u32) -> io::Result<Limits>
-        ensures { IfOk result (λ limits. limits.patience ≡ patience) }
-    {
-        let start = Instant::now(clock)?;
-        Ok(Limits { start, patience })
-    }
-
-    // How long the next read or write may wait. `TimedOut` if there is no time left.
-    fn next(&self, clock: &impl Clock) -> io::Result<Duration> {
-        match next_wait(self.patience, self.start.elapsed(clock)?) {
-            Some(wait) => Ok(wait),
-            None => Err(Error::from(ErrorKind::TimedOut)),
-        }
-    }
-
-    // Whether a connection is waited for no longer at this time, if nothing has come since that one.
-    fn are_over(&self, time: Instant, since: Instant) -> bool
-        ensures { IsTrue result ↔ ((self.now.patience * 10_000_000_000 ≤ instant_nanos time - instant_nanos self.now.start)
-            ⊎ (self.now.patience * 1_000_000_000 ≤ instant_nanos time - instant_nanos since)) }
-    {
-        next_wait(self.patience, time.duration_since(self.start)).is_none()
-            || time.duration_since(since).as_secs() >= u64::from(self.patience)
-    }
-}
-
-// How long a connection may be waited for next, if that is waited for so long already: its patience, or what is left of ten times that.
-fn next_wait(patience: u32, waited: Duration) -> Option<Duration>
-    ensures none { IsNone result ↔ (patience * 10_000_000_000 ≤ as_nanos waited) }
-    ensures some { IfSome result (λ wait. as_nanos wait ≡ min (patience * 10_000_000_000 - as_nanos waited) (patience * 1_000_000_000)) }
-{
-    let patience = u64::from(patience);
-    match Duration::from_secs(WAITS * patience).checked_sub(waited) {
-        Some(left) if !left.is_zero() => Some(left.min(Duration::from_secs(patience))),
-        _ => None,
-    }
-}
+// After a connection couldn't be accepted, so many milliseconds go by before the next is tried.
+const RETRY: u64 = 100;
 
 // A time in microseconds, and no more than a number can be.
 fn micros(time: Duration) -> u64 {
@@ -85,43 +27,27 @@ fn micros(time: Duration) -> u64 {
         .saturating_add(u64::from(time.subsec_micros()))
 }
 
-// What makes a request whole: if a token is needed, one that doesn't bear it is whole with its head.
-#[derive(Drop)]
-struct Needs<'a> {
-    token: Option<&'a Token>,
-}
-
-impl Whole for Needs<'_> {
-    ghost use Rattle.std.specs.Prelude.{option_copied};
-    ghost use Rattle.gate_hook.specs.Receiving.{IsEnough};
-
-    ghost tells = { λ needs enough bytes. IsEnough (option_copied needs.token) enough bytes };
-
-    fn is_whole(&self, alloc: Global, bytes: &[u8]) -> Result<bool, AllocError> {
-        is_enough(alloc, self.token, bytes)
+// The shorter of two waits, of which one that isn't there is without end.
+fn shorter(wait: Option<Duration>, other: Option<Duration>) -> Option<Duration> {
+    match (wait, other) {
+        (Some(wait), Some(other)) => Some(wait.min(other)),
+        (None, wait) | (wait, None) => wait,
     }
 }
 
-// What comes behind the bytes that have come.
-#[derive(Clone, Copy, PartialEq, Eq)]
-enum Rest {
-    // More may come.
-    Open,
-    // They end.
-    Ended,
-    // Reading fails.
-    Failed,
+// What makes a request whole: if a token is needed, one that doesn't bear it is whole with its head.
+#[derive(Drop)]
+struct Needs<'a> {
+    routes: &'a Routes,
 }
 
-// What comes behind the bytes of a connection that is waited for no longer.
-fn rest_of(reason: Reason) -> Rest
-    ensures open { (result ≡ Rest.Open) ↔ ((reason ≡ Reason.Whole) ⊎ (reason ≡ Reason.NoMemory)) }
-    ensures ended { (result ≡ Rest.Ended) ↔ (reason ≡ Reason.Ended) }
-{
-    match reason {
-        Reason::Whole | Reason::NoMemory => Rest::Open,
-        Reason::Ended => Rest::Ended,
-        Reason::Failed | Reason::Lost | Reason::Late => Rest::Failed,
+impl Whole for Needs<'_> {
+    ghost use Rattle.gate_hook.specs.Receiving.{IsEnough};
+
+    ghost tells = { λ needs enough bytes. IsEnough needs.routes.now enough bytes };
+
+    fn is_whole(&self, bytes: &[u8]) -> bool {
+        is_enough(self.routes, bytes)
     }
 }
 
@@ -135,7 +61,7 @@ struct Guest {
 
 impl Guest {
     // Tells what has come, as long as there is something, and more is waited for.
-    fn hear(&mut self, waiting: &mut Waiting<Needs<'_>>, alloc: Global, time: u64) {
+    fn hear(&mut self, waiting: &mut Waiting<Needs<'_>>, time: u64) {
         let mut piece = [0; PIECE];
         for _ in 0..u64::MAX {
             waiting.make_room(self.connection, PIECE);
@@ -143,7 +69,7 @@ impl Guest {
                 return;
             }
             match self.stream.read(&mut piece) {
-                Ok(n) if n > 0 => waiting.hear(alloc, time, self.connection, &piece[..n]),
+                Ok(n) if n > 0 => waiting.hear(time, self.connection, &piece[..n]),
                 Ok(_) => waiting.end(self.connection),
                 Err(error) if error.kind() == ErrorKind::WouldBlock => return,
                 Err(_) => waiting.fail(self.connection),
@@ -152,57 +78,25 @@ impl Guest {
     }
 }
 
-// A connection that has its response. What still comes on it is dropped, so many bytes at the most.
-#[derive(Drop)]
-struct Leaver {
-    stream: TcpStream,
-    limits: Limits,
-    left: u64,
-    since: Instant,
-}
-
-impl Leaver {
-    fn new(clock: &impl Clock, stream: TcpStream) -> io::Result<Leaver>
-        ensures patience { IfOk result (λ leaver. leaver.limits.patience ≡ SILENCE) }
-        ensures left { IfOk result (λ leaver. leaver.left ≡ MAX_LEFT) }
-    {
-        stream.shutdown(Shutdown::Write)?;
-        stream.set_nonblocking(true)?;
-        let limits = Limits::from_now(clock, SILENCE)?;
-        Ok(Leaver {
-            stream,
-            limits,
-            left: MAX_LEFT,
-            since: limits.start,
-        })
-    }
-
-    // Drops what has come, and tells whether there may be more.
-    fn is_there(&mut self, clock: &impl Clock) -> io::Result<bool>
-        ensures left { self.new.left ≤ self.old.left }
-        ensures limits { self.new.limits ≡ self.old.limits }
-    {
-        match drop_part(&mut self.stream, self.left) {
-            Ok(left) if 0 < left && left < self.left => {
-                self.left = left;
-                self.since = Instant::now(clock)?;
-            }
-            Err(error) if error.kind() == ErrorKind::WouldBlock => {}
-            Ok(_) | Err(_) => return Ok(false),
-        }
-        Ok(!self.limits.are_over(Instant::now(clock)?, self.since))
-    }
+// Whether connections may have come that aren't accepted.
+#[derive(Clone, Copy, PartialEq, Eq)]
+enum Backlog {
+    Empty,
+    Open,
+    // The last one couldn't be accepted.
+    Failing,
 }
 
 /// The connections of a listener. Many are waited for at once, and the one whose request has been whole the longest is the next; so a
-/// client that is silent, or slow, holds up no other one. `Waiting` decides this. What has come is looked at before each; of those that
-/// are whole at one look, the one that came first goes first. None is waited for longer than its patience: a connection on which nothing
-/// comes for so many seconds, or that is ten times as old, has its turn as well, and its reads fail. A write fails after as long. A failed
-/// read or write changes nothing by itself; `serve_guarded` says what comes of it.
+/// client that is silent, or slow, holds up no other one. `Waiting` decides this; here are the sockets and the clock. What has come is
+/// heard before each; of those that are whole then, the one that was heard first goes first. None is waited for longer than its patience:
+/// a connection on which nothing comes for so many seconds, or that is ten times as old, has its turn as well, and its reads fail. A write
+/// fails after as long. A failed read or write changes nothing by itself; `serve_guarded` says what comes of it. While nothing comes,
+/// nobody looks.
 ///
 /// To close a connection while bytes of its request are on their way would have the system reset it, and the client might lose the
 /// response. So when one is ended, nothing more is sent on it. Beside the others what still comes is dropped, until the client closes, is
-/// silent for a second, or has sent a megabyte, or until ten seconds are over.
+/// silent for a second, or has sent a megabyte, or until ten seconds are over, or 256 others were ended after it.
 #[derive(Drop)]
 pub struct Connections<'a, C: Clock> {
     listener: &'a TcpListener,
@@ -210,138 +104,220 @@ pub struct Connections<'a, C: Clock> {
     alloc: Global,
     patience: u32,
     // The moment from which times are told.
-    start: Option<Instant>,
+    start: Instant,
+    watch: Watch,
+    backlog: Backlog,
+    // Whether standard input has ended, and whether nobody is taken in any more after that.
+    has_ended: bool,
+    is_closed: bool,
     waiting: Waiting<Needs<'a>>,
     guests: Vec<Guest>,
     leavers: Vec<Leaver>,
 }
 
 impl<'a, C: Clock> Connections<'a, C> {
-    /// Those of this listener, with a patience in seconds, from 1 on. A request that doesn't bear the token, if there is one, is whole with
-    /// its head. `AllocError` if there is no memory for a list of them. Later none is needed to go on: a connection for whose bytes there is
-    /// no memory is served at once.
+    /// Those of this listener, with a patience in seconds, from 1 on. A request that doesn't bear the token of the routes, if there is
+    /// one, is whole with its head. An error if the listener can't be waited for, the clock can't be read, or there is no memory for a
+    /// list of them. Later none is needed to go on: a connection for whose bytes there is no memory is served at once.
     pub fn new(
         alloc: Global,
         clock: &'a C,
+        poll: Poll,
         listener: &'a TcpListener,
-        token: Option<&'a Token>,
+        routes: &'a Routes,
         patience: u32,
-    ) -> Result<Connections<'a, C>, AllocError>
+    ) -> io::Result<Connections<'a, C>>
         ensures patience { IfOk result (λ connections. connections.patience ≡ patience) }
         ensures waiting { IfOk result (λ connections. connections.waiting
-            ≡ empty_room (record { token = token.entry }) (patience * 1000000)) }
+            ≡ empty_room (record { routes = routes.entry }) (patience * 1000000)) }
     {
         Ok(Connections {
             listener,
             clock,
             alloc,
             patience,
-            start: None,
-            waiting: Waiting::new(alloc, Needs { token }, patience)?,
+            start: Instant::now(clock)?,
+            watch: Watch::new(alloc, poll, listener)?,
+            backlog: Backlog::Open,
+            has_ended: false,
+            is_closed: false,
+            waiting: Waiting::new(alloc, Needs { routes }, patience)?,
             guests: Vec::with_capacity(alloc, MOST)?,
             leavers: Vec::with_capacity(alloc, MOST)?,
         })
     }
 
-    // The time, in microseconds since it was asked for first.
-    fn time(&mut self) -> io::Result<u64> {
-        let now = Instant::now(self.clock)?;
-        match self.start {
-            Some(start) => Ok(micros(now.duration_since(start))),
-            None => {
-                self.start = Some(now);
-                Ok(0)
-            }
+    /// From now on they end when standard input is closed: then those are still served whose requests are whole, and `accept` fails. What
+    /// can't be waited for, a file or `/dev/null`, counts as closed.
+    pub fn end_with_input(&mut self)
+        ensures waiting { self.new.waiting ≡ self.old.waiting }
+    {
+        if self.watch.watch_input().is_err() {
+            self.has_ended = true;
         }
     }
 
-    // Takes a connection in, to be waited for.
-    fn take_in(&mut self, stream: TcpStream) -> io::Result<()> {
+    /// Whether they have ended since standard input is closed.
+    pub fn have_ended(&self) -> bool
+        ensures { result ≡ self.now.has_ended }
+    {
+        self.has_ended
+    }
+
+    // The time, in microseconds since the first one.
+    fn time(&self) -> io::Result<u64> {
+        let now = Instant::now(self.clock)?;
+        Ok(micros(now.duration_since(self.start)))
+    }
+
+    // Takes a connection in, to be waited for, and hears what has come on it. One that can't be waited for is let go.
+    fn take_in(&mut self, stream: TcpStream, time: u64) -> io::Result<()> {
         stream.set_nonblocking(true)?;
         let limits = Limits::from_now(self.clock, self.patience)?;
-        let time = self.time()?;
         // So no connection is waited for whose stream is gone.
         self.guests.reserve(1)?;
-        if let Some(connection) = self.waiting.come(self.alloc, time) {
-            self.guests.push_reserved(Guest {
-                connection,
-                stream,
-                limits,
-            });
+        let Some(connection) = self.waiting.come(self.alloc, time) else {
+            return Ok(());
+        };
+        let mut guest = Guest {
+            connection,
+            stream,
+            limits,
+        };
+        match self.watch.watch(&guest.stream, connection) {
+            Ok(()) => guest.hear(&mut self.waiting, time),
+            Err(_) => self.waiting.fail(connection),
         }
+        self.guests.push_reserved(guest);
         Ok(())
     }
 
-    /// Waits until no connection is left that was ended, at the most ten seconds.
-    pub fn finish(mut self) {
-        for _ in 0..u64::MAX {
-            self.see_off();
-            if self.leavers.is_empty() {
+    // Takes in those that have come, as many as there are places for. The error is that of a connection that can't be accepted while nobody
+    // is here.
+    fn accept_all(&mut self, time: u64) -> io::Result<()> {
+        for _ in 0..MOST {
+            if self.backlog == Backlog::Empty || !self.waiting.has_place() {
                 break;
             }
-            thread::sleep(self.clock, Duration::from_micros(LONGEST_PAUSE));
-        }
-        drop(self);
-    }
-
-    // Lets those connections go that have left, or that are waited for no longer.
-    fn see_off(&mut self) {
-        let clock = self.clock;
-        self.leavers
-            .retain_mut(|leaver| leaver.is_there(clock).unwrap_or(false));
-    }
-
-    // Waits for a connection if there is none, and takes in those that have come meanwhile.
-    fn listen(&mut self) -> io::Result<()> {
-        if self.waiting.is_empty() && self.leavers.is_empty() {
-            self.listener.set_nonblocking(false)?;
-            let (stream, _) = self.listener.accept()?;
-            self.take_in(stream)?;
-        }
-        self.listener.set_nonblocking(true)?;
-        for _ in 0..MOST {
-            if !self.waiting.has_place() {
-                return Ok(());
-            }
             match self.listener.accept() {
-                Ok((stream, _)) => self.take_in(stream)?,
-                // Those that are there are served first.
-                Err(_) => return Ok(()),
+                Ok((stream, _)) => {
+                    self.backlog = Backlog::Open;
+                    let _ = self.take_in(stream, time);
+                }
+                Err(error) if error.kind() == ErrorKind::WouldBlock => {
+                    self.backlog = Backlog::Empty;
+                }
+                Err(error) => return self.put_off(error),
             }
         }
         Ok(())
     }
 
-    // Hears what has come, and gives the connection whose turn it is, if it is one's. All that is heard at one look is told at the time at
-    // which it begins.
-    fn first(&mut self) -> io::Result<Option<(Guest, Ready)>> {
-        let time = self.time()?;
-        for guest in &mut self.guests {
-            guest.hear(&mut self.waiting, self.alloc, time);
+    // Those that are here are served before a connection that can't be accepted is tried again.
+    fn put_off(&mut self, error: Error) -> io::Result<()> {
+        if self.waiting.is_empty() && self.leavers.is_empty() {
+            return Err(error);
         }
-        match self.waiting.next(time) {
-            Some(ready) => Ok(taken(&mut self.guests, ready.guest.connection).map(|guest| (
-                guest, ready,
-            ))),
-            None => Ok(None),
+        self.backlog = Backlog::Failing;
+        Ok(())
+    }
+
+    // Hears the news that the last wait has ended with.
+    fn hear(&mut self, time: u64) {
+        for event in self.watch.events() {
+            match news_of(event) {
+                News::Arrival => self.backlog = Backlog::Open,
+                News::EndOfInput => self.has_ended = true,
+                News::Bytes(connection) => {
+                    hear_one(&mut self.guests, &mut self.waiting, time, connection);
+                }
+                News::Nothing => {}
+            }
         }
     }
 
+    // Lets those connections go that have left, or that are waited for no longer, and tells how long nobody need look after the others.
+    fn see_off(&mut self) -> io::Result<Option<Duration>> {
+        let time = Instant::now(self.clock)?;
+        let mut pause = None;
+        self.leavers.retain_mut(|leaver| {
+            let wait = leaver.wait(time);
+            pause = shorter(pause, wait);
+            wait.is_some()
+        });
+        Ok(pause)
+    }
+
+    // How long nobody need look again if nothing comes.
+    fn pause(&self) -> io::Result<Option<Duration>> {
+        if self.has_ended {
+            return Ok(Some(Duration::ZERO));
+        }
+        let retry = match self.backlog {
+            Backlog::Open if self.waiting.has_place() => Some(Duration::ZERO),
+            Backlog::Failing => Some(Duration::from_millis(RETRY)),
+            Backlog::Open | Backlog::Empty => None,
+        };
+        let waiting = self.waiting.pause(self.time()?).map(Duration::from_micros);
+        Ok(shorter(retry, waiting))
+    }
+
+    // The next connection that is ready, if one is. It is watched no longer.
+    fn first(&mut self, time: u64) -> io::Result<Option<(Guest, Ready)>> {
+        let Some(ready) = self.waiting.next(time) else {
+            return Ok(None);
+        };
+        let Some(guest) = taken(&mut self.guests, ready.guest.connection) else {
+            return Ok(None);
+        };
+        let _ = self.watch.forget(&guest.stream);
+        guest.stream.set_nonblocking(false)?;
+        Ok(Some((guest, ready)))
+    }
+
+    // Once the input has ended, one look more is had at what has come.
     fn next(&mut self) -> io::Result<(Guest, Ready)> {
-        let mut pause = FIRST_PAUSE;
-        for look in 0..u64::MAX {
-            self.see_off();
-            self.listen()?;
-            if let Some((guest, ready)) = self.first()? {
-                guest.stream.set_nonblocking(false)?;
-                return Ok((guest, ready));
+        for _ in 0..u64::MAX {
+            let pause = shorter(self.see_off()?, self.pause()?);
+            self.watch.wait(pause)?;
+            let time = self.time()?;
+            self.hear(time);
+            if !self.is_closed {
+                self.is_closed = self.has_ended;
+                self.accept_all(time)?;
             }
-            if look >= FIRST_LOOKS {
-                thread::sleep(self.clock, Duration::from_micros(pause));
-                pause = pause.saturating_mul(2).min(LONGEST_PAUSE);
+            // So all is heard that came by this time, before somebody is late at it.
+            self.watch.wait(Some(Duration::ZERO))?;
+            self.hear(time);
+            match self.first(time)? {
+                Some(next) => return Ok(next),
+                None if self.is_closed => break,
+                None => {}
             }
         }
         Err(Error::from(ErrorKind::TimedOut))
+    }
+
+    /// Lets those go that are waited for, and waits until no connection is left that was ended, at the most ten seconds.
+    pub fn finish(mut self) {
+        self.guests.clear();
+        for _ in 0..u64::MAX {
+            match self.see_off() {
+                Ok(Some(pause)) if self.watch.wait(Some(pause)).is_ok() => {}
+                Ok(_) | Err(_) => break,
+            }
+        }
+        drop(self);
+    }
+}
+
+// Hears what has come on the connection of a number, if it is waited for.
+fn hear_one(guests: &mut [Guest], waiting: &mut Waiting<Needs<'_>>, time: u64, connection: u64) {
+    for guest in guests {
+        if guest.connection == connection {
+            guest.hear(waiting, time);
+            return;
+        }
     }
 }
 
@@ -355,90 +331,19 @@ fn taken(guests: &mut Vec<Guest>, connection: u64) -> Option<Guest> {
     None
 }
 
-// Hands over bytes from a place on, as many as there is room for, and moves the place behind them. It tells how many.
-fn hand_over(bytes: &[u8], at: &mut usize, buf: &mut [u8]) -> usize
-    ensures count { result ≡ min (length bytes.now - at.old) (length buf.old) }
-    ensures bytes { take result buf.new ≡ take result (drop at.old bytes.now) }
-    ensures place { at.new ≡ at.old + result }
-{
-    let from = *at;
-    match bytes.get(from..) {
-        Some(rest) => {
-            let n = rest.len().min(buf.len());
-            buf[..n].copy_from_slice(&rest[..n]);
-            *at = from + n;
-            n
-        }
-        None => 0,
-    }
-}
-
-/// Reads a connection with patience: first the bytes that had come before, then what comes.
-#[derive(Drop)]
-pub struct PatientReader<'a, C: Clock> {
-    bytes: Vec<u8>,
-    at: usize,
-    rest: Rest,
-    stream: TcpStream,
-    clock: &'a C,
-    limits: Limits,
-}
-
-impl<C: Clock> Read for PatientReader<'_, C> {
-    fn read(&mut self, buf: &mut [u8]) -> io::Result<usize> {
-        let n = hand_over(&self.bytes, &mut self.at, buf);
-        if n > 0 {
-            return Ok(n);
-        }
-        match self.rest {
-            Rest::Open => {}
-            Rest::Ended => return Ok(0),
-            Rest::Failed => return Err(Error::from(ErrorKind::ConnectionReset)),
-        }
-        let wait = self.limits.next(self.clock)?;
-        self.stream.set_read_timeout(Some(wait))?;
-        self.stream.read(buf)
-    }
-}
-
-/// Writes on a connection with patience.
-#[derive(Drop)]
-pub struct PatientWriter<'a, C: Clock> {
-    stream: TcpStream,
-    clock: &'a C,
-    limits: Limits,
-}
-
-impl<C: Clock> Write for PatientWriter<'_, C> {
-    fn write(&mut self, buf: &[u8]) -> io::Result<usize> {
-        let wait = self.limits.next(self.clock)?;
-        // What there is room for goes at once. So a write that waits begins without room, and isn't followed by another wait.
-        self.stream.set_nonblocking(true)?;
-        match self.stream.write(buf) {
-            Err(error) if error.kind() == ErrorKind::WouldBlock => {}
-            written => return written,
-        }
-        self.stream.set_nonblocking(false)?;
-        self.stream.set_write_timeout(Some(wait))?;
-        self.stream.write(buf)
-    }
-
-    fn flush(&mut self) -> io::Result<()> {
-        self.stream.flush()
-    }
-}
-
 impl<'a, C: Clock> Acceptor<PatientReader<'a, C>, PatientWriter<'a, C>> for Connections<'a, C> {
     fn accept(&mut self) -> io::Result<(PatientReader<'a, C>, PatientWriter<'a, C>)> {
         for _ in 0..u64::MAX {
             let (guest, ready) = self.next()?;
             let Guest { stream, limits, .. } = guest;
             let rest = rest_of(ready.reason);
+            let connection = ready.guest.connection;
             let bytes = ready.guest.bytes.into_vec();
             // A connection that can't be read and written is given up, and makes room.
             if let Ok(reading) = stream.try_clone() {
                 let clock = self.clock;
                 let reader = PatientReader {
+                    connection,
                     bytes,
                     at: 0,
                     rest,
@@ -459,10 +364,20 @@ impl<'a, C: Clock> Acceptor<PatientReader<'a, C>, PatientWriter<'a, C>> for Conn
 
     fn end(&mut self, reader: PatientReader<'a, C>, writer: PatientWriter<'a, C>) {
         drop(writer);
-        let PatientReader { stream, bytes, .. } = reader;
+        let PatientReader {
+            connection,
+            stream,
+            bytes,
+            ..
+        } = reader;
         drop(bytes);
-        // One that fails here is closed at once, and so is one for which there is no place.
+        // For each there is a descriptor. So if many don't leave, the one that was ended first is closed.
+        if self.leavers.len() >= MOST {
+            drop(self.leavers.remove(0));
+        }
+        // One that fails here is closed at once, and so is one for which there is no memory.
         if let Ok(leaver) = Leaver::new(self.clock, stream) {
+            let _ = self.watch.watch(&leaver.stream, connection);
             let _ = self.leavers.push(leaver);
         }
     }

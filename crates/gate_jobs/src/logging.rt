@@ -9,7 +9,7 @@ ghost use Rattle.gate_jobs.specs.declared.fault.JobFault.TheVariants.{Hook};
 
 use crate::fault::JobFault;
 use crate::outcome::{COMPLAINT, complaint};
-use gate_hook::{HookFault, Served, Transcript, denial_in, request_line, send};
+use gate_hook::{HookFault, Served, Transcript, denial_in, send};
 use std::alloc::{AllocError, Global};
 use std::io::{self, Write};
 use std::str;
@@ -134,10 +134,10 @@ fn shown_text(text: &[u8]) -> &str
 }
 
 // The method and the path of a request, as they are shown.
-fn first_words(request: &[u8]) -> (&str, &str)
-    ensures { IsShownOf request.now result.0.now result.1.now }
+fn first_words(transcript: &Transcript) -> (&str, &str)
+    ensures { IsShownOf transcript.now.request result.0.now result.1.now }
 {
-    match request_line(request) {
+    match transcript.line() {
         Some(line) => (shown_text(line.method), shown_text(line.path)),
         None => (NOTHING, NOTHING),
     }
@@ -190,8 +190,8 @@ pub fn log_line(
     ensures line { IfOk result (λ line. IsLogLine seconds transcript.now served.now (string_bytes line)) }
 {
     let time = time_text(alloc, seconds)?;
-    let (method, path) = first_words(&transcript.request);
-    let denial = denial_in(alloc, transcript.response.as_str())?;
+    let (method, path) = first_words(transcript);
+    let denial = denial_in(alloc, transcript.response())?;
     let ending = ending_text(alloc, served, denial)?;
     format!(in alloc; "{time} {method} {path} {ending}\n")
 }

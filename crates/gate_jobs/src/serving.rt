@@ -1,10 +1,9 @@
-ghost use Rattle.std.specs.Prelude.{◌≡◌, ◌⊎◌, ℕ, List, length, option_copied, IfErr, IfOk, OnErr, OnOk};
+ghost use Rattle.std.specs.Prelude.{◌≡◌, ◌⊎◌, ℕ, List, length, IfErr, IfOk, OnErr, OnOk};
 ghost use Rattle.std.specs.List.{All};
 ghost use Rattle.std.specs.Io.KnownBytes.{Appends};
 ghost use Rattle.gate_jobs.specs.Accepting.{AddsText, AreAcceptedInTurn, AreEndedInTurn, ComesFirst, Connection};
 ghost use Rattle.gate_jobs.specs.Serving as serving;
 ghost use Rattle.gate_jobs.specs.Serving.{AreAccepted, AreServedInTurn, AreServedOver, IsServed, IsServedOver, IsTakenAsNeeded, IsTokenOf, greeting};
-ghost use Rattle.std.specs.String.{string_bytes};
 ghost use Rattle.gate_hook.specs.Receiving.{HasTaken, IsInput};
 ghost use Rattle.gate_hook.specs.Responding.{IsTranscript};
 ghost use Rattle.gate_hook.specs.Sending.{IsCutOff};
@@ -14,7 +13,7 @@ ghost use Rattle.gate_store.specs.Outlasting.{Outlasts};
 use crate::accepting::Acceptor;
 use crate::fault::JobFault;
 use crate::logging::Log;
-use gate_hook::{HookFault, Served, Token, Transcript, read_token, send, serve_guarded};
+use gate_hook::{HookFault, Routes, Served, Token, Transcript, read_token, send, serve_guarded};
 use gate_queue::Fault;
 use gate_store::{Book, Keeper};
 use std::alloc::Global;
@@ -51,12 +50,12 @@ pub fn announce<W: Write>(alloc: Global, port: u16, writer: &mut W) -> Result<()
     send(writer, line.as_bytes())
 }
 
-/// Serves the request of one connection, which has to bear the token if there is one. What it answers, and the transcript, are for a log:
-/// if the connection fails, nobody else is left to be told.
+/// Serves the request of one connection, which has to bear the token of the routes if there is one. What it answers, and the transcript,
+/// are for a log: if the connection fails, nobody else is left to be told.
 pub fn serve_request<B: Book, R: Read, W: Write>(
     alloc: Global,
     keeper: &mut Keeper<B>,
-    token: Option<&Token>,
+    routes: &Routes,
     transcript: &mut Transcript,
     reader: &mut R,
     writer: &mut W,
@@ -64,12 +63,12 @@ pub fn serve_request<B: Book, R: Read, W: Write>(
     // As at `serve_guarded`: what is written and the records after it, and what is taken.
     ensures served { (input : List ℕ) × IsInput (R.remaining reader.old) (R.remaining reader.new) input
         × (B.is_sound keeper.new
-        → AnswersOne (option_copied token.entry) result input (B.shows keeper.old) (B.shows keeper.new) (W.contents writer.old)
+        → AnswersOne routes.now result input (B.shows keeper.old) (B.shows keeper.new) (W.contents writer.old)
         (W.contents writer.new)) }
-    ensures taken { HasTaken (option_copied token.entry) (R.remaining reader.old) (R.remaining reader.new) }
+    ensures taken { HasTaken routes.now (R.remaining reader.old) (R.remaining reader.new) }
 
     // Whatever comes of it, the transcript has what was taken of the input, and the response, and nothing else.
-    ensures transcript { IsTranscript result transcript.new.request.items (string_bytes transcript.new.response)
+    ensures transcript { IsTranscript result transcript.new.request transcript.new.response
         (R.remaining reader.old) (R.remaining reader.new) (W.contents writer.old) (W.contents writer.new) }
 
     // A book that is sound in the end was sound before, one that is honest was so, and one that was shielded still is.
@@ -80,16 +79,16 @@ pub fn serve_request<B: Book, R: Read, W: Write>(
         → StaysServing result (B.is_sound keeper.new) (W.contents writer.old) (W.contents writer.new) }
     ensures anyhow { B.is_honest keeper.new → B.is_sound keeper.new
         ⊎ ((input : List ℕ) × IsInput (R.remaining reader.old) (R.remaining reader.new) input
-        × AnswersAnyhow (option_copied token.entry) result input (W.contents writer.old) (W.contents writer.new)) }
+        × AnswersAnyhow routes.now result input (W.contents writer.old) (W.contents writer.new)) }
 {
-    serve_guarded(alloc, keeper, token, transcript, reader, writer)
+    serve_guarded(alloc, keeper, routes, transcript, reader, writer)
 }
 
 // Accepts a connection, serves it and ends it, and has it told.
 fn serve_next<B: Book, R: Read, W: Write, A: Acceptor<R, W>, L: Log>(
     alloc: Global,
     keeper: &mut Keeper<B>,
-    token: Option<&Token>,
+    routes: &Routes,
     log: &mut L,
     acceptor: &mut A,
 ) -> Result<(), JobFault>
@@ -97,9 +96,9 @@ fn serve_next<B: Book, R: Read, W: Write, A: Acceptor<R, W>, L: Log>(
         × ComesFirst (A.waiting acceptor.old) (A.waiting acceptor.new) connection.unread connection.blank
         × AddsText (A.ended acceptor.old) (A.ended acceptor.new) connection.written
         × AddsText (A.unread acceptor.old) (A.unread acceptor.new) connection.left
-        × IsTakenAsNeeded (option_copied token.entry) connection
-        × (B.is_sound keeper.new → IsServed (option_copied token.entry) connection (B.shows keeper.old) (B.shows keeper.new))
-        × (B.is_honest keeper.new → IsServedOver B.shows B.is_sound (option_copied token.entry) connection keeper.old keeper.new)) }
+        × IsTakenAsNeeded routes.now connection
+        × (B.is_sound keeper.new → IsServed routes.now connection (B.shows keeper.old) (B.shows keeper.new))
+        × (B.is_honest keeper.new → IsServedOver B.shows B.is_sound routes.now connection keeper.old keeper.new)) }
     ensures none { OnErr result ((keeper.new ≡ keeper.old) × (A.waiting acceptor.new ≡ A.waiting acceptor.old)
         × (A.ended acceptor.new ≡ A.ended acceptor.old) × (A.unread acceptor.new ≡ A.unread acceptor.old)) }
     ensures cause { IfErr result (λ fault. fault ≡ JobFault.Accept) }
@@ -111,7 +110,7 @@ fn serve_next<B: Book, R: Read, W: Write, A: Acceptor<R, W>, L: Log>(
             let served = serve_request(
                 alloc,
                 keeper,
-                token,
+                routes,
                 &mut transcript,
                 &mut reader,
                 &mut writer,
@@ -125,13 +124,13 @@ fn serve_next<B: Book, R: Read, W: Write, A: Acceptor<R, W>, L: Log>(
     }
 }
 
-/// Serves so many connections, one after the other, with one request each, which has to bear the token if there is one. The records
-/// are the keeper's, and go from one connection to the next. Of each request the log is told when its connection is ended. The fault is
-/// `Accept`, at the first connection that can't be accepted.
+/// Serves so many connections, one after the other, with one request each, which has to bear the token of the routes if there is one. The
+/// records are the keeper's, and go from one connection to the next. Of each request the log is told when its connection is ended. The
+/// fault is `Accept`, at the first connection that can't be accepted.
 pub fn serve<B: Book, R: Read, W: Write, A: Acceptor<R, W>, L: Log>(
     alloc: Global,
     keeper: &mut Keeper<B>,
-    token: Option<&Token>,
+    routes: &Routes,
     log: &mut L,
     acceptor: &mut A,
     count: u32,
@@ -144,16 +143,16 @@ pub fn serve<B: Book, R: Read, W: Write, A: Acceptor<R, W>, L: Log>(
         × AreAcceptedInTurn connections (A.waiting acceptor.old) (A.waiting acceptor.new)
         × AreEndedInTurn (λ connection. connection.written) connections (A.ended acceptor.old) (A.ended acceptor.new)
         × AreEndedInTurn (λ connection. connection.left) connections (A.unread acceptor.old) (A.unread acceptor.new)
-        × All (IsTakenAsNeeded (option_copied token.entry)) connections
-        × (B.is_sound keeper.new → AreServedInTurn (option_copied token.entry) connections (B.shows keeper.old) (B.shows keeper.new))
-        × (B.is_honest keeper.new → AreServedOver B.shows B.is_sound (option_copied token.entry) connections keeper.old keeper.new) }
+        × All (IsTakenAsNeeded routes.now) connections
+        × (B.is_sound keeper.new → AreServedInTurn routes.now connections (B.shows keeper.old) (B.shows keeper.new))
+        × (B.is_honest keeper.new → AreServedOver B.shows B.is_sound routes.now connections keeper.old keeper.new) }
     ensures cause { IfErr result (λ fault. fault ≡ JobFault.Accept) }
 
     // A book that is sound in the end was sound before, one that is honest was so, and one that was shielded still is.
     ensures outlasts { Outlasts B.Book keeper.old keeper.new }
 {
     for _ in 0..count {
-        match serve_next(alloc, keeper, token, log, acceptor) {
+        match serve_next(alloc, keeper, routes, log, acceptor) {
             Ok(()) => {}
             Err(fault) => return Err(fault),
         }

@@ -1,4 +1,5 @@
 mod First
 mod Order
+mod Pauses
 mod Rooms
 mod Told

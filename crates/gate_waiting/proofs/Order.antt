@@ -6,7 +6,7 @@ use Rattle.std.specs.List.{find}
 use Rattle.gate_waiting.proofs.Rooms.{longer}
 use Rattle.gate_waiting.specs.Calls.{HearsOn, first_of, gives_up, is_of, late_in, moves_on, next, stopped_in}
 use Rattle.gate_waiting.specs.Room.{Room, is_late, ready_numbers}
-use Rattle.gate_waiting.specs.Turns.{Calls, CallsInTurn, LawOfTurns, asked_in, handed_by, handed_in}
+use Rattle.gate_waiting.specs.Turns.{CallsInTurn, IsCall, LawOfTurns, asked_in, handed_by, handed_in}
 use Rattle.gate_waiting.specs.declared.guest.Guest.{Guest}
 use Rattle.gate_waiting.specs.declared.guest.Ready.{Ready}
 use Rattle.gate_waiting.specs.declared.guest.Reason.{Reason}
@@ -63,7 +63,7 @@ module _ {W : Type 0} (tells : W → Bool → List ℕ → Type 0) where
       joined [] (handed_by (next now old).0) (ready_numbers old.ready) (ready_numbers late.ready) (ready_numbers (next now old).1.ready)
       (late_order now old (find (is_late old now) old.guests)) (first_order late late.ready refl)
 
-  one_order : (old new : Room W) (call : Bool × List ℕ) → Calls tells call old new → IsInOrder call.1 (ready_numbers old.ready) (ready_numbers new.ready)
+  one_order : (old new : Room W) (call : Bool × List ℕ) → IsCall tells call old new → IsInOrder call.1 (ready_numbers old.ready) (ready_numbers new.ready)
   one_order old new call (inl (now, is, none)) =
       rw none (same_order old new (ap (λ (r : Room W). ready_numbers r.ready) is))
   one_order old new call (inr (inl (now, c, bytes, hears, none))) =
@@ -95,7 +95,7 @@ module _ {W : Type 0} (tells : W → Bool → List ℕ → Type 0) where
   at_most_one (Some ready) = omega arith
 
   -- a call that asks hands on one, if somebody is ready, and no other call does
-  asks : (old new : Room W) (call : Bool × List ℕ) → Calls tells call old new → 0 < length (ready_numbers old.ready)
+  asks : (old new : Room W) (call : Bool × List ℕ) → IsCall tells call old new → 0 < length (ready_numbers old.ready)
       → ((call.0 ≡ false) × (length call.1 ≡ 0)) ⊎ ((call.0 ≡ true) × (length call.1 ≡ 1))
   asks old new call (inl (now, is, none)) some = inl (rw none (refl, refl))
   asks old new call (inr (inl (now, c, bytes, hears, none))) some = inl (rw none (refl, refl))

@@ -1,14 +1,14 @@
 -- What each call leaves is a room again.
-use Rattle.std.proofs.Common.{arith, eqb, ◌≡◌, ◌≢◌, ◌⊎◌, inl, inr, ℕ, suc, ◌+◌, ◌<◌, ◌≤◌, Bool, true, false, cond, List, [], ◌∷◌, ◌++◌, length, Option, Some, None, IfSome, refl, ap, subst}
+use Rattle.std.proofs.Common.{arith, eqb, ◌≡◌, ◌≢◌, ◌⊎◌, inl, inr, ℕ, suc, ◌+◌, ◌<◌, ◌≤◌, Bool, true, false, cond, List, [], ◌∷◌, ◌++◌, length, Some, refl, ap, subst}
 use Rattle.std.proofs.lemmas.Bool.Decides.{eqb_tells}
 use Rattle.std.specs.List.{AllByRecursion, find}
 use Rattle.std.specs.Option.{unwrap_or}
-use Rattle.gate_waiting.specs.Calls.{IsHanded, first_of, gives_up, late_in, new_guest, next, with_guest, without_first}
-use Rattle.gate_waiting.specs.Room.{IsRoom, Room, is_late, most, ready_numbers, times, waiting_numbers}
+use Rattle.gate_waiting.specs.Calls.{new_guest, with_guest, without_first}
+use Rattle.gate_waiting.specs.Room.{IsRoom, Room, most, ready_numbers, times, waiting_numbers}
 use Rattle.gate_waiting.specs.declared.guest.Guest.{Guest}
 use Rattle.gate_waiting.specs.declared.guest.Ready.{Ready}
 use Rattle.gate_waiting.specs.declared.guest.Reason.{Reason}
-use Rattle.gate_waiting.specs.declared.guest.Reason.TheVariants.{Late, Whole}
+use Rattle.gate_waiting.specs.declared.guest.Reason.TheVariants.{Whole}
 
 -- how often a number is another one
 abbrev pub one : ℕ → ℕ → ℕ
@@ -119,29 +119,3 @@ module _ {W : Type 0} (tells : W → Bool → List ℕ → Type 0) (room : Room 
         short = all_more (λ (g : Guest). (g.bytes ≡ []) ⊎ tells room.whole false g.bytes) others kept (all_out (λ (g : Guest). (g.bytes ≡ []) ⊎ tells room.whole false g.bytes) test room.guests is.short) (inr short);
         whole = is.whole;
       })
-  -- it leaves
-
--- WHOM THE NEXT CALL HANDS ON
-module _ {W : Type 0} (tells : W → Bool → List ℕ → Type 0) (room : Room W) (is : IsRoom tells room) where
-  room_gives_up : (now : ℕ) (found : Option Guest) → find (is_late room now) room.guests ≡ found → IsRoom tells (late_in now found room)
-  room_gives_up now None at = is
-  room_gives_up now (Some guest) at = room_ready tells room is (without_first (is_late room now) room.guests) (room.ready ++ record { guest = guest; reason = Late } ∷ [])
-      (is_late room now) guest guest Late at refl refl refl (λ whole. absurd cc)
-
-  same_whole : (now : ℕ) (found : Option Guest) → (late_in now found room).whole ≡ room.whole
-  same_whole now None = refl
-  same_whole now (Some guest) = refl
-
-  handed_first : (left : Room W) → IsRoom tells left → left.whole ≡ room.whole → IfSome (first_of left.ready left).0 (IsHanded tells room (first_of left.ready left).1)
-  handed_first left is_left whole_is = of_ready left.ready refl
-    where
-      of_ready : (ready : List Ready) → left.ready ≡ ready → IfSome (first_of ready left).0 (IsHanded tells room (first_of ready left).1)
-      of_ready [] at = tt
-      of_ready (first ∷ others) at =
-          let whole = subst (λ (rs : List Ready). AllByRecursion (λ r. r.reason ≡ Whole → tells left.whole true r.guest.bytes) rs) at is_left.whole in
-          let once = subst (λ (rs : List Ready). times first.guest.connection (waiting_numbers left.guests) + times first.guest.connection (ready_numbers rs) ≤ 1) at (is_left.once first.guest.connection) in
-          let itself = one_itself first.guest.connection in
-          record { whole = λ reason. subst (λ (w : W). tells w true first.guest.bytes) whole_is (whole.0 reason); gone = omega arith }
-
-  pub is_handed : (now : ℕ) → IfSome (next now room).0 (IsHanded tells room (next now room).1)
-  is_handed now = handed_first (gives_up now room) (room_gives_up now (find (is_late room now) room.guests) refl) (same_whole now (find (is_late room now) room.guests))

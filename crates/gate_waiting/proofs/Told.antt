@@ -136,8 +136,7 @@ module _ {W : Type 0} (tells : W → Bool → List ℕ → Type 0) (events : Lis
   judged_told : (now c : ℕ) (bytes : List ℕ) (found kept : Guest) (reason : Reason) → find (is_of c) room.guests ≡ Some found
       → IsJudged (tells room.whole) now bytes found (Some reason) kept → IsReadyAsTold (heard now c bytes ∷ events) (record { guest = kept; reason = reason })
   judged_told now c bytes found kept reason at (inl h) = as_told (heard now c bytes ∷ events) kept reason (kept_told now c bytes found kept at h.2)
-  judged_told now c bytes found kept reason at (inr (inl h)) = as_told (heard now c bytes ∷ events) kept reason (kept_told now c bytes found kept at h.1)
-  judged_told now c bytes found kept reason at (inr (inr h)) =
+  judged_told now c bytes found kept reason at (inr h) =
       subst (λ (r : Reason). IsReadyAsTold (heard now c bytes ∷ events) (record { guest = kept; reason = r })) (sym h.0) (lost_told now c bytes found kept at h.1)
 
   -- bytes came on one that waited

@@ -5,7 +5,7 @@ use Rattle.gate_waiting.specs.Room.{Room, here, is_late}
 use Rattle.gate_waiting.specs.declared.guest.Guest.{Guest}
 use Rattle.gate_waiting.specs.declared.guest.Ready.{Ready}
 use Rattle.gate_waiting.specs.declared.guest.Reason.{Reason}
-use Rattle.gate_waiting.specs.declared.guest.Reason.TheVariants.{Whole, NoMemory, Lost, Late}
+use Rattle.gate_waiting.specs.declared.guest.Reason.TheVariants.{Whole, Lost, Late}
 
 -- the first that passes a test leaves, and the others stay in their order
 abbrev pub without_first : {X : Type 0} → (X → Bool) → List X → List X
@@ -32,8 +32,8 @@ is_ready connection guest reason room = record room {
   ready = room.ready ++ record { guest = guest; reason = reason } ∷ [];
 }
 
--- BYTES COME on one that waits. It is ready if they make its request whole, or if there is no memory to tell. If there is none for them,
--- they are lost, and it is ready with those before them.
+-- BYTES COME on one that waits. It is ready if they make its request whole. If there is no memory for them, they are lost, and it is ready
+-- with those before them.
 abbrev pub with_bytes : ℕ → List ℕ → Guest → Guest
 with_bytes now bytes guest = record guest { heard = now; bytes = guest.bytes ++ bytes }
 
@@ -41,7 +41,7 @@ abbrev pub IsJudged : (Bool → List ℕ → Type 0) → ℕ → List ℕ → Gu
 IsJudged tells now bytes guest None kept = tells false (guest.bytes ++ bytes) × (kept ≡ with_bytes now bytes guest)
 IsJudged tells now bytes guest (Some reason) kept =
     ((reason ≡ Whole) × tells true (guest.bytes ++ bytes) × (kept ≡ with_bytes now bytes guest))
-    ⊎ (((reason ≡ NoMemory) × (kept ≡ with_bytes now bytes guest)) ⊎ ((reason ≡ Lost) × (kept ≡ record guest { heard = now })))
+    ⊎ ((reason ≡ Lost) × (kept ≡ record guest { heard = now }))
 
 abbrev pub moves_on : {W : Type 0} → ℕ → Guest → Option Reason → Room W → Room W
 moves_on connection guest None room = goes_on connection guest room

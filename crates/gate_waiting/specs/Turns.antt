@@ -12,8 +12,8 @@ handed_by (Some ready) = ready.guest.connection ∷ []
 
 -- ONE CALL, whether it asks for the next one, and whom it hands on: a connection comes, bytes come, one is stopped, or the next is asked
 -- for. A call that changes nothing is one that stops a connection which isn't here.
-abbrev pub Calls : {W : Type 0} → (W → Bool → List ℕ → Type 0) → Bool × List ℕ → Room W → Room W → Type 0
-Calls tells call old new =
+abbrev pub IsCall : {W : Type 0} → (W → Bool → List ℕ → Type 0) → Bool × List ℕ → Room W → Room W → Type 0
+IsCall tells call old new =
     ((now : ℕ) × (new ≡ with_guest now old) × (call ≡ (false, [])))
     ⊎ (((now : ℕ) × (connection : ℕ) × (bytes : List ℕ) × Hears tells now connection bytes old new × (call ≡ (false, [])))
     ⊎ (((connection : ℕ) × (reason : Reason) × (new ≡ stops connection reason old) × (call ≡ (false, [])))
@@ -22,7 +22,7 @@ Calls tells call old new =
 -- CALLS ONE AFTER THE OTHER
 abbrev pub CallsInTurn : {W : Type 0} → (W → Bool → List ℕ → Type 0) → List (Bool × List ℕ) → Room W → Room W → Type 0
 CallsInTurn tells [] old new = new ≡ old
-CallsInTurn {W} tells (call ∷ calls) old new = (between : Room W) × Calls tells call old between × CallsInTurn tells calls between new
+CallsInTurn {W} tells (call ∷ calls) old new = (between : Room W) × IsCall tells call old between × CallsInTurn tells calls between new
 
 -- how often the next is asked for, and whom all of them hand on, in this order
 abbrev pub asked_in : List (Bool × List ℕ) → ℕ

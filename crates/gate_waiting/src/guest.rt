@@ -22,7 +22,7 @@ pub enum Reason {
     Ended,
     /// It can't be read.
     Failed,
-    /// There is no memory to wait for more, or to tell whether its request is whole.
+    /// There is no memory to wait for more.
     NoMemory,
     /// There is no memory for what has come last, and that is lost.
     Lost,

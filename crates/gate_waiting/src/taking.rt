@@ -1,6 +1,7 @@
-ghost use Rattle.std.specs.Prelude.{◌≡◌, ◌+◌, ◌<◌, nat_le, length, None, IfSome};
+ghost use Rattle.std.specs.Prelude.{◌≡◌, ◌+◌, ◌*◌, ◌^◌, ◌<◌, nat_le, length, None, IfSome};
 ghost use Rattle.std.specs.List.{find, position};
 ghost use Rattle.gate_waiting.specs.Calls.{without_first};
+ghost use Rattle.gate_waiting.specs.Pauses.{due_of, first_due_of, last_time};
 
 use crate::guest::Guest;
 use crate::places::Places;
@@ -46,6 +47,39 @@ impl Choice for LateAt {
     fn chooses(&self, guest: &Guest) -> bool {
         has_passed(self.time, guest.heard, self.patience)
             || has_passed(self.time, guest.came, self.in_all)
+    }
+}
+
+impl LateAt {
+    // Those that are late at this time, with this patience and ten times that in all.
+    pub(crate) fn new(time: u64, patience: u64) -> LateAt
+        requires { patience < 2 ^ 60 }
+        ensures { result ≡ record { time = time; patience = patience; in_all = 10 * patience } }
+    {
+        LateAt {
+            time,
+            patience,
+            in_all: 10 * patience,
+        }
+    }
+
+    // When it is late to wait for this one if nothing comes, and no later than a number can say.
+    fn due(&self, guest: &Guest) -> u64
+        ensures { result ≡ due_of self.now.patience self.now.in_all guest.now }
+    {
+        let silent = guest.heard.saturating_add(self.patience);
+        silent.min(guest.came.saturating_add(self.in_all))
+    }
+
+    // When it is late to wait for the first of these, and no later than a number can say.
+    pub(crate) fn first_due(&self, guests: &[Guest]) -> u64
+        ensures { result ≡ first_due_of self.now.patience self.now.in_all last_time guests.now }
+    {
+        let mut due = u64::MAX;
+        for guest in guests {
+            due = due.min(self.due(guest));
+        }
+        due
     }
 }
 

@@ -3,6 +3,7 @@ ghost use Rattle.std.specs.List.{find, list_any};
 ghost use Rattle.gate_waiting.specs.Calls as calls;
 ghost use Rattle.gate_waiting.specs.Calls.{Hears, IsHanded, IsJudged, is_of, stops, with_guest};
 ghost use Rattle.gate_waiting.specs.Events.{Event, came, heard};
+ghost use Rattle.gate_waiting.specs.Pauses.{IsPause};
 ghost use Rattle.gate_waiting.specs.Room.{IsReadyAsTold, Tells, empty_room, most};
 ghost use Rattle.gate_waiting.specs.declared.guest.Guest.{Guest as GuestOf};
 
@@ -20,9 +21,9 @@ pub trait Whole {
     // What is so of bytes that are a whole request, and of bytes that are none.
     ghost tells: { Self → Bool → List ℕ → Type 0 };
 
-    /// Whether these bytes of a request are all that its answer needs. `AllocError` if there is no memory to tell.
-    fn is_whole(&self, alloc: Global, bytes: &[u8]) -> Result<bool, AllocError>
-        ensures value { IfOk result (λ whole. tells self.now whole bytes.now) };
+    /// Whether these bytes of a request are all that its answer needs.
+    fn is_whole(&self, bytes: &[u8]) -> bool
+        ensures value { tells self.now result bytes.now };
 }
 
 /// The connections that are waited for, and those that are ready, at most 256 together. Times are microseconds of one clock, as its owner
@@ -108,6 +109,21 @@ impl<W: Whole + Drop> Waiting<W> {
         self.guests.len() + self.ready.len() < MOST
     }
 
+    /// For how many microseconds from this time on `next` hands on nobody if nothing comes: 0 if it hands on one at once. `None` if nobody
+    /// is here. It reaches no further than the last time that a `u64` can say.
+    pub fn pause(&self, now: u64) -> Option<u64>
+        ensures pause { IsPause now result self.now }
+    {
+        if self.is_empty() {
+            return None;
+        }
+        if self.ready.len() > 0 {
+            return Some(0);
+        }
+        let due = LateAt::new(now, self.patience).first_due(self.guests.as_slice());
+        Some(due.saturating_sub(now))
+    }
+
     /// Makes room for so many bytes more of a connection. If there is no memory for them, it is ready, with `NoMemory` and the bytes that
     /// it has. Nothing happens if it isn't waited for.
     pub fn make_room(&mut self, connection: u64, more: usize)
@@ -120,15 +136,14 @@ impl<W: Whole + Drop> Waiting<W> {
     }
 
     /// Takes bytes that come on a connection at this time. If they make its request whole, it is ready, with `Whole`. If there is no
-    /// memory to tell, it is ready with `NoMemory`. If there is none for the bytes, they are lost, and it is ready with `Lost`. On one that
-    /// isn't waited for nothing is taken.
-    pub fn hear(&mut self, alloc: Global, now: u64, connection: u64, bytes: &[u8])
+    /// memory for them, they are lost, and it is ready with `Lost`. On one that isn't waited for nothing is taken.
+    pub fn hear(&mut self, now: u64, connection: u64, bytes: &[u8])
         ensures heard { Hears W.tells now connection bytes.now self.old self.new }
         ensures told { (guest : GuestOf) → find (is_of connection) self.old.guests ≡ Some guest → (events : List Event)
             → Tells events self.old → Tells (heard now connection bytes.now ∷ events) self.new }
     {
         match take_out(&mut self.guests, &Numbered(connection)) {
-            Some(mut guest) => match judge(&self.whole, alloc, &mut guest, now, bytes) {
+            Some(mut guest) => match judge(&self.whole, &mut guest, now, bytes) {
                 Some(reason) => self.ready.add(Ready { guest, reason }),
                 None => self.guests.add(guest),
             },
@@ -154,7 +169,6 @@ impl<W: Whole + Drop> Waiting<W> {
 
     fn stop(&mut self, connection: u64, reason: Reason)
         requires some { reason ≢ Reason.Whole }
-        requires kept { reason ≢ Reason.Lost }
         ensures room { self.new ≡ stops connection reason self.old }
         ensures told { (events : List Event) → Tells events self.old → Tells events self.new }
     {
@@ -169,11 +183,7 @@ impl<W: Whole + Drop> Waiting<W> {
         ensures room { self.new ≡ calls.gives_up now self.old }
         ensures told { (events : List Event) → Tells events self.old → Tells events self.new }
     {
-        let late = LateAt {
-            time: now,
-            patience: self.patience,
-            in_all: 10 * self.patience,
-        };
+        let late = LateAt::new(now, self.patience);
         match take_out(&mut self.guests, &late) {
             Some(guest) => self.ready.add(Ready {
                 guest,
@@ -221,22 +231,16 @@ fn has_room(guests: &mut Places<Guest>, connection: u64, more: usize) -> bool
 }
 
 // Adds bytes to those of a connection, and says why it is ready, if it is.
-fn judge<W: Whole>(
-    whole: &W,
-    alloc: Global,
-    guest: &mut Guest,
-    now: u64,
-    bytes: &[u8],
-) -> Option<Reason>
+fn judge<W: Whole>(whole: &W, guest: &mut Guest, now: u64, bytes: &[u8]) -> Option<Reason>
     ensures { IsJudged (W.tells whole.now) now bytes.now guest.old result guest.new }
 {
     guest.heard = now;
     if guest.bytes.add(bytes).is_err() {
         return Some(Reason::Lost);
     }
-    match whole.is_whole(alloc, guest.bytes.as_slice()) {
-        Ok(true) => Some(Reason::Whole),
-        Ok(false) => None,
-        Err(_) => Some(Reason::NoMemory),
+    if whole.is_whole(guest.bytes.as_slice()) {
+        Some(Reason::Whole)
+    } else {
+        None
     }
 }

@@ -26,11 +26,11 @@ IsPatient patience = (1 ≤ patience) × (patience ≤ 3600)
 
 abbrev pub IsWithinLimits : Job → Type 0
 IsWithinLimits (Run db) = ⊤
-IsWithinLimits (Serve port count patience db token log) = AreWithinLimits port count × IsPatient patience
+IsWithinLimits (Serve port count patience db token log until_input_ends) = AreWithinLimits port count × IsPatient patience
 IsWithinLimits (Report file) = ⊤
 
 -- THE COMMANDS: `run`, `serve --port N --count N` and `report FILE`, of which the first two may have `--db FILE`, and the second
--- `--patience SECONDS`, `--token FILE` and `--log`. The program's name isn't among the words.
+-- `--patience SECONDS`, `--token FILE`, `--log` and `--until-input-ends`. The program's name isn't among the words.
 abbrev pub number_rule : Text → ValueParser → Rule
 number_rule name limits = record (new_rule name) { long = Some name; value_names = 1; required = true; parser = Some limits }
 
@@ -43,8 +43,8 @@ db_rule = record (new_rule (codes "db")) { long = Some (codes "db"); value_names
 abbrev pub token_rule : Rule
 token_rule = record (new_rule (codes "token")) { long = Some (codes "token"); value_names = 1 }
 
-abbrev pub log_rule : Rule
-log_rule = record (new_rule (codes "log")) { long = Some (codes "log"); action = Some SetTrue }
+abbrev pub flag_rule : Text → Rule
+flag_rule name = record (new_rule name) { long = Some name; action = Some SetTrue }
 
 abbrev pub run_words : App
 run_words = with_rule (new_app (codes "run")) db_rule
@@ -59,8 +59,11 @@ abbrev pub patience_rule : Rule
 patience_rule =
     record (new_rule (codes "patience")) { long = Some (codes "patience"); value_names = 1; parser = Some (Signed (pos 1) (pos 3600)) }
 
+abbrev pub guarded_words : App
+guarded_words = with_rule (with_rule (with_rule numbered_words patience_rule) db_rule) token_rule
+
 abbrev pub serve_words : App
-serve_words = with_rule (with_rule (with_rule (with_rule numbered_words patience_rule) db_rule) token_rule) log_rule
+serve_words = with_rule (with_rule guarded_words (flag_rule (codes "log"))) (flag_rule (codes "until-input-ends"))
 
 abbrev pub report_words : App
 report_words = with_rule (new_app (codes "report")) file_rule
@@ -91,37 +94,37 @@ IsPatienceIn patience rows = IsPatience patience (one_of (codes "patience") rows
 abbrev pub IsFileOf : {A : Type 0} → Text → Option (String A) → List Row → Type 0
 IsFileOf {A} option file rows = first_of option rows ≡ option_map string_bytes file
 
--- whether `--log` is there; of an option that takes no value, `clap` tells `true` or `false`
+-- whether an option is there; of one that takes no value, `clap` tells `true` or `false`
 abbrev pub IsFlag : Bool → Option Text → Type 0
 IsFlag flag None = flag ≡ false
 IsFlag flag (Some text) = (text ≡ codes "true" → flag ≡ true) × (text ≡ codes "false" → flag ≡ false)
 
-abbrev pub IsFlagIn : Bool → List Row → Type 0
-IsFlagIn log rows = IsFlag log (one_of (codes "log") rows)
+abbrev pub IsFlagIn : Text → Bool → List Row → Type 0
+IsFlagIn name flag rows = IsFlag flag (one_of name rows)
 
 abbrev pub IsRunIn : Job → List Row → Type 0
 IsRunIn (Run db) rows = IsFileOf (codes "db") db rows
-IsRunIn (Serve port count patience db token log) rows = ⊥
+IsRunIn (Serve port count patience db token log until_input_ends) rows = ⊥
 IsRunIn (Report file) rows = ⊥
 
 abbrev pub IsServeIn : Job → List Row → Type 0
 IsServeIn (Run db) rows = ⊥
-IsServeIn (Serve port count patience db token log) rows =
+IsServeIn (Serve port count patience db token log until_input_ends) rows =
     AreNumbersIn port count rows × IsPatienceIn patience rows × IsFileOf (codes "db") db rows × IsFileOf (codes "token") token rows
-    × IsFlagIn log rows
+    × IsFlagIn (codes "log") log rows × IsFlagIn (codes "until-input-ends") until_input_ends rows
 IsServeIn (Report file) rows = ⊥
 
 abbrev pub IsFileIn : Job → List Row → Type 0
 IsFileIn (Run db) rows = ⊥
-IsFileIn (Serve port count patience db token log) rows = ⊥
+IsFileIn (Serve port count patience db token log until_input_ends) rows = ⊥
 IsFileIn (Report file) rows = first_of (codes "FILE") rows ≡ Some (string_bytes file)
 
 -- no command is the command `run` without its option
 abbrev pub IsJobIn : Job → Option (Text × List Row) → Type 0
 IsJobIn (Run db) command =
     ((command ≡ None) × (db ≡ None)) ⊎ ((rows : List Row) × (command ≡ Some (codes "run", rows)) × IsRunIn (Run db) rows)
-IsJobIn (Serve port count patience db token log) command =
-    (rows : List Row) × (command ≡ Some (codes "serve", rows)) × IsServeIn (Serve port count patience db token log) rows
+IsJobIn (Serve port count patience db token log until_input_ends) command =
+    (rows : List Row) × (command ≡ Some (codes "serve", rows)) × IsServeIn (Serve port count patience db token log until_input_ends) rows
 IsJobIn (Report file) command = (rows : List Row) × (command ≡ Some (codes "report", rows)) × IsFileIn (Report file) rows
 
 -- If there is no job, none within the limits is asked for.

@@ -1,8 +1,8 @@
-ghost use Rattle.std.specs.Prelude.{◌≡◌, false, pos, map, IfOk};
+ghost use Rattle.std.specs.Prelude.{◌≡◌, false, pos, map, codes, IfOk};
 ghost use Rattle.clap.specs.Words.{FailsBy, app_of, fault_of, new_app, rule_of, subcommand_of, subcommand_rows_of, with_rule, with_subcommand};
 ghost use Rattle.clap.specs.declared.builder.command.Command.TheViews.{out-Command as fields_of};
 ghost use Rattle.clap.specs.declared.builder.value_parser.ValueParser.TheVariants.{Signed};
-ghost use Rattle.gate_words.specs.Words.{bare_words, db_rule, file_rule, gate_words, log_rule, number_rule, numbered_words, patience_rule, report_words, run_words, serve_words, token_rule};
+ghost use Rattle.gate_words.specs.Words.{bare_words, db_rule, file_rule, flag_rule, gate_words, guarded_words, number_rule, numbered_words, patience_rule, report_words, run_words, serve_words, token_rule};
 
 use clap::builder::ValueParser;
 use clap::{Arg, ArgAction, ArgMatches, Command, Error, value_parser};
@@ -25,7 +25,7 @@ It keeps its records in a database file, or in memory, and then they are gone wh
 
 const USAGE: &str = "\
 gate [run [--db <FILE>]]
-       gate serve --port <N> --count <N> [--patience <SECONDS>] [--db <FILE>] [--token <FILE>] [--log]
+       gate serve --port <N> --count <N> [--patience <SECONDS>] [--db <FILE>] [--token <FILE>] [--log] [--until-input-ends]
        gate report <FILE>";
 
 const MORE: &str = "\
@@ -60,6 +60,9 @@ const TOKEN: &str =
     "A file with the token that each request has to bear; none is needed if left out";
 
 const LOG: &str = "Write a line about each request to standard error";
+
+const UNTIL_INPUT_ENDS: &str =
+    "End when standard input is closed, after the requests that are whole";
 
 const FILE: &str = "The file with the deliveries";
 
@@ -103,15 +106,15 @@ fn token<'a>(alloc: Global) -> Arg<'a>
         .help(TOKEN)
 }
 
-// The option that asks for a log.
-fn log<'a>(alloc: Global) -> Arg<'a>
-    ensures rule { rule_of result ≡ log_rule }
+// An option that is there or isn't.
+fn flag<'a>(alloc: Global, name: &'a str, help: &'a str) -> Arg<'a>
+    ensures rule { rule_of result ≡ flag_rule name.entry.now }
     ensures local { result.global ≡ false }
 {
-    Arg::new(alloc, "log")
-        .long("log")
+    Arg::new(alloc, name)
+        .long(name)
         .action(ArgAction::SetTrue)
-        .help(LOG)
+        .help(help)
 }
 
 // The option that says how long a client is waited for. It may be left out.
@@ -152,7 +155,7 @@ fn run_command<'a>(alloc: Global) -> Result<Command<'a>, AllocError>
 }
 
 const SERVE_USAGE: &str =
-    "gate serve --port <N> --count <N> [--patience <SECONDS>] [--db <FILE>] [--token <FILE>] [--log]";
+    "gate serve --port <N> --count <N> [--patience <SECONDS>] [--db <FILE>] [--token <FILE>] [--log] [--until-input-ends]";
 
 // `serve` with its port and its count.
 fn numbered_command<'a>(alloc: Global) -> Result<Command<'a>, AllocError>
@@ -182,17 +185,25 @@ fn kept_command<'a>(alloc: Global) -> Result<Command<'a>, AllocError>
 
 // With its token besides.
 fn guarded_command<'a>(alloc: Global) -> Result<Command<'a>, AllocError>
-    ensures words { IfOk result (λ made. app_of made ≡ with_rule (with_rule (with_rule numbered_words patience_rule) db_rule) token_rule) }
+    ensures words { IfOk result (λ made. app_of made ≡ guarded_words) }
     ensures local { IfOk result (λ made. (fields_of made).has_globals ≡ false) }
 {
     kept_command(alloc)?.arg(token(alloc))
+}
+
+// With its log besides.
+fn logged_command<'a>(alloc: Global) -> Result<Command<'a>, AllocError>
+    ensures words { IfOk result (λ made. app_of made ≡ with_rule guarded_words (flag_rule (codes "log"))) }
+    ensures local { IfOk result (λ made. (fields_of made).has_globals ≡ false) }
+{
+    guarded_command(alloc)?.arg(flag(alloc, "log", LOG))
 }
 
 fn serve_command<'a>(alloc: Global) -> Result<Command<'a>, AllocError>
     ensures words { IfOk result (λ made. app_of made ≡ serve_words) }
     ensures local { IfOk result (λ made. (fields_of made).has_globals ≡ false) }
 {
-    guarded_command(alloc)?.arg(log(alloc))
+    logged_command(alloc)?.arg(flag(alloc, "until-input-ends", UNTIL_INPUT_ENDS))
 }
 
 // The file that is to be read.

@@ -35,6 +35,8 @@ pub enum Job {
         token: Option<String>,
         /// Whether a log of the requests goes to standard error.
         log: bool,
+        /// Whether it ends when standard input is closed.
+        until_input_ends: bool,
     },
     /// To report the queue after the lines of a file.
     Report {
@@ -88,11 +90,11 @@ fn run_job(alloc: Global, options: &ArgMatches<'_>) -> Result<Job, AllocError>
     })
 }
 
-// Whether `--log` is among the options.
-fn log_in(options: &ArgMatches<'_>) -> bool
-    ensures { IsFlagIn result (rows_of (found_of options.now)) }
+// Whether the option of this name is there.
+fn has_flag(options: &ArgMatches<'_>, name: &str) -> bool
+    ensures { IsFlagIn name.now result (rows_of (found_of options.now)) }
 {
-    options.get_flag("log")
+    options.get_flag(name)
 }
 
 // The port and the count of `serve`. The limits are those of the command; they are looked at again, so that what is said of them
@@ -148,7 +150,8 @@ fn serve_job(alloc: Global, options: &ArgMatches<'_>) -> Result<Option<Job>, All
     };
     let db = file_of(alloc, options, "db")?;
     let token = file_of(alloc, options, "token")?;
-    let log = log_in(options);
+    let log = has_flag(options, "log");
+    let until_input_ends = has_flag(options, "until-input-ends");
     Ok(Some(Job::Serve {
         port,
         count,
@@ -156,6 +159,7 @@ fn serve_job(alloc: Global, options: &ArgMatches<'_>) -> Result<Option<Job>, All
         db,
         token,
         log,
+        until_input_ends,
     }))
 }
 

@@ -1,7 +1,6 @@
-use Rattle.std.proofs.Common.{◌≡◌, Err, Ok, codes, inl, inr, refl, rules}
-use Rattle.std.specs.Fmt.{digits}
-use Rattle.gate_http.specs.Responses.{response_text}
-use Rattle.gate_hook.proofs.Responding.{exact-one, fault-anyhow, fault-written-down, sends-anyhow, sends-fault, sends-response, stays-fault, stays-response, unchanged, unread-anyhow, written-down}
+use Rattle.std.proofs.Common.{◌≡◌, Err, Ok, inl, inr, refl, rules}
+use Rattle.gate_http.specs.Responses.{fault_response, response_text}
+use Rattle.gate_hook.proofs.Responding.{exact-one, fault-anyhow, fault-written-down, sends-anyhow, sends-fault, sends-response, sends-unread, stays-fault, stays-response, unchanged, unread-anyhow, written-down}
 use Rattle.gate_hook.specs.declared.fault.HookFault.TheVariants.{Read}
 use Rattle.gate_hook.proofs.requests.serve_guarded.Goals as goal
 
@@ -20,20 +19,18 @@ returns-in-Ok-clause-same g c sound input known none =
     unchanged _ (Ok c.in-Ok.response) _ _ input answered.0 _ _ known answered.1 (answered.2 sound) none
 
 pub returns-in-Err-Gate-clause-served : goal.returns-in-Err-Gate-clause-served
-unfolding response_text digits
 returns-in-Err-Gate-clause-served g c =
     let answered = c.in-Err-Gate.ensures.answered in (
       answered.0,
       answered.1,
-      λ sound. sends-fault _ _ c.in-Err-Gate.fault _ _ _ _ _ (codes "HTTP/1.1 503 Service Unavailable\r\nContent-Length: 0\r\nConnection: close\r\n\r\n") refl
-          (rw c.in-Err-Gate.field-0-is at answered.2 sound) c.send_as.ensures,
+      λ sound. sends-fault _ _ c.in-Err-Gate.fault _ _ _ _ _ (response_text fault_response) refl
+          (rw c.in-Err-Gate.field-0-is at answered.2 sound) c.send_unavailable.ensures,
     )
 
 pub returns-in-Err-Gate-clause-stays : goal.returns-in-Err-Gate-clause-stays
-unfolding response_text digits
 returns-in-Err-Gate-clause-stays g c begun honest =
-    stays-fault _ c.in-Err-Gate.fault _ _ _ (codes "HTTP/1.1 503 Service Unavailable\r\nContent-Length: 0\r\nConnection: close\r\n\r\n") refl
-    (rw c.in-Err-Gate.field-0-is at c.in-Err-Gate.ensures.stays (λ _. begun) honest) c.send_as.ensures
+    stays-fault _ c.in-Err-Gate.fault _ _ _ (response_text fault_response) refl
+    (rw c.in-Err-Gate.field-0-is at c.in-Err-Gate.ensures.stays (λ _. begun) honest) c.send_unavailable.ensures
 
 pub returns-in-Err-Gate-clause-same : goal.returns-in-Err-Gate-clause-same
 returns-in-Err-Gate-clause-same g c sound input known none =
@@ -51,10 +48,9 @@ returns-in-Ok-clause-transcript g c =
     written-down _ _ _ _ _ _ _ _ _ _ c.send_response.ensures.told c.send_response.ensures.untold c.clear-2.ensures.bytes c.in-Ok.ensures.consumed c.send_response.ensures.sent
 
 pub returns-in-Err-Gate-clause-transcript : goal.returns-in-Err-Gate-clause-transcript
-unfolding response_text digits
 returns-in-Err-Gate-clause-transcript g c =
-    fault-written-down _ c.in-Err-Gate.fault _ _ (codes "HTTP/1.1 503 Service Unavailable\r\nContent-Length: 0\r\nConnection: close\r\n\r\n") _ _ _ _ refl
-    c.in-Err-Gate.ensures.consumed c.clear-2.ensures.bytes c.send_as.ensures
+    fault-written-down _ c.in-Err-Gate.fault _ _ (response_text fault_response) _ _ _ _ refl
+    c.in-Err-Gate.ensures.consumed c.clear-2.ensures.bytes c.send_unavailable.ensures
 
 pub returns-in-Ok-clause-anyhow : goal.returns-in-Ok-clause-anyhow
 returns-in-Ok-clause-anyhow g c honest = elim (c.in-Ok.ensures.anyhow honest) [
@@ -63,13 +59,22 @@ returns-in-Ok-clause-anyhow g c honest = elim (c.in-Ok.ensures.anyhow honest) [
 ]
 
 pub returns-in-Err-Gate-clause-anyhow : goal.returns-in-Err-Gate-clause-anyhow
-unfolding response_text digits
 returns-in-Err-Gate-clause-anyhow g c honest =
     let answered = c.in-Err-Gate.ensures.answered in inr (
       answered.0,
       answered.1,
-      fault-anyhow _ _ c.in-Err-Gate.fault _ _ _ (codes "HTTP/1.1 503 Service Unavailable\r\nContent-Length: 0\r\nConnection: close\r\n\r\n") refl
-          c.send_as.ensures,
+      fault-anyhow _ _ c.in-Err-Gate.fault _ _ _ (response_text fault_response) refl
+          c.send_unavailable.ensures,
+    )
+
+pub returns-in-Err-clause-served : goal.returns-in-Err-clause-served
+returns-in-Err-clause-served g c =
+    let answered = c.in-Err.ensures.answered in
+    let read : c.in-Err.fault ≡ Read = search rules in (
+      answered.0,
+      answered.1,
+      λ sound. sends-unread c.args.routes.now c.in-Err.fault answered.0 (g.B.Book.shows c.args.keeper.now) (g.B.Book.shows c.answer.new.keeper)
+          (g.W.Write.contents c.args.writer.now) read (answered.2 sound),
     )
 
 pub returns-in-Err-clause-anyhow : goal.returns-in-Err-clause-anyhow

@@ -1,4 +1,4 @@
-use Rattle.std.proofs.Common.{[], ◌∷◌, ◌++◌, arith, option_copied, refl}
+use Rattle.std.proofs.Common.{[], ◌∷◌, ◌++◌, arith, refl}
 use Rattle.std.proofs.lemmas.List.{length-append}
 use Rattle.std.proofs.lemmas.List.Elements.{All-nil, All-push}
 use Rattle.gate_store.proofs.Outlasting.{outlasts_both, outlasts_none}
@@ -10,7 +10,7 @@ use Rattle.gate_jobs.proofs.serving.serve.Goals as goal
 pub loop-init : goal.loop-init
 loop-init g c = record {
   outlasts = outlasts_none g.B.Book _;
-  served = ([], refl, refl, refl, refl, All-nil (IsTakenAsNeeded (option_copied c.args.token)), λ sound. refl, λ honest. refl);
+  served = ([], refl, refl, refl, refl, All-nil (IsTakenAsNeeded c.args.routes.now), λ sound. refl, λ honest. refl);
 }
 
 pub loop-preserved : goal.loop-preserved
@@ -19,7 +19,7 @@ loop-preserved g c =
     let connections = before.served.0 in
     let next = c.in-Ok.ensures in
     let last = next.served.0 in
-    let token = option_copied c.args.token in
+    let token = c.args.routes.now in
     record {
       outlasts = outlasts_both g.B.Book _ _ _ before.outlasts next.outlasts;
       served = (

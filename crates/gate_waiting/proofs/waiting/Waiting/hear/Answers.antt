@@ -13,10 +13,10 @@ invariant_of-self g c =
     let kept = c.judge.new.guest in
     room_ready g.W.Whole.tells _ c.self.invariant c.take_out.new.guests c.add.new.self (is_of c.args.connection) c.in-Some.guest kept c.in-Some-judge.reason
     (sym c.in-Some.ensures.found) c.in-Some.ensures.rest c.add.ensures.value
-    (elim c.in-Some-judge.ensures [ inl h ↦ ap (λ (guest : Guest). guest.connection) h.2 | inr h ↦ elim h [ inl k ↦ ap (λ (guest : Guest). guest.connection) k.1 | inr k ↦ ap (λ (guest : Guest). guest.connection) k.1 ] ])
+    (elim c.in-Some-judge.ensures [ inl h ↦ ap (λ (guest : Guest). guest.connection) h.2 | inr h ↦ ap (λ (guest : Guest). guest.connection) h.1 ])
     (λ is. elim c.in-Some-judge.ensures [
       | inl h ↦ subst (λ (guest : Guest). g.W.Whole.tells c.self.inside.whole true guest.bytes) (sym h.2) h.1
-      | inr h ↦ elim h [ inl k ↦ absurd (cc) | inr k ↦ absurd (cc) ]
+      | inr h ↦ absurd (cc)
     ])
 
 pub add-requires-in-None-judge : goal.add-requires-in-None-judge

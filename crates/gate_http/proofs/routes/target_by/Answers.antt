@@ -3,7 +3,7 @@ use Rattle.std.proofs.lemmas.Option.{none-some}
 use Rattle.gate_http.proofs.Parts.{part-is, same-text}
 use Rattle.gate_http.proofs.Targets.{found, missed}
 use Rattle.gate_http.specs.Targets.{change_of}
-use Rattle.gate_http.proofs.target.target_by.Goals as goal
+use Rattle.gate_http.proofs.routes.target_by.Goals as goal
 
 pub returns-in_default : goal.returns-in_default
 returns-in_default c = sym (missed c.args.path.now (rw c.requires at c.in_default.ensures.missing))

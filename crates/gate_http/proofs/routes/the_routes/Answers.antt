@@ -1,6 +1,6 @@
 use Rattle.std.proofs.Common.{refl}
 use Rattle.matchit.proofs.OnLiterals.{matchit_on_literals}
-use Rattle.gate_http.proofs.target.the_routes.Goals as goal
+use Rattle.gate_http.proofs.routes.the_routes.Goals as goal
 
 pub returns : goal.returns
 unfolding matchit_on_literals
