@@ -5,6 +5,7 @@ A script that imports this sets `sys.dont_write_bytecode` before, so that nothin
 """
 import json
 import random
+import resource
 import select
 import socket
 import sqlite3
@@ -12,6 +13,7 @@ import subprocess
 import time
 from collections import deque
 from contextlib import closing, suppress
+from functools import partial
 from http.client import HTTPConnection
 from importlib.machinery import SourceFileLoader
 from importlib.util import module_from_spec, spec_from_loader
@@ -152,6 +154,17 @@ def rows_of(file):
         want("what the stock SQLite says of the file", database.execute("PRAGMA integrity_check").fetchall(), [("ok",)])
         tables = [name for name, in database.execute("SELECT name FROM sqlite_schema WHERE type = 'table'")]
         return {table: sorted(database.execute(f"SELECT * FROM {table}").fetchall()) for table in tables}
+
+
+def under(limits):
+    """How a program is started under these limits."""
+    return {"preexec_fn": partial(set_limits, limits)}
+
+
+def set_limits(limits):
+    for kind, most in limits:
+        # The hard limit stays, so that a case can lift the other one later.
+        resource.setrlimit(kind, (most, resource.getrlimit(kind)[1]))
 
 
 # --- `gate serve`
