@@ -1,8 +1,8 @@
-//! A program for tests alone: it serves lines over other books than the program `gate` does, or tells what the book of that
-//! program holds at the end.
+//! A program for tests alone: it serves lines over other books than the program `gate` does, or tells what a book in a database holds
+//! at the end.
 //!
-//! `gate_books plain` serves them over a book without a database, and `gate_books reopened` leaves its book after each line, and
-//! opens it again. `gate_books tables` prints the rows of the tables in place of the answers, and `gate_books changed` the row
+//! `gate_books in_tables` serves them over a book in a database in memory, and `gate_books reopened` leaves its book after each line,
+//! and opens it again. `gate_books tables` prints the rows of the tables in place of the answers, and `gate_books changed` the row
 //! changes of each line. `gate_books committed` prints the same rows as `tables`, but its book keeps each delivery by `commit`, which
 //! the program never calls. `.ci/test_rows` starts it so.
 //!
@@ -58,7 +58,7 @@ fn run(rt: &HostRuntime) -> Result<(), BooksFault> {
     let mut writer = io::writer(rt);
     match asked.as_str() {
         "alone" => alone::ask_alone(rt.alloc(), &mut reader, &mut writer),
-        "plain" => serving::serve_plain(rt.alloc(), &mut reader, &mut writer),
+        "in_tables" => serving::serve_in_tables(rt.alloc(), &mut reader, &mut writer),
         "reopened" => reopened::serve_reopened(rt.alloc(), &mut reader, &mut writer),
         "tables" => tables::print_tables(rt.alloc(), &mut reader, &mut writer),
         "committed" => tables::print_committed(rt.alloc(), &mut reader, &mut writer),

@@ -1,14 +1,13 @@
 use crate::by_commit::ByCommit;
 use crate::fault::BooksFault;
 use gate_hook::serve_lines;
-use gate_queue::Gate;
 use gate_sql::SqlBook;
-use gate_store::{Book, Keeper, PlainBook};
+use gate_store::{Book, Keeper};
 use sqlite::{Connection, MemStore};
 use std::alloc::Global;
 use std::io::{Read, Write};
 
-/// The book that the program `gate` has.
+/// A book in a database in memory.
 pub(crate) type MemoryBook = SqlBook<MemStore>;
 
 /// A book in a new database in memory.
@@ -51,18 +50,16 @@ pub(crate) fn served_by_commit<B: Book + Drop, R: Read, W: Write>(
     }
 }
 
-/// Serves all lines over a book without a database.
-pub(crate) fn serve_plain<R: Read, W: Write>(
+/// Serves all lines over a book in a new database in memory.
+pub(crate) fn serve_in_tables<R: Read, W: Write>(
     alloc: Global,
     reader: &mut R,
     writer: &mut W,
 ) -> Result<(), BooksFault> {
-    serve_over(
-        alloc,
-        PlainBook::new(alloc, Gate::new(alloc)),
-        reader,
-        writer,
-    )
+    match memory_book(alloc) {
+        Ok(book) => serve_over(alloc, book, reader, writer),
+        Err(fault) => Err(fault),
+    }
 }
 
 fn serve_over<B: Book + Drop, R: Read, W: Write>(

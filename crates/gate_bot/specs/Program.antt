@@ -1,7 +1,6 @@
 -- THE RECORDS with which each job begins: none, or those in a file.
-use Rattle.std.specs.Prelude.{◌≡◌, ◌⊎◌, ℕ, List, Option, Result, Err}
+use Rattle.std.specs.Prelude.{◌≡◌, ◌⊎◌}
 use Rattle.std.specs.FinMap.{empty}
-use Rattle.gate_hook.specs.declared.fault.HookFault.{HookFault}
 use Rattle.gate_hook.specs.declared.fault.HookFault.TheVariants.{Gate}
 use Rattle.gate_jobs.specs.declared.fault.JobFault.{JobFault}
 use Rattle.gate_jobs.specs.declared.fault.JobFault.TheVariants.{Hook, File, Token}
@@ -14,10 +13,6 @@ use Rattle.sqlite.specs.declared.error.ErrorCode.TheVariants.{OutOfMemory}
 
 abbrev pub no_records : Records
 no_records = record { state = empty_state 1; kept = empty }
-
--- no book could be made, and nothing was read or written
-abbrev pub HasNotBegun : Result ℕ HookFault → Option (List ℕ) → Option (List ℕ) → Option (List ℕ) → Option (List ℕ) → Type 0
-HasNotBegun result unread left before after = ((result ≡ Err (Gate Memory)) ⊎ (result ≡ Err (Gate Store))) × (left ≡ unread) × (after ≡ before)
 
 -- what is told of a file that can't be opened
 abbrev pub fault_of : Error → JobFault

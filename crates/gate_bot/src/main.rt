@@ -98,7 +98,7 @@ fn run_in_file<S: Start>(rt: &HostRuntime, file: &str, start: S) -> Result<(), J
 
 // The records are made before the file is opened.
 fn report(rt: &HostRuntime, file: &str) -> Result<(), JobFault> {
-    let book = book_in_memory(rt.alloc())?;
+    let book = book_in_memory(rt.alloc());
     match File::open(rt, file) {
         Ok(mut file) => {
             reporting::report(rt.alloc(), book, &mut file, &mut io::writer(rt))?;

@@ -3,7 +3,6 @@ ghost use Rattle.gate_bot.specs.Program.{IsOfFiles, IsOfRecords, IsUnopened, fau
 ghost use Rattle.gate_sql.specs.Files.{StandIn};
 ghost use Rattle.gate_sql.specs.Shown.{shown};
 ghost use Rattle.gate_sql.specs.Versions.{OpensAs};
-ghost use Rattle.gate_store.specs.Run.{IsOfBooks};
 ghost use Rattle.gate_tables.specs.Tables.{Outlasts, is_honest, is_shielded, is_sound};
 ghost use Rattle.gate_tables.specs.Schemas.{HasTables};
 ghost use Rattle.sqlite.specs.Closing.{IsCopied};
@@ -11,33 +10,25 @@ ghost use Rattle.sqlite.specs.Files.{IsClosed, IsOpened, file_state, over_files}
 ghost use Rattle.sqlite.specs.Held.{state};
 ghost use Rattle.sqlite.specs.Start.{FindsIn};
 ghost use Rattle.sqlite.specs.State.{HasCleanDisk};
-ghost use Rattle.sqlite.specs.Steps.{over_memory};
 ghost use Rattle.sqlite.specs.WalFiles.{image_at};
 ghost use Rattle.sqlite.specs.WalReads.{AreClean};
 
 use gate_jobs::JobFault;
-use gate_queue::Fault;
+use gate_queue::{Fault, Gate};
 use gate_sql::SqlBook;
-use sqlite::{Alter, Connection, Error, ErrorCode, FileFrom, FileStore, Files, MemStore, Start};
+use gate_store::PlainBook;
+use sqlite::{Alter, Connection, Error, ErrorCode, FileFrom, FileStore, Files, Start};
 use sqlite_disk::Disk;
 use std::alloc::Global;
-
-/// A book in a database in memory, which keeps the records until the program ends.
-pub type MemoryBook = SqlBook<MemStore>;
 
 /// A book in a database file, which keeps the records for the next program. `S` stands for what the file and its log held.
 pub type FileBook<S> = SqlBook<FileStore<FileFrom<S>>>;
 
-/// A book without records, in a new database in memory.
-pub fn book_in_memory(alloc: Global) -> Result<MemoryBook, Fault>
-    ensures value { IfOk result (λ book. shown over_memory book ≡ no_records) }
-    ensures fault { IfErr result IsOfBooks }
+/// A book without records, which keeps them in memory until the program ends. It takes no memory.
+pub fn book_in_memory(alloc: Global) -> PlainBook
+    ensures value { result ≡ no_records }
 {
-    let connection = Connection::open_in_memory(alloc)?;
-    match SqlBook::new(alloc, connection) {
-        Ok(book) => Ok(book),
-        Err(refused) => Err(refused.fault),
-    }
+    PlainBook::new(alloc, Gate::new(alloc))
 }
 
 /// The book that a database file keeps. A file that isn't there is made, and one that is empty gets its tables and no records. Each

@@ -1,14 +1,11 @@
-ghost use Rattle.std.specs.Prelude.{ℕ, List, IfErr, OnOk};
+ghost use Rattle.std.specs.Prelude.{◌≡◌, ℕ, List, IfErr, OnOk};
 ghost use Rattle.std.specs.Io.KnownBytes.{Consumes, IsAtEnd};
 ghost use Rattle.gate_hook.specs.Lines.{MayEnd};
 ghost use Rattle.gate_jobs.specs.Report.{IsReported};
-ghost use Rattle.gate_sql.specs.Shown.{shown};
-ghost use Rattle.gate_store.specs.Run.{IsOfBooks};
-ghost use Rattle.sqlite.specs.Steps.{over_memory};
 
-use crate::records::MemoryBook;
 use gate_hook::HookFault;
-use gate_store::{Book, Keeper};
+use gate_queue::Fault;
+use gate_store::{Book, Keeper, PlainBook};
 use std::alloc::Global;
 use std::io::{Read, Write};
 
@@ -37,19 +34,19 @@ fn report_over<B: Book + Drop, R: Read, W: Write>(
 /// go. After a fault nothing is written, or after `Write` a part of the text.
 pub fn report<R: Read, W: Write>(
     alloc: Global,
-    book: MemoryBook,
+    book: PlainBook,
     reader: &mut R,
     writer: &mut W,
 ) -> Result<(), HookFault>
     // The report is that of the input which was read. A book in memory needs no premise.
     ensures reported { (input : List ℕ) × Consumes (R.remaining reader.old) (R.remaining reader.new) input
-        × IsReported (shown over_memory book) result input (R.remaining reader.new) (W.contents writer.old) (W.contents writer.new) }
+        × IsReported book result input (R.remaining reader.new) (W.contents writer.old) (W.contents writer.new) }
 
     // It succeeds at the end of the input alone.
     ensures end { OnOk result (IsAtEnd (R.remaining reader.new)) }
 
-    // A fault of the gate is one that a keeper over the database may answer.
-    ensures cause { IfErr result (MayEnd IsOfBooks) }
+    // A fault of the gate is one that a keeper over a book in memory may answer.
+    ensures cause { IfErr result (MayEnd (λ fault. fault ≡ Fault.Memory)) }
 {
     report_over(alloc, book, reader, writer)
 }

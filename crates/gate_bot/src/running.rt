@@ -1,6 +1,6 @@
-ghost use Rattle.std.specs.Prelude.{◌≡◌, ◌⊎◌, ℕ, List, IfErr, IfOk, OnOk};
+ghost use Rattle.std.specs.Prelude.{◌≡◌, ℕ, List, IfErr, IfOk, OnOk};
 ghost use Rattle.std.specs.Io.KnownBytes.{Consumes, IsAtEnd};
-ghost use Rattle.gate_bot.specs.Program.{HasNotBegun, IsOfFiles, no_records};
+ghost use Rattle.gate_bot.specs.Program.{IsOfFiles, no_records};
 ghost use Rattle.gate_hook.specs.Lines.{IsServed, IsWithinLimit, MayEnd, Serves};
 ghost use Rattle.gate_sql.specs.Files.{StandIn};
 ghost use Rattle.gate_sql.specs.Shown.{shown};
@@ -12,6 +12,7 @@ ghost use Rattle.sqlite.specs.WalFiles.{image_at};
 use crate::records::{FileBook, book_in_file, book_in_memory};
 use gate_hook::{HookFault, serve_lines};
 use gate_jobs::JobFault;
+use gate_queue::Fault;
 use gate_store::{Book, Keeper};
 use sqlite::Start;
 use std::alloc::Global;
@@ -41,35 +42,28 @@ fn run_over<B: Book, R: Read, W: Write>(
     (served, keeper.into_book())
 }
 
-/// Serves the lines of a reader on a writer over a book in a new database in memory. Such a book needs no premise, so what is said
-/// holds without one. It answers how many lines there were. If the book can't be made, nothing is read or written, and the fault
-/// is `Gate(Memory)` or `Gate(Store)`.
+/// Serves the lines of a reader on a writer over a new book in memory. Such a book needs no premise, so what is said holds without
+/// one. It answers how many lines there were.
 pub fn run<R: Read, W: Write>(
     alloc: Global,
     reader: &mut R,
     writer: &mut W,
 ) -> Result<u64, HookFault>
     // The lines are served from the empty state on, without answers that are kept.
-    ensures served { HasNotBegun result (R.remaining reader.old) (R.remaining reader.new) (W.contents writer.old) (W.contents writer.new)
-        ⊎ ((input : List ℕ) × Consumes (R.remaining reader.old) (R.remaining reader.new) input
+    ensures served { (input : List ℕ) × Consumes (R.remaining reader.old) (R.remaining reader.new) input
         × IsWithinLimit result input
         × ((new : Records) × IsServed result no_records input (R.remaining reader.new) new (W.contents writer.old)
-        (W.contents writer.new))) }
+        (W.contents writer.new)) }
 
     // It succeeds at the end of the input alone.
     ensures end { OnOk result (IsAtEnd (R.remaining reader.new)) }
 
-    // A fault of the gate is one that a keeper over the database may answer.
-    ensures cause { IfErr result (MayEnd IsOfBooks) }
+    // A fault of the gate is one that a keeper over a book in memory may answer.
+    ensures cause { IfErr result (MayEnd (λ fault. fault ≡ Fault.Memory)) }
 {
-    match book_in_memory(alloc) {
-        Ok(book) => {
-            let (served, book) = run_over(alloc, book, reader, writer);
-            drop(book);
-            served
-        }
-        Err(fault) => Err(HookFault::Gate(fault)),
-    }
+    let (served, book) = run_over(alloc, book_in_memory(alloc), reader, writer);
+    drop(book);
+    served
 }
 
 /// Serves the lines of a reader on a writer over the records in a database file, which keeps what they make of these. It answers how

@@ -54,7 +54,7 @@ pub fn routes_of(rt: &HostRuntime, token: Option<Token>) -> Result<Routes, JobFa
 
 /// Serves connections over records in memory, which are made before the address is bound.
 pub fn serve<'a>(rt: &'a HostRuntime, service: Service<'a>) -> Result<(), JobFault> {
-    let (served, book) = serve_over(rt, book_in_memory(rt.alloc())?, service);
+    let (served, book) = serve_over(rt, book_in_memory(rt.alloc()), service);
     drop(book);
     served
 }

@@ -163,6 +163,37 @@ fn a_book_that_is_handed_on(rt: HostRuntime) {
     check_next_keeper(&rt, rt.alloc(), book);
 }
 
+// Tells a keeper so many bases, 0 and 1 in turn, each by a delivery of its own.
+fn tell_bases(rt: &impl Abort, alloc: Global, keeper: &mut PlainKeeper, count: u32) {
+    for number in 0..count {
+        let digit = number % 2;
+        let line = format!(in alloc; "d{number} base {digit}").expect(rt, "memory");
+        check_answer(rt, alloc, keeper, line.as_str(), DONE);
+    }
+}
+
+// The book of a keeper that was told so many bases.
+fn book_with_bases(rt: &impl Abort, alloc: Global, count: u32) -> PlainBook {
+    let mut keeper = keeper_at(alloc, 1);
+    tell_bases(rt, alloc, &mut keeper, count);
+    keeper.into_book()
+}
+
+fn check_log(rt: &impl Abort, alloc: Global, count: u32, base: &str) {
+    let mut book = book_with_bases(rt, alloc, count);
+    check_kept(rt, alloc, &mut book, "d1", DONE);
+    check_words(rt, "load", base_kept(rt, alloc, &mut book), base);
+    drop(book);
+}
+
+// The log of a book is at its greatest length, or has given way to a copy of the gate, once and twice.
+#[test]
+fn a_log_that_is_full(rt: HostRuntime) {
+    for (count, base) in [(4_096, "1"), (4_097, "0"), (4_098, "1"), (8_195, "0")] {
+        check_log(&rt, rt.alloc(), count, base);
+    }
+}
+
 // Each row of a table is a delivery, and what is answered to it.
 fn check_rows(rt: &impl Abort, alloc: Global, keeper: &mut PlainKeeper, table: &str) {
     for line in table.lines() {

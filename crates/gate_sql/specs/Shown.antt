@@ -1,6 +1,6 @@
 -- WHAT A BOOK SHOWS: the state for which its rows stand, and the answers whose texts it keeps. And what its tables hold: that, and
 -- nothing besides.
-use Rattle.std.specs.Prelude.{◌≡◌, ℕ, List, map as list_map}
+use Rattle.std.specs.Prelude.{◌≡◌, ℕ, List, Result, map as list_map}
 use Rattle.std.specs.Cmp.Lexicographic.{slice_cmp}
 use Rattle.std.specs.FinMap as finite
 use Rattle.std.specs.FinMap.{FinMap}
@@ -10,12 +10,14 @@ use Rattle.gate_state.specs.State.{IsState}
 use Rattle.gate_state.specs.declared.reply.Reply.{Reply}
 use Rattle.gate_answers.specs.Answers.{answer_text_of}
 use Rattle.gate_answers.specs.Reading.{answer_of}
-use Rattle.gate_store.specs.Run.{Records}
+use Rattle.gate_queue.specs.declared.fault.Fault.{Fault}
+use Rattle.gate_store.specs.Calls.{Commits}
+use Rattle.gate_store.specs.Run.{IsOfBooks, Records}
 use Rattle.gate_rows.specs.Decoding.{state_in}
 use Rattle.gate_rows.specs.Encoding.{rows_of}
 use Rattle.gate_rows.specs.Standing.{KeepsLimits}
 use Rattle.gate_tables.specs.Contents.{AreSame}
-use Rattle.gate_tables.specs.Tables.{IsBook, is_sound, rows_in, answers_in}
+use Rattle.gate_tables.specs.Tables.{IsBook, is_honest, is_shielded, is_sound, rows_in, answers_in}
 use Rattle.gate_tables.specs.declared.row.Rows.{Rows}
 use Rattle.sqlite.specs.Held.{Held, state}
 use Rattle.sqlite.specs.Store.{Ghosts}
@@ -40,6 +42,10 @@ pub record Holds {S : Type 0} (g : Ghosts S) (h : Held S) : Type 0 where
   -- exactly the rows of the state
   pub rows_are : AreSame (rows_in g h) (rows_of (shown g h).state)
   pub texts_are : AreTextsOf (shown g h).kept (answers_in g h)
+
+-- Tables commit these records, or change nothing.
+abbrev pub CommitsTables : {S T : Type 0} → Ghosts S → Held S → Held S → Result T Fault → Records → Type 0
+CommitsTables g old new result after = Commits (shown g) (is_sound g) (is_honest g) (is_shielded g) IsOfBooks old new result after
 
 -- For private clauses: rows and texts of which this is so, if the rows stand for a state of the machine, with the limits of a gate.
 pub record IsHeld (rows : Rows) (texts : FinMap (slice_cmp nat_cmp) (List ℕ)) : Type 0 where

@@ -1,32 +1,32 @@
 ghost use Rattle.std.specs.Prelude.{◌≡◌, ◌≢◌, ◌⊎◌, [], None, false, IfOk, IfErr, IsErrAnd, OnOk, OnErr};
 ghost use Rattle.std.specs.FinMap.{empty};
 ghost use Rattle.std.specs.Option.{option_map};
-ghost use Rattle.gate_queue.specs.Before.{IsBefore};
 ghost use Rattle.gate_queue.specs.Machine.{empty_state};
 ghost use Rattle.gate_tables.specs.Applied.{applied, no_rows as no_rows_at_all};
 ghost use Rattle.gate_tables.specs.Contents.{AreSame};
 ghost use Rattle.gate_tables.specs.Database.{schema_of};
 ghost use Rattle.gate_rows.specs.Encoding as encoding;
 ghost use Rattle.gate_sql.specs.Faults.{MayRefuse};
-ghost use Rattle.gate_sql.specs.Shown.{shown, Holds, IsHeld};
+ghost use Rattle.gate_sql.specs.Shown.{CommitsTables, shown, Holds, IsHeld};
 ghost use Rattle.gate_sql.specs.Versions.{OpensAs, StandsFor};
 ghost use Rattle.gate_tables.specs.Schemas.{HasTables, IsFound, version_of};
 ghost use Rattle.gate_tables.specs.Tables.{HandsBack, ShowsTheSame, WasSound, Outlasts, is_honest, is_shielded, is_sound, rows_in, answers_in, IsBook};
-ghost use Rattle.gate_answers.specs.Answers.{answer_text_of};
 ghost use Rattle.gate_answers.specs.Reading.{answer_of};
-ghost use Rattle.gate_store.specs.Premise.{PremiseLasts};
+ghost use Rattle.gate_store.specs.Performing.{HasItsText, LeadsFrom};
 ghost use Rattle.gate_store.specs.Run.{IsOfBooks, kept_under, with_answer};
 ghost use Rattle.sqlite.specs.Held.{state};
 
 use crate::fault::told;
 use crate::gate::gate_of;
 use crate::opening::understood;
-use gate_queue::{Before, Fault, Gate};
+use gate_queue::{Fault, Gate};
 use gate_rows::{
     changes_since, is_of_machine, law_of_changed_rows, law_of_keys, law_of_keys_of, law_of_rows,
     law_of_rows_of, row_changes, rows_of,
 };
-use gate_store::{Answer, AnswerFault, Book, answer_text, law_of_texts, read_answer};
+use gate_store::{
+    Answer, AnswerFault, Answered, Book, Performed, answer_text, law_of_texts, read_answer,
+};
 use gate_tables::{
     Found, FoundTables, RowChange, Rows, Tables, TablesFault, Version, found_in, is_blank,
     law_of_differences,
@@ -207,14 +207,9 @@ impl<S: Alter> Book for SqlBook<S> {
         answer: &Answer,
     ) -> Result<(), Fault>
         requires free { is_sound S.Store self.old → kept_under (shown S.Store self.old) id.now ≡ None }
-        ensures ok { is_sound S.Store self.new
-            → OnOk result (shown S.Store self.new ≡ with_answer (shown S.Store self.old) gate.now id.now answer.now) }
-        ensures err { is_sound S.Store self.new → OnErr result (shown S.Store self.new ≡ shown S.Store self.old) }
+        ensures commits { CommitsTables S.Store self.old self.new result
+            (with_answer (shown S.Store self.old) gate.now id.now answer.now) }
         ensures holds { is_sound S.Store self.new → Holds S.Store self.new }
-        ensures outlasts { PremiseLasts (is_sound S.Store) (is_honest S.Store) (is_shielded S.Store) self.old self.new }
-        ensures stays { is_honest S.Store self.new → OnOk result (is_sound S.Store self.new) }
-        ensures cause { IfErr result IsOfBooks }
-        ensures fault { IfErr result IsOfBooks }
     {
         law_of_rows_of(gate);
         is_of_machine(gate);
@@ -239,33 +234,27 @@ impl<S: Alter> Book for SqlBook<S> {
     fn commit_since(
         &mut self,
         alloc: Global,
-        before: &Before,
+        performed: Performed,
         gate: &Gate,
         id: &DeliveryId,
-        answer: &Answer,
-        text: &str,
+        answered: &Answered,
     ) -> Result<(), Fault>
         requires free { is_sound S.Store self.old → kept_under (shown S.Store self.old) id.now ≡ None }
-        requires stands { is_sound S.Store self.old → IsBefore before.now (shown S.Store self.old).state gate.now }
-        requires text { text.now ≡ answer_text_of answer.now }
-        requires reads { answer_of text.now ≡ answer.now }
-        ensures ok { is_sound S.Store self.new
-            → OnOk result (shown S.Store self.new ≡ with_answer (shown S.Store self.old) gate.now id.now answer.now) }
-        ensures err { is_sound S.Store self.new → OnErr result (shown S.Store self.new ≡ shown S.Store self.old) }
+        requires leads { is_sound S.Store self.old → LeadsFrom (shown S.Store self.old).state performed gate.now }
+        requires text { HasItsText answered.now }
+        ensures commits { CommitsTables S.Store self.old self.new result
+            (with_answer (shown S.Store self.old) gate.now id.now answered.now.answer) }
         ensures holds { is_sound S.Store self.new → Holds S.Store self.new }
-        ensures outlasts { PremiseLasts (is_sound S.Store) (is_honest S.Store) (is_shielded S.Store) self.old self.new }
-        ensures stays { is_honest S.Store self.new → OnOk result (is_sound S.Store self.new) }
-        ensures cause { IfErr result IsOfBooks }
-        ensures fault { IfErr result IsOfBooks }
     {
         // Its contract tells what the database is.
         self.tables.connection();
         law_of_rows_of(gate);
         is_of_machine(gate);
-        let _answer = answer;
-        let leading = changes_since(alloc, before, gate)?;
-        let written = self.tables.apply(leading.as_slice(), id.text(), text);
-        drop(leading);
+        let changes = changes_since(alloc, &performed.before, gate)?;
+        drop(performed);
+        let body = answered.text.as_str();
+        let written = self.tables.apply(changes.as_slice(), id.text(), body);
+        drop(changes);
         self.tables.connection();
         if let Err(fault) = written {
             return Err(told(fault));

@@ -99,12 +99,15 @@ abbrev pub IsFullBefore : Option Fault → Records → List Delivery → Type 0
 IsFullBefore (Some Full) records (delivery ∷ deliveries) = meets_full records delivery ≡ true
 IsFullBefore _ records deliveries = ⊤
 
--- the faults that acts may meet, those of a book, and those of a keeper whose book may answer some
+-- the faults that acts may meet, those of a book, those that a book may answer and `Memory`, and those of a keeper of such a book
 abbrev pub IsOfActs : Fault → Type 0
 IsOfActs fault = (fault ≡ Memory) ⊎ (fault ≡ Full)
 
 abbrev pub IsOfBooks : Fault → Type 0
 IsOfBooks fault = (fault ≡ Memory) ⊎ (fault ≡ Store)
+
+abbrev pub OrMemory : (Fault → Type 0) → Fault → Type 0
+OrMemory may_answer fault = (fault ≡ Memory) ⊎ may_answer fault
 
 abbrev pub IsOfKeepers : (Fault → Type 0) → Fault → Type 0
 IsOfKeepers may_answer fault = IsOfActs fault ⊎ may_answer fault

@@ -1,14 +1,14 @@
-ghost use Rattle.std.specs.Prelude.{◌≡◌, ◌⊎◌, None, IfOk, IfErr, OnOk, OnErr};
+ghost use Rattle.std.specs.Prelude.{◌≡◌, None, IfOk};
 ghost use Rattle.std.specs.Option.{option_map};
 ghost use Rattle.std.specs.String.{string_bytes};
-ghost use Rattle.gate_queue.specs.Before.{IsBefore};
 ghost use Rattle.gate_answers.specs.Answers.{answer_text_of};
-ghost use Rattle.gate_answers.specs.Reading.{answer_of};
-ghost use Rattle.gate_store.specs.Premise.{PremiseLasts};
-ghost use Rattle.gate_store.specs.Run.{Records, IsOfBooks, kept_under, with_answer};
+ghost use Rattle.gate_store.specs.Calls.{Asks, Commits};
+ghost use Rattle.gate_store.specs.Performing.{HasItsText, LeadsFrom};
+ghost use Rattle.gate_store.specs.Run.{OrMemory, Records, kept_under, with_answer};
 
+use crate::answered::{Answered, Performed};
 use gate_answers::{Answer, answer_text};
-use gate_queue::{Before, Fault, Gate};
+use gate_queue::{Fault, Gate};
 use gate_text::DeliveryId;
 use std::alloc::Global;
 
@@ -39,31 +39,19 @@ pub trait Book {
     /// The state, as a gate. It changes nothing.
     fn load(&mut self, alloc: Global) -> Result<Gate, Fault>
         ensures gate { is_sound self.new → IfOk result (λ gate. gate ≡ (shows self.old).state) }
-        ensures same { is_sound self.new → shows self.new ≡ shows self.old }
-        ensures outlasts { PremiseLasts is_sound is_honest is_shielded self.old self.new }
-        ensures stays { is_honest self.new → OnOk result (is_sound self.new) }
-        ensures cause { IfErr result may_answer }
-        ensures fault { IfErr result IsOfBooks };
+        ensures asks { Asks shows is_sound is_honest is_shielded may_answer self.old self.new result };
 
     /// The answer that is kept under an identifier, if there is one. It changes nothing.
     fn kept(&mut self, alloc: Global, id: &DeliveryId) -> Result<Option<Answer>, Fault>
         ensures answer { is_sound self.new → IfOk result (λ answer. answer ≡ kept_under (shows self.old) id.now) }
-        ensures same { is_sound self.new → shows self.new ≡ shows self.old }
-        ensures outlasts { PremiseLasts is_sound is_honest is_shielded self.old self.new }
-        ensures stays { is_honest self.new → OnOk result (is_sound self.new) }
-        ensures cause { IfErr result may_answer }
-        ensures fault { IfErr result IsOfBooks };
+        ensures asks { Asks shows is_sound is_honest is_shielded may_answer self.old self.new result };
 
     /// The text of the answer that is kept under an identifier, if there is one. It changes nothing. A book that keeps texts needn't
     /// read the answer and write it anew. The fault is `Memory`, or one that the book may answer.
     fn kept_text(&mut self, alloc: Global, id: &DeliveryId) -> Result<Option<String>, Fault>
         ensures text { is_sound self.new → IfOk result (λ text. option_map string_bytes text
             ≡ option_map answer_text_of (kept_under (shows self.old) id.now)) }
-        ensures same { is_sound self.new → shows self.new ≡ shows self.old }
-        ensures outlasts { PremiseLasts is_sound is_honest is_shielded self.old self.new }
-        ensures stays { is_honest self.new → OnOk result (is_sound self.new) }
-        ensures cause { IfErr result (λ fault. (fault ≡ Fault.Memory) ⊎ may_answer fault) }
-        ensures fault { IfErr result IsOfBooks }
+        ensures asks { Asks shows is_sound is_honest is_shielded (OrMemory may_answer) self.old self.new result }
     {
         match self.kept(alloc, id)? {
             Some(answer) => Ok(Some(answer_text(alloc, &answer)?)),
@@ -80,40 +68,27 @@ pub trait Book {
         answer: &Answer,
     ) -> Result<(), Fault>
         requires free { is_sound self.old → kept_under (shows self.old) id.now ≡ None }
-        ensures ok { is_sound self.new
-            → OnOk result (shows self.new ≡ with_answer (shows self.old) gate.now id.now answer.now) }
-        ensures err { is_sound self.new → OnErr result (shows self.new ≡ shows self.old) }
-        ensures outlasts { PremiseLasts is_sound is_honest is_shielded self.old self.new }
-        ensures stays { is_honest self.new → OnOk result (is_sound self.new) }
-        ensures cause { IfErr result may_answer }
-        ensures fault { IfErr result IsOfBooks };
+        ensures commits { Commits shows is_sound is_honest is_shielded may_answer self.old self.new result
+            (with_answer (shows self.old) gate.now id.now answer.now) };
 
-    /// Does what `commit` does. It is told besides what acts may have changed since the state that the book shows, and the text of
-    /// the answer, so that a book needn't compare whole states, nor make the text anew.
+    /// Does what `commit` does. It is told besides what was performed since the state that the book shows, and the text of the answer. So
+    /// a book needn't compare or copy whole states, nor make the text anew.
     fn commit_since(
         &mut self,
         alloc: Global,
-        before: &Before,
+        performed: Performed,
         gate: &Gate,
         id: &DeliveryId,
-        answer: &Answer,
-        text: &str,
+        answered: &Answered,
     ) -> Result<(), Fault>
         requires free { is_sound self.old → kept_under (shows self.old) id.now ≡ None }
-        requires stands { is_sound self.old → IsBefore before.now (shows self.old).state gate.now }
-        requires text { text.now ≡ answer_text_of answer.now }
-        requires reads { answer_of text.now ≡ answer.now }
-        ensures ok { is_sound self.new
-            → OnOk result (shows self.new ≡ with_answer (shows self.old) gate.now id.now answer.now) }
-        ensures err { is_sound self.new → OnErr result (shows self.new ≡ shows self.old) }
-        ensures outlasts { PremiseLasts is_sound is_honest is_shielded self.old self.new }
-        ensures stays { is_honest self.new → OnOk result (is_sound self.new) }
-        ensures cause { IfErr result may_answer }
-        ensures fault { IfErr result IsOfBooks }
+        requires leads { is_sound self.old → LeadsFrom (shows self.old).state performed gate.now }
+        requires text { HasItsText answered.now }
+        ensures commits { Commits shows is_sound is_honest is_shielded may_answer self.old self.new result
+            (with_answer (shows self.old) gate.now id.now answered.now.answer) }
     {
-        let _before = before;
-        let _text = text;
-        self.commit(alloc, gate, id, answer)
+        drop(performed);
+        self.commit(alloc, gate, id, &answered.answer)
     }
 
     // So what is said of an honest book is said of a sound one.

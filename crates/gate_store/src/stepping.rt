@@ -6,7 +6,7 @@ ghost use Rattle.gate_state.specs.declared.state.State.{State};
 ghost use Rattle.gate_queue.specs.Before.{IsBefore};
 ghost use Rattle.gate_queue.specs.History.{Entry, Legal};
 ghost use Rattle.gate_queue.specs.Machine.{after, reply_to};
-ghost use Rattle.gate_store.specs.Headline.{Each, Tells};
+ghost use Rattle.gate_store.specs.Headline.{AllTell, Tells};
 ghost use Rattle.gate_store.specs.Run.{AgreesOnFull, IsOfActs, acts_meet_full, replies_to, after_all};
 
 use gate_answers::Answer;
@@ -23,8 +23,7 @@ pub fn step_all(gate: Gate, alloc: Global, acts: &[Act]) -> Result<(Gate, Before
     ensures before { IfOk result (λ done. IsBefore done.1 gate done.0) }
 
     // Each entry tells, after every history that led to the state.
-    ensures history { IfOk result (λ _. (history : List Entry) → Legal history gate
-        → Each Tells history gate acts.now) }
+    ensures history { IfOk result (λ _. AllTell gate acts.now) }
 
     // The faults.
     ensures full { AgreesOnFull result (acts_meet_full gate acts.now) }

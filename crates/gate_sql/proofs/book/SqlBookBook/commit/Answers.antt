@@ -1,4 +1,4 @@
-use Rattle.std.proofs.Common.{◌∙◌, ap}
+use Rattle.std.proofs.Common.{◌∙◌, ap, rules}
 use Rattle.std.specs.FinMap.{insert}
 use Rattle.gate_answers.specs.Reading.{answer_of}
 use Rattle.gate_sql.proofs.Holding.{Leaves, holds_of, leaves, led_to}
@@ -28,11 +28,18 @@ written g c sound =
 pub invariant_of-self-in-Ok-written : goal.invariant_of-self-in-Ok-written
 invariant_of-self-in-Ok-written g c sound = (written g c sound).held
 
-pub returns-in-Ok-written-clause-ok : goal.returns-in-Ok-written-clause-ok
-returns-in-Ok-written-clause-ok g c sound =
-    let left = written g c sound in
-    let kept = left.kept ∙ (λ i. insert (answers_of (answers_in g.S.Store (c.self.view_is i))) (c.text.ensures.value i) c.args.answer.now) in
-    λ i. record { state = left.state i; kept = kept i }
+pub returns-in-Ok-written-clause-commits : goal.returns-in-Ok-written-clause-commits
+returns-in-Ok-written-clause-commits g c = record {
+  ok = λ sound.
+      let left = written g c sound in
+      let kept = left.kept ∙ (λ i. insert (answers_of (answers_in g.S.Store (c.self.view_is i))) (c.text.ensures.value i) c.args.answer.now) in
+      λ i. record { state = left.state i; kept = kept i };
+  err = search rules;
+  outlasts = search rules;
+  stays = search rules;
+  cause = search rules;
+  fault = search rules;
+}
 
 pub returns-in-Ok-written-clause-holds : goal.returns-in-Ok-written-clause-holds
 returns-in-Ok-written-clause-holds g c sound = holds_of g.S.Store c.apply-written.new.self (c.connection.ensures.book sound) (written g c sound).held

@@ -26,7 +26,7 @@ loop-delivery-preserved g c =
       book = λ sound.
           led_more old now deliveries place delivery at within (so_far.book (was sound)) (g.B.Book.shows c.answer.new.self) (c.in-Ok.ensures.delivers.book sound);
       history = λ honest.
-          tell_more old now deliveries place delivery at within (so_far.book (was (stays honest))) (so_far.history (before honest)) (c.in-Ok.ensures.delivers.history (stays honest));
+          tell_more old now deliveries place delivery at within (so_far.book (was (stays honest))) (so_far.history (before honest)) (c.in-Ok.ensures.delivers.tells (stays honest));
       room = λ honest.
           room_more old now deliveries place delivery at within (so_far.book (was (stays honest))) (so_far.room (before honest)) (c.in-Ok.ensures.delivers.full (stays honest));
       count = omega (arith, ap length pushed, length_push c.loop-delivery.answers.items c.in-Ok.answer, so_far.count);

@@ -8,11 +8,11 @@ returns-clause-headline g c honest =
     let answers = c.answer_all.result.0.items in
     let old = g.B.Book.shows c.args.self.now in
     let answered = take (length answers) c.args.deliveries.now in
-    let did = c.answer_all.ensures in
-    headline_is old (after_deliveries old answered) answered refl (did.history honest) answers (did.answers honest)
+    let did = c.answer_all.ensures.runs in
+    headline_is old (after_deliveries old answered) answered refl (did.tells honest) answers (did.answers honest)
 
 pub returns-clause-history : goal.returns-clause-history
 returns-clause-history g c honest =
     let old = g.B.Book.shows c.args.self.now in
     let answered = take (length c.answer_all.result.0.items) c.args.deliveries.now in
-    tells_is old (after_deliveries old answered) answered refl (c.answer_all.ensures.history honest)
+    tells_is old (after_deliveries old answered) answered refl (c.answer_all.ensures.runs.tells honest)
