@@ -22,11 +22,13 @@ returns c =
     let logged = ap (after_log book.gate) (c.push_reserved.ensures.items ∙ ap (λ log. log ++ acts ∷ []) c.reserve.ensures.items) in
     let state = logged ∙ after_more book.gate book.log.items acts ∙ ap (λ (records : Records). after_all records.state acts) c.self.view_is ∙ sym leads.after in
     let kept = c.in_ok-keep.ensures.ok ∙ ap (λ (records : Records). insert records.kept c.args.id.now c.args.answered.now.answer) c.self.view_is in
-    record { commits = record {
-      ok = λ sound i. record { state = state i; kept = kept i };
-      err = search rules;
-      outlasts = search rules;
-      stays = search rules;
-      cause = search rules;
-      fault = search rules;
-    } }
+    record {
+      commits = record {
+        ok = λ sound i. record { state = state i; kept = kept i };
+        err = search rules;
+        outlasts = search rules;
+        stays = search rules;
+        cause = search rules;
+        fault = search rules;
+      };
+    }
