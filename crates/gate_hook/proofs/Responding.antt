@@ -1,17 +1,18 @@
 -- From what was asked to what is sent.
-use Rattle.std.proofs.Common.{◌≡◌, inl, inr, ℕ, ◌<◌, List, [], ◌++◌, length, take, Option, Some, None, Result, Ok, Err, refl, sym, ap, arith, true≢false, ◌↔◌, IsSome, IfOk, OnErr, OnOk, subst, ◌∙◌}
+use Rattle.std.proofs.Common.{◌≡◌, ◌⊎◌, inl, inr, ℕ, ◌<◌, List, [], ◌++◌, length, take, Option, Some, None, Result, Ok, Err, refl, sym, ap, arith, true≢false, ◌↔◌, IfSome, IsSome, IfErr, IfOk, OnErr, OnOk, subst, ◌∙◌}
 use Rattle.std.proofs.KnownBytes.{Appends-nil}
 use Rattle.std.specs.Io.KnownBytes.{Appends, Consumes}
 use Rattle.std.specs.String.{string_bytes}
 use Rattle.gate_queue.specs.declared.fault.Fault.{Fault}
 use Rattle.gate_queue.specs.declared.fault.Fault.TheVariants.{Memory, Store, Full, Foreign}
-use Rattle.gate_store.specs.Run.{IsOpenAfter, Records}
+use Rattle.gate_store.specs.Run.{IsOfKeepers, IsOpenAfter, Records}
 use Rattle.gate_hook.specs.Receiving.{HasKept, IsInput, IsUnread}
 use Rattle.gate_hook.specs.Requests.{Asks}
-use Rattle.gate_hook.specs.Responding.{Answers, HasConsumed, HasSent, IsTranscript, MakesAnyhow, Responds, RespondsAnyhow}
+use Rattle.gate_hook.specs.Responding.{Answers, HasConsumed, HasSent, IsTranscript, MakesAnyhow, MayFail, Responds, RespondsAnyhow}
 use Rattle.gate_http.specs.Responses.{IsResponse, Response, fault_response, response_text}
 use Rattle.gate_hook.specs.Sending.{IsCutOff}
 use Rattle.gate_hook.specs.Served.{AnswersAnyhow, AnswersOne, AsksNoDelivery, Breaks, IsDue, NeedsNoBook, StaysServing, after_wish, report_in, response_to, response_to_report}
+use Rattle.gate_hook.specs.Serving.{IsSoundAfter}
 use Rattle.gate_hook.specs.declared.fault.HookFault.{HookFault}
 use Rattle.gate_hook.specs.declared.fault.HookFault.TheVariants.{Gate, Read, Write, TooMuch}
 use Rattle.gate_http.specs.declared.refusal.Refusal.{Refusal}
@@ -32,6 +33,14 @@ some-input before after (taken, consumed) = (taken ++ left_of after, (taken, lef
 pub answers-unread : (token : Option (List ℕ)) (fault : HookFault) (input : List ℕ) (records : Records) → IsUnread fault → Answers token (Err fault) input records records
 answers-unread token fault input records (inl read) = rw read refl
 answers-unread token fault input records (inr memory) = rw memory (inl refl)
+
+pub unread-stays : (fault : HookFault) (sound : Type 0) → IsUnread fault → sound → IsSoundAfter fault sound
+unread-stays fault sound (inl read) is = rw read is
+unread-stays fault sound (inr memory) is = rw memory tt
+
+pub unread-fails : (may_answer : Fault → Type 0) (fault : HookFault) → IsUnread fault → MayFail may_answer fault
+unread-fails may_answer fault (inl read) = rw read tt
+unread-fails may_answer fault (inr memory) = rw memory (inl (inl refl))
 
 -- ONE THAT WAS READ
 pub answers-read : (token : Option (List ℕ)) (result : Result Made HookFault) (input : List ℕ) (wish : Result Request Refusal) (old new : Records)
@@ -88,6 +97,22 @@ sends-unread token fault input old new written read is =
     subst (λ (met : HookFault). AnswersOne token (Err met) input old new written written) (sym read)
     (subst (λ (met : HookFault). Answers token (Err met) input old new) read is, Appends-nil written)
 
+-- It ends by a failed write alone, and then there is no fault to tell, or the fault that was met is told.
+pub ends-sent : (result : Result Served HookFault) (served : Served) (text : List ℕ) (before after : Option (List ℕ)) → HasSent result served text before after
+    → IfErr result (λ (fault : HookFault). (fault ≡ Read) ⊎ (fault ≡ Write))
+ends-sent (Ok done) served text before after sent = tt
+ends-sent (Err Write) served text before after sent = inr refl
+ends-sent (Err Read) served text before after sent = inl refl
+ends-sent (Err (Gate fault)) served text before after sent = absurd sent
+ends-sent (Err TooMuch) served text before after sent = absurd sent
+
+pub told-sent : (may_answer : Fault → Type 0) (result : Result Served HookFault) (served : Served) (text : List ℕ) (before after : Option (List ℕ))
+    → IfSome served.fault (IsOfKeepers may_answer) → HasSent result served text before after
+    → IfOk result (λ (done : Served). IfSome done.fault (IsOfKeepers may_answer))
+told-sent may_answer (Ok done) served text before after cause sent =
+    subst (λ (one : Served). IfSome one.fault (IsOfKeepers may_answer)) (sym sent.0) cause
+told-sent may_answer (Err fault) served text before after cause sent = tt
+
 -- THE TRANSCRIPT
 pub consumed-anyhow : {X : Type 0} (result : Result X HookFault) (before after : Option (List ℕ)) (bytes : List ℕ) → Consumes before after bytes → HasConsumed result before after bytes
 consumed-anyhow (Ok done) before after bytes consumed = consumed
@@ -137,6 +162,10 @@ stays-fault (Err Write) fault sound before after text is stays sent =
 stays-fault (Err Read) fault sound before after text is stays sent = absurd sent
 stays-fault (Err (Gate other)) fault sound before after text is stays sent = absurd sent
 stays-fault (Err TooMuch) fault sound before after text is stays sent = absurd sent
+
+pub read-stays : (fault : HookFault) (sound : Type 0) (before after : Option (List ℕ)) → fault ≡ Read → IsSoundAfter fault sound → StaysServing (Err fault) sound before after
+read-stays fault sound before after read is =
+    subst (λ (met : HookFault). StaysServing (Err met) sound before after) (sym read) (subst (λ (met : HookFault). IsSoundAfter met sound) read is)
 
 -- WHAT NEEDS NO BOOK
 pub report-anyhow : (made : Made) (wish : Result Request Refusal) (report : About) → wish ≡ Ok (Report report)

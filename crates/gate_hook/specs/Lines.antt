@@ -1,10 +1,12 @@
 -- LINES: what is written for the lines that were read. A text is seen whole; the code takes it byte by byte.
-use Rattle.std.specs.Prelude.{◌≡◌, ◌⊎◌, ℕ, ◌+◌, ◌<◌, ◌≤◌, ◌==◌, ◌&&◌, not, nat_lt, ⊤, List, [], ◌∷◌, ◌++◌, length, take, Bool, true, false, Option, Result, Ok, Err, is_ok, codes, if◌then◌else◌}
-use Rattle.std.specs.Io.KnownBytes.{Appends, IsAtEnd}
+use Rattle.std.specs.Prelude.{◌≡◌, ◌⊎◌, ℕ, ◌+◌, ◌<◌, ◌≤◌, ◌==◌, ◌&&◌, not, nat_lt, ⊤, List, [], ◌∷◌, ◌++◌, length, take, Bool, true, false, Option, Result, Ok, Err, IfErr, OnOk, is_ok, codes, if◌then◌else◌}
+use Rattle.std.specs.Io.KnownBytes.{Appends, Consumes, IsAtEnd}
 use Rattle.gate_queue.specs.declared.fault.Fault.{Fault}
 use Rattle.gate_queue.specs.declared.fault.Fault.TheVariants.{Memory, Store, Full, Foreign}
 use Rattle.gate_answers.specs.Answers.{answer_text_of}
+use Rattle.gate_store.specs.Outlasting.{Outlasts}
 use Rattle.gate_store.specs.Run.{Records, answer_to, after_delivery, meets_full, IsOfKeepers, IsOpenAfter}
+use Rattle.gate_store.specs.declared.book.Book as book
 use Rattle.gate_deliveries.specs.declared.delivery.Delivery.{Delivery}
 use Rattle.gate_deliveries.specs.Errors.{error_text_of}
 use Rattle.gate_deliveries.specs.Deliveries.{delivery_of}
@@ -176,3 +178,20 @@ IsWithinLimit (Err (Gate fault)) input = length input ≤ max_input
 IsWithinLimit (Err Read) input = length input ≤ max_input
 IsWithinLimit (Err Write) input = length input ≤ max_input
 IsWithinLimit (Err TooMuch) input = length input ≡ max_input + 1
+
+-- ALL OF IT: of the input that the reader had, this was consumed, within the limit, and left. If the book is sound, what is written is the
+-- text for its lines. If it was sound, and is honest still, so are the answers before a fault that has shut it.
+abbrev pub ServesLines : {B : Type 0} → book.Ghosts B → B → B → Result ℕ HookFault → (all left before after : Option (List ℕ)) → Type 0
+ServesLines g old new result all left before after =
+    (input : List ℕ) × Consumes all left input × IsWithinLimit result input
+    × (g.is_sound new → IsServed result (g.shows old) input left (g.shows new) before after)
+    × (g.is_sound old → g.is_honest new → Serves (g.is_sound new) result (g.shows old) input left (g.shows new) before after)
+
+-- What every call says that reads lines over a book to the end.
+pub record ReadsLines {B X : Type 0} (g : book.Ghosts B) (old new : B) (result : Result X HookFault) (left : Option (List ℕ)) : Type 0 where
+  -- It succeeds at the end of the input alone.
+  pub end : OnOk result (IsAtEnd left)
+  -- A fault of the gate is one that the keeper may answer.
+  pub cause : IfErr result (MayEnd g.may_answer)
+  -- A book that is sound in the end was sound before, one that is honest was so, and one that was shielded still is.
+  pub outlasts : Outlasts g old new

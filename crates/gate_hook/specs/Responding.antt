@@ -1,20 +1,26 @@
 -- How a response is made and sent, for the contracts of the functions that `serve_guarded` is made of; `IsTranscript` is for its own.
-use Rattle.std.specs.Prelude.{◌≡◌, ◌⊎◌, ℕ, ⊤, List, [], Option, Some, None, Result, Ok, Err}
+use Rattle.std.specs.Prelude.{◌≡◌, ◌⊎◌, ℕ, ⊤, false, List, [], Option, Some, None, Result, Ok, Err, IfErr, IfOk, OnOk}
 use Rattle.std.specs.Io.KnownBytes.{Appends, Consumes}
 use Rattle.gate_queue.specs.declared.fault.Fault.{Fault}
 use Rattle.gate_queue.specs.declared.fault.Fault.TheVariants.{Memory, Store, Full, Foreign}
-use Rattle.gate_store.specs.Run.{Records, IsOfKeepers}
-use Rattle.gate_hook.specs.Receiving.{HasKept}
+use Rattle.gate_store.specs.Outlasting.{Outlasts, RemainsSound}
+use Rattle.gate_store.specs.Run.{AgreesOnFull, IsOfBooks, IsOfKeepers, Records, StaysOpen, after_delivery, meets_full}
+use Rattle.gate_store.specs.declared.book.Book as book
+use Rattle.gate_deliveries.specs.declared.delivery.Delivery.{Delivery}
+use Rattle.gate_hook.specs.Receiving.{HasKept, HasTaken, IsInput}
 use Rattle.gate_hook.specs.Requests.{Asks}
 use Rattle.gate_hook.specs.Sending.{IsCutOff}
+use Rattle.gate_hook.specs.Serving.{StaysSound}
 use Rattle.gate_http.specs.Responses.{IsResponse}
 use Rattle.gate_hook.specs.Served.{Breaks, MeetsNoFull, IsTaken, MeetsFull, NeedsNoBook, after_wish, response_to}
 use Rattle.gate_hook.specs.declared.fault.HookFault.{HookFault}
 use Rattle.gate_hook.specs.declared.fault.HookFault.TheVariants.{Gate, Read, Write, TooMuch}
 use Rattle.gate_http.specs.declared.refusal.Refusal.{Refusal}
 use Rattle.gate_hook.specs.declared.requests.Request.{Request}
+use Rattle.gate_hook.specs.declared.requests.Request.TheVariants.{Report as ReportOf}
 use Rattle.gate_hook.specs.declared.requests.Served.{Served}
 use Rattle.gate_http.specs.declared.response.Response.{Response}
+use Rattle.gate_http.specs.declared.target.Report.{Report}
 
 -- what making the response to this wish leaves
 abbrev pub Responds : Result Response HookFault → Records → Result Request Refusal → Records → Type 0
@@ -53,6 +59,45 @@ abbrev pub MakesAnyhow : Option (List ℕ) → Result Response HookFault → Lis
 MakesAnyhow token (Ok made) input =
     (wish : Result Request Refusal) × Asks token input wish × NeedsNoBook wish × ((records : Records) × IsResponse made (response_to records wish))
 MakesAnyhow token (Err fault) input = ⊤
+
+-- OVER A BOOK. A delivery is answered by what is due for it. Or it stops at a fault: nothing has changed, or there was no memory left to
+-- tell what it did.
+pub record AnswersDelivery {B T : Type 0} (g : book.Ghosts B) (old new : B) (delivery : Delivery) (result : Result T Fault) (is_due : T → Type 0) : Type 0 where
+  pub answer : g.is_sound new → IfOk result is_due
+  pub records : g.is_sound new → OnOk result (g.shows new ≡ after_delivery (g.shows old) delivery)
+  pub stops : g.is_sound new → IfErr result (λ fault. (g.shows new ≡ g.shows old)
+      ⊎ ((fault ≡ Memory) × (g.shows new ≡ after_delivery (g.shows old) delivery) × (meets_full (g.shows old) delivery ≡ false)))
+  pub full : g.is_sound new → AgreesOnFull result (meets_full (g.shows old) delivery)
+  pub outlasts : Outlasts g old new
+  pub stays : g.is_honest new → StaysOpen result (g.is_sound new)
+  pub cause : IfErr result (IsOfKeepers g.may_answer)
+
+-- The response that has a report is made, or the one that says that there is none. It changes nothing.
+pub record MakesReport {B : Type 0} (g : book.Ghosts B) (old new : B) (report : Report) (result : Result Response Fault) : Type 0 where
+  pub response : g.is_sound new → IfOk result (λ response. IsResponse response (response_to (g.shows old) (Ok (ReportOf report))))
+  pub anyhow : IfOk result (λ response. (records : Records) × IsResponse response (response_to records (Ok (ReportOf report))))
+  pub same : g.is_sound new → g.shows new ≡ g.shows old
+  pub outlasts : Outlasts g old new
+  pub stays : RemainsSound g old new (StaysOpen result)
+  pub cause : IfErr result (IsOfKeepers g.may_answer)
+  pub fault : IfErr result IsOfBooks
+
+-- The response to this wish is made.
+pub record MakesResponse {B : Type 0} (g : book.Ghosts B) (old new : B) (wish : Result Request Refusal) (result : Result Response HookFault) : Type 0 where
+  pub responds : g.is_sound new → Responds result (g.shows old) wish (g.shows new)
+  pub anyhow : g.is_honest new → g.is_sound new ⊎ RespondsAnyhow result wish
+  pub outlasts : Outlasts g old new
+  pub stays : RemainsSound g old new (StaysSound result)
+  pub cause : IfErr result (MayFail g.may_answer)
+
+-- The response to the request is made that this reader had, if this token is needed, or none.
+pub record AnswersRequest {B : Type 0} (g : book.Ghosts B) (token : Option (List ℕ)) (result : Result Response HookFault) (old new : B) (unread left : Option (List ℕ)) : Type 0 where
+  pub answered : (input : List ℕ) × IsInput unread left input × (g.is_sound new → Answers token result input (g.shows old) (g.shows new))
+  pub anyhow : g.is_honest new → g.is_sound new ⊎ ((input : List ℕ) × IsInput unread left input × MakesAnyhow token result input)
+  pub taken : HasTaken token unread left
+  pub outlasts : Outlasts g old new
+  pub stays : RemainsSound g old new (StaysSound result)
+  pub cause : IfErr result (MayFail g.may_answer)
 
 -- these bytes were taken of the input, or if something went wrong, were kept of what was taken
 abbrev pub HasConsumed : {X : Type 0} → Result X HookFault → Option (List ℕ) → Option (List ℕ) → List ℕ → Type 0

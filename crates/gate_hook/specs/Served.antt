@@ -1,5 +1,5 @@
 -- ONE REQUEST: what is sent for it, and the records after it.
-use Rattle.std.specs.Prelude.{◌≡◌, ◌⊎◌, ℕ, true, false, ⊤, List, [], Option, Some, None, Result, Ok, Err}
+use Rattle.std.specs.Prelude.{◌≡◌, ◌⊎◌, ◌↔◌, ℕ, true, false, ⊤, List, [], Option, Some, None, IfSome, IsSome, Result, Ok, Err, IfErr, IfOk}
 use Rattle.std.specs.Io.KnownBytes.{Appends}
 use Rattle.gate_queue.specs.declared.fault.Fault.{Fault}
 use Rattle.gate_queue.specs.declared.fault.Fault.TheVariants.{Memory, Store, Full, Foreign}
@@ -7,8 +7,11 @@ use Rattle.gate_state.specs.declared.state.State.{State}
 use Rattle.gate_report.specs.Change.{change_text_of}
 use Rattle.gate_report.specs.Queue.{queue_text_of}
 use Rattle.gate_answers.specs.Answers.{answer_text_of}
-use Rattle.gate_store.specs.Run.{IsOpenAfter, Records, answer_to, after_delivery, meets_full}
+use Rattle.gate_store.specs.Outlasting.{Outlasts}
+use Rattle.gate_store.specs.Run.{IsOfKeepers, IsOpenAfter, Records, answer_to, after_delivery, meets_full}
+use Rattle.gate_store.specs.declared.book.Book as book
 use Rattle.gate_deliveries.specs.declared.delivery.Delivery.{Delivery}
+use Rattle.gate_hook.specs.Receiving.{HasTaken, IsInput}
 use Rattle.gate_hook.specs.Requests.{Asks}
 use Rattle.gate_hook.specs.Sending.{IsCutOff}
 use Rattle.gate_http.specs.Responses.{Response, response_text, answer_response, refusal_response, report_response, fault_response}
@@ -132,3 +135,27 @@ StaysServing (Err Write) sound before after =
 StaysServing (Err Read) sound before after = sound
 StaysServing (Err (Gate fault)) sound before after = ⊥
 StaysServing (Err TooMuch) sound before after = ⊥
+
+-- ALL OF IT: one request is served over a book, if this token is needed, or none. `unread` and `left` are what the reader had before and
+-- has after it, `blank` and `written` what the writer had taken, as far as that is known.
+pub record ServesOne {B : Type 0} (g : book.Ghosts B) (token : Option (List ℕ)) (result : Result Served HookFault) (old new : B) (unread left blank written : Option (List ℕ)) : Type 0 where
+  -- What is written, and the records after it, are those that the input asks for.
+  pub served : (input : List ℕ) × IsInput unread left input × (g.is_sound new → AnswersOne token result input (g.shows old) (g.shows new) blank written)
+  -- Of the input no more is taken than the answer needs, whatever comes of it.
+  pub taken : HasTaken token unread left
+  -- Input that asks for no delivery leaves the records as they were.
+  pub same : g.is_sound new → (input : List ℕ) → unread ≡ Some input → AsksNoDelivery token input → g.shows new ≡ g.shows old
+  -- It ends by a failed read or a failed write alone.
+  pub ends : IfErr result (λ fault. (fault ≡ Read) ⊎ (fault ≡ Write))
+  -- The status is 503 exactly if there was a fault.
+  pub exact : g.is_sound new → IfOk result (λ served. (served.status ≡ 503) ↔ IsSome served.fault)
+  -- A fault is one that the keeper may answer.
+  pub cause : IfOk result (λ served. IfSome served.fault (IsOfKeepers g.may_answer))
+  -- A book that is sound in the end was sound before, one that is honest was so, and one that was shielded still is.
+  pub outlasts : Outlasts g old new
+  -- Of a book that was sound and is honest, only `Memory` and `Store` may have shut it, and then the response is 503, or after `Write` a
+  -- part of it. After any other response it is still sound, so what is said above of that response holds, whatever comes later.
+  pub stays : g.is_sound old → g.is_honest new → StaysServing result (g.is_sound new) blank written
+  -- A book that is honest is sound after the call, or what was sent needed none. So over a book that had been shut before, a delivery gets
+  -- 503, and a refusal is sent as ever. A report gets 503 too, or is of a state that was at hand.
+  pub anyhow : g.is_honest new → g.is_sound new ⊎ ((input : List ℕ) × IsInput unread left input × AnswersAnyhow token result input blank written)

@@ -1,12 +1,26 @@
 -- Serving in mid-course, for the contracts of the functions that `serve_lines` is made of.
-use Rattle.std.specs.Prelude.{◌≡◌, ◌<◌, ℕ, false, ⊤, List, [], ◌∷◌, ◌++◌, length, take, Option, Result, Ok, Err}
+use Rattle.std.specs.Prelude.{◌≡◌, ◌<◌, ℕ, false, ⊤, List, [], ◌∷◌, ◌++◌, length, take, Option, Result, Ok, Err, IfErr, IfOk, OnOk, String}
 use Rattle.std.specs.Io.KnownBytes.{Appends}
+use Rattle.std.specs.String.{string_bytes}
 use Rattle.gate_queue.specs.declared.fault.Fault.{Fault}
-use Rattle.gate_store.specs.Run.{Records, IsOfKeepers, IsOpenAfter}
+use Rattle.gate_store.specs.Outlasting.{Outlasts, RemainsSound}
+use Rattle.gate_store.specs.Run.{Records, IsOfKeepers, IsOpenAfter, StaysOpen}
+use Rattle.gate_store.specs.declared.book.Book as book
 use Rattle.gate_hook.specs.Lines.{HasTold, ended_lines, open_line, line_text, after_line, line_meets_full, text_for, after_lines, NoLineMeetsFull, StopsAtLine, max_kept}
 use Rattle.gate_hook.specs.Sending.{IsCutOff}
 use Rattle.gate_hook.specs.declared.fault.HookFault.{HookFault}
 use Rattle.gate_hook.specs.declared.fault.HookFault.TheVariants.{Gate, Read, Write, TooMuch}
+
+-- The text of the answer to a line is made, with its line feed. Or a fault came, and nothing has changed, or the line has acted all the
+-- same.
+pub record MakesAnswer {A B : Type 0} (g : book.Ghosts B) (old new : B) (line : List ℕ) (result : Result (String A) Fault) : Type 0 where
+  pub text : g.is_sound new → IfOk result (λ text. string_bytes text ≡ line_text (g.shows old) line ++ 10 ∷ [])
+  pub records : g.is_sound new → OnOk result (g.shows new ≡ after_line (g.shows old) line)
+  pub room : g.is_sound new → OnOk result (line_meets_full (g.shows old) line ≡ false)
+  pub stops : g.is_sound new → IfErr result (λ fault. StopsAtLine fault (g.shows old) line (g.shows new))
+  pub outlasts : Outlasts g old new
+  pub stays : RemainsSound g old new (StaysOpen result)
+  pub cause : IfErr result (IsOfKeepers g.may_answer)
 
 -- the faults that the answer to a line may meet, of which none is the reader's
 abbrev pub MayStop : (Fault → Type 0) → HookFault → Type 0

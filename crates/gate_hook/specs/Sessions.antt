@@ -1,11 +1,12 @@
 -- A SESSION of `serve_lines`: what each of its steps says, for private clauses. `old` is the session before the step, and `new` after it.
-use Rattle.std.specs.Prelude.{◌≡◌, ℕ, List, [], Option, Result}
+use Rattle.std.specs.Prelude.{◌≡◌, ℕ, List, [], Option, Result, IfErr}
 use Rattle.std.specs.Io.KnownBytes.{Consumes, IsAtEnd}
-use Rattle.gate_store.specs.Outlasting.{Outlasts}
+use Rattle.gate_queue.specs.declared.fault.Fault.{Fault}
+use Rattle.gate_store.specs.Outlasting.{Outlasts, RemainsSound}
 use Rattle.gate_store.specs.Run.{Records}
 use Rattle.gate_store.specs.declared.book.Book as book
-use Rattle.gate_hook.specs.Lines.{IsServed, IsWithinLimit, Serves}
-use Rattle.gate_hook.specs.Serving.{IsAnswered, IsTold, IsUpTo, TakesByte, TakesBytes}
+use Rattle.gate_hook.specs.Lines.{IsServed, IsWithinLimit, ServesLines}
+use Rattle.gate_hook.specs.Serving.{IsAnswered, IsOfGate, IsTold, IsUpTo, StaysSound, TakesByte, TakesBytes}
 use Rattle.gate_hook.specs.declared.fault.HookFault.{HookFault}
 use Rattle.gate_hook.specs.declared.lines.Session.{Session}
 
@@ -14,6 +15,21 @@ pub record Turns {B W : Type 0} (g : book.Ghosts B) (old new : Session B W) : Ty
   pub outlasts : Outlasts g old.keeper.now new.keeper.now
   pub same_keeper : new.keeper.ghost_name ≡ old.keeper.ghost_name
   pub same_writer : new.writer.ghost_name ≡ old.writer.ghost_name
+
+-- WHAT EVERY STEP SAYS of the session: besides that, a book that was sound, if it was honest, is so still, unless a fault has shut it; and
+-- a fault is one of these.
+pub record Steps {B W X : Type 0} (g : book.Ghosts B) (may_come : (Fault → Type 0) → HookFault → Type 0) (old new : Session B W) (result : Result X HookFault) : Type 0 where
+  pub turns : Turns g old new
+  pub stays : RemainsSound g old.keeper.now new.keeper.now (StaysSound result)
+  pub cause : IfErr result (may_come g.may_answer)
+
+-- WHAT EACH STEP SAYS: the line that is open is answered, and stays. At a fault of the gate nothing is written.
+pub record AnswersLine {B W : Type 0} (g : book.Ghosts B) (contents : W → Option (List ℕ)) (old new : Session B W) (result : Result (Unit {0}) HookFault) : Type 0 where
+  pub answered : g.is_sound new.keeper.now
+      → IsAnswered result (g.shows old.keeper.now) old.line (g.shows new.keeper.now) (contents old.writer.now) (contents new.writer.now)
+  pub unwritten : IfErr result (λ fault. IsOfGate fault → contents new.writer.now ≡ contents old.writer.now)
+  pub line : new.line ≡ old.line
+  pub count : new.count ≡ old.count
 
 module _ {B W : Type 0} (g : book.Ghosts B) (contents : W → Option (List ℕ)) where
   -- from these records on, this input is served up to its last line feed
@@ -30,12 +46,6 @@ module _ {B W : Type 0} (g : book.Ghosts B) (contents : W → Option (List ℕ))
   IsHonestStill old new = (g.is_honest old.keeper.now → g.is_sound old.keeper.now) × g.is_honest new.keeper.now
 
   module _ (old new : Session B W) where
-    -- the line that is open is answered,
-    abbrev pub AnswersLine : Result (Unit {0}) HookFault → Type 0
-    AnswersLine result =
-        g.is_sound new.keeper.now
-        → IsAnswered result (g.shows old.keeper.now) old.line (g.shows new.keeper.now) (contents old.writer.now) (contents new.writer.now)
-
     -- one more byte is taken, or more,
     abbrev pub TakesOne : Result (Unit {0}) HookFault → ℕ → Type 0
     TakesOne result byte = (opened : Records) (input : List ℕ) (before : Option (List ℕ)) → HasServedUpTo old opened input before
@@ -66,11 +76,5 @@ module _ {B W : Type 0} (g : book.Ghosts B) (contents : W → Option (List ℕ))
         × ((g.is_honest old.keeper.now → g.is_sound old.keeper.now) → g.is_honest new.keeper.now
         → IsTold result (g.shows old.keeper.now) input left (contents old.writer.now) (contents new.writer.now))
 
-    abbrev pub ServesLines : Result ℕ HookFault → Option (List ℕ) → Option (List ℕ) → Type 0
-    ServesLines result all left = (input : List ℕ) × Consumes all left input
-        × IsWithinLimit result input
-        × (g.is_sound new.keeper.now
-        → IsServed result (g.shows old.keeper.now) input left (g.shows new.keeper.now) (contents old.writer.now) (contents new.writer.now))
-        × (g.is_sound old.keeper.now → g.is_honest new.keeper.now
-        → Serves (g.is_sound new.keeper.now) result (g.shows old.keeper.now) input left (g.shows new.keeper.now)
-        (contents old.writer.now) (contents new.writer.now))
+    abbrev pub ServesAll : Result ℕ HookFault → Option (List ℕ) → Option (List ℕ) → Type 0
+    ServesAll result all left = ServesLines g old.keeper.now new.keeper.now result all left (contents old.writer.now) (contents new.writer.now)

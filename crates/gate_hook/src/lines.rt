@@ -1,11 +1,8 @@
-ghost use Rattle.std.specs.Prelude.{◌≡◌, ◌+◌, ◌<◌, ◌≤◌, ◌^◌, ◌++◌, ◌∷◌, ℕ, false, [], List, length, IfOk, IfErr, OnOk, Ok};
-ghost use Rattle.std.specs.String.{string_bytes};
-ghost use Rattle.std.specs.Io.KnownBytes.{Consumes, IsAtEnd};
-ghost use Rattle.gate_store.specs.Outlasting.{Outlasts, RemainsSound};
-ghost use Rattle.gate_store.specs.Run.{IsOfKeepers, StaysOpen};
-ghost use Rattle.gate_hook.specs.Lines.{line_text, after_line, line_meets_full, MayEnd, Serves, StopsAtLine, IsServed, IsWithinLimit};
-ghost use Rattle.gate_hook.specs.Serving.{IsOfGate, MayStop, StaysSound};
-ghost use Rattle.gate_hook.specs.Sessions.{AnswersLine, HasBegun, ServesInput, ServesLast, ServesLines, TakesAll, TakesOne, TellsLast, Turns};
+ghost use Rattle.std.specs.Prelude.{◌≡◌, ◌+◌, ◌<◌, ◌≤◌, ◌^◌, ℕ, List, length, OnOk};
+ghost use Rattle.std.specs.Io.KnownBytes.{IsAtEnd};
+ghost use Rattle.gate_hook.specs.Lines.{IsWithinLimit, MayEnd, ReadsLines, ServesLines};
+ghost use Rattle.gate_hook.specs.Serving.{MakesAnswer, MayStop};
+ghost use Rattle.gate_hook.specs.Sessions.{AnswersLine, HasBegun, ServesAll, ServesInput, ServesLast, Steps, TakesAll, TakesOne, TellsLast};
 
 use crate::answering::delivery_answer;
 use crate::fault::HookFault;
@@ -30,16 +27,7 @@ const MAX_INPUT: u64 = 4_294_967_296;
 
 // The text of the answer to a line, with its line feed.
 fn line_answer<B: Book>(alloc: Global, keeper: &mut Keeper<B>, line: &Line) -> Result<String, Fault>
-    ensures text { B.is_sound keeper.new
-        → IfOk result (λ text. string_bytes text ≡ line_text (B.shows keeper.old) line.now ++ 10 ∷ []) }
-    ensures records { B.is_sound keeper.new
-        → OnOk result (B.shows keeper.new ≡ after_line (B.shows keeper.old) line.now) }
-    ensures room { B.is_sound keeper.new → OnOk result (line_meets_full (B.shows keeper.old) line.now ≡ false) }
-    ensures stops { B.is_sound keeper.new
-        → IfErr result (λ fault. StopsAtLine fault (B.shows keeper.old) line.now (B.shows keeper.new)) }
-    ensures outlasts { Outlasts B.Book keeper.old keeper.new }
-    ensures stays { RemainsSound B.Book keeper.old keeper.new (StaysOpen result) }
-    ensures cause { IfErr result (IsOfKeepers B.may_answer) }
+    ensures makes { MakesAnswer B.Book keeper.old keeper.new line.now result }
 {
     if line.is_too_long() {
         return Ok(String::from_str(alloc, TOO_LONG)?);
@@ -76,14 +64,8 @@ struct Session<'k, 'w, B: Book, W> {
 impl<B: Book, W: Write> Session<'_, '_, B, W> {
     // Answers the line that is open: its text goes out whole, and a part of it if the writer refuses the rest.
     fn answer_line(&mut self, alloc: Global) -> Result<(), HookFault>
-        ensures answered { AnswersLine B.Book W.contents self.old self.new result }
-        ensures turns { Turns B.Book self.old self.new }
-        ensures stays { RemainsSound B.Book self.old.keeper.now self.new.keeper.now (StaysSound result) }
-        ensures unwritten { IfErr result (λ fault. IsOfGate fault
-            → W.contents self.new.writer.now ≡ W.contents self.old.writer.now) }
-        ensures cause { IfErr result (MayStop B.may_answer) }
-        ensures line { self.new.line ≡ self.old.line }
-        ensures count { self.new.count ≡ self.old.count }
+        ensures answers { AnswersLine B.Book W.contents self.old self.new result }
+        ensures steps { Steps B.Book MayStop self.old self.new result }
     {
         let text = line_answer(alloc, self.keeper, &self.line)?;
         send(self.writer, text.as_bytes())
@@ -93,9 +75,7 @@ impl<B: Book, W: Write> Session<'_, '_, B, W> {
     fn take_byte(&mut self, alloc: Global, byte: u8) -> Result<(), HookFault>
         requires { self.old.count < 2 ^ 32 }
         ensures taken { TakesOne B.Book W.contents self.old self.new result byte }
-        ensures turns { Turns B.Book self.old self.new }
-        ensures stays { RemainsSound B.Book self.old.keeper.now self.new.keeper.now (StaysSound result) }
-        ensures cause { IfErr result (MayStop B.may_answer) }
+        ensures steps { Steps B.Book MayStop self.old self.new result }
         ensures count { self.new.count ≤ self.old.count + 1 }
     {
         if byte != b'\n' {
@@ -116,9 +96,7 @@ impl<B: Book, W: Write> Session<'_, '_, B, W> {
     fn take_chunk(&mut self, alloc: Global, bytes: &[u8]) -> Result<(), HookFault>
         requires { self.old.count + length bytes.now ≤ 2 ^ 32 }
         ensures taken { TakesAll B.Book W.contents self.old self.new result bytes.now }
-        ensures turns { Turns B.Book self.old self.new }
-        ensures stays { RemainsSound B.Book self.old.keeper.now self.new.keeper.now (StaysSound result) }
-        ensures cause { IfErr result (MayStop B.may_answer) }
+        ensures steps { Steps B.Book MayStop self.old self.new result }
         ensures count { self.new.count ≤ self.old.count + length bytes.now }
     {
         for byte in bytes {
@@ -136,9 +114,7 @@ impl<B: Book, W: Write> Session<'_, '_, B, W> {
         ensures within { (input : List ℕ) → length input ≤ MAX_INPUT → IsWithinLimit result input }
         ensures served { ServesLast B.Book W.contents self.old self.new result }
         ensures told { TellsLast B.Book W.contents self.old self.new result }
-        ensures turns { Turns B.Book self.old self.new }
-        ensures stays { RemainsSound B.Book self.old.keeper.now self.new.keeper.now (StaysSound result) }
-        ensures cause { IfErr result (MayEnd B.may_answer) }
+        ensures steps { Steps B.Book MayEnd self.old self.new result }
     {
         if self.line.is_empty() {
             return Ok(self.count);
@@ -154,10 +130,8 @@ impl<B: Book, W: Write> Session<'_, '_, B, W> {
         requires { HasBegun B.Book W.contents self.old }
         ensures served { ServesInput B.Book W.contents self.old self.new result
             (R.remaining reader.old) (R.remaining reader.new) }
-        ensures turns { Turns B.Book self.old self.new }
         ensures end { OnOk result (IsAtEnd (R.remaining reader.new)) }
-        ensures stays { RemainsSound B.Book self.old.keeper.now self.new.keeper.now (StaysSound result) }
-        ensures cause { IfErr result (MayEnd B.may_answer) }
+        ensures steps { Steps B.Book MayEnd self.old self.new result }
     {
         let mut buffer = [0; CHUNK];
         let mut left = MAX_INPUT;
@@ -179,11 +153,10 @@ impl<B: Book, W: Write> Session<'_, '_, B, W> {
     // The same, told as `serve_lines` tells it.
     fn serve<R: Read>(&mut self, alloc: Global, reader: &mut R) -> Result<u64, HookFault>
         requires { HasBegun B.Book W.contents self.old }
-        ensures served { ServesLines B.Book W.contents self.old self.new result
+        ensures served { ServesAll B.Book W.contents self.old self.new result
             (R.remaining reader.old) (R.remaining reader.new) }
-        ensures turns { Turns B.Book self.old self.new }
         ensures end { OnOk result (IsAtEnd (R.remaining reader.new)) }
-        ensures cause { IfErr result (MayEnd B.may_answer) }
+        ensures steps { Steps B.Book MayEnd self.old self.new result }
     {
         self.take_input(alloc, reader)
     }
@@ -211,23 +184,11 @@ pub fn serve_lines<B: Book, R: Read, W: Write>(
 ) -> Result<u64, HookFault>
     // Within the limit, input was consumed. If the book is sound, what is written is the text for its lines. If it was sound, and is
     // honest still, so are the answers before a fault that has shut it.
-    ensures served { (input : List ℕ) × Consumes (R.remaining reader.old) (R.remaining reader.new) input
-        × IsWithinLimit result input
-        × (B.is_sound keeper.new
-        → IsServed result (B.shows keeper.old) input (R.remaining reader.new) (B.shows keeper.new)
-        (W.contents writer.old) (W.contents writer.new))
-        × (B.is_sound keeper.old → B.is_honest keeper.new
-        → Serves (B.is_sound keeper.new) result (B.shows keeper.old) input (R.remaining reader.new) (B.shows keeper.new)
-        (W.contents writer.old) (W.contents writer.new)) }
+    ensures served { ServesLines B.Book keeper.old keeper.new result (R.remaining reader.old) (R.remaining reader.new)
+        (W.contents writer.old) (W.contents writer.new) }
 
-    // It succeeds at the end of the input alone.
-    ensures end { OnOk result (IsAtEnd (R.remaining reader.new)) }
-
-    // A fault of the gate is one that the keeper may answer.
-    ensures cause { IfErr result (MayEnd B.may_answer) }
-
-    // A book that is sound in the end was sound before, one that is honest was so, and one that was shielded still is.
-    ensures outlasts { Outlasts B.Book keeper.old keeper.new }
+    // It succeeds at the end of the input alone, its faults are those that may come, and the premise of the book outlasts it.
+    ensures reads { ReadsLines B.Book keeper.old keeper.new result (R.remaining reader.new) }
 {
     let mut session = Session {
         keeper,

@@ -1,17 +1,14 @@
-ghost use Rattle.std.specs.Prelude.{◌≡◌, ◌≤◌, ◌↔◌, ℕ, List, [], Ok, Some, None, IfSome, IsSome, length, drop, IfOk, IfErr, OnErr, OnOk, ◌⊎◌, false};
+ghost use Rattle.std.specs.Prelude.{◌≡◌, ◌≤◌, [], Ok, Some, None, length, drop, IfOk, IfErr, OnErr, OnOk};
 ghost use Rattle.std.specs.Option.{option_map};
 ghost use Rattle.std.specs.String.{string_bytes};
-ghost use Rattle.gate_store.specs.Outlasting.{Outlasts, RemainsSound};
-ghost use Rattle.gate_store.specs.Run.{Records, AgreesOnFull, IsOfBooks, IsOfKeepers, StaysOpen, after_delivery, meets_full};
 ghost use Rattle.gate_deliveries.specs.Deliveries.{delivery_of};
-ghost use Rattle.gate_hook.specs.Receiving.{HasAsked, HasTaken, IsInput};
+ghost use Rattle.gate_hook.specs.Receiving.{HasAsked};
 ghost use Rattle.gate_hook.specs.Requests.{asked_by, delivery_or_refusal};
-ghost use Rattle.gate_hook.specs.Responding.{Answers, HasConsumed, HasSent, IsTranscript, MakesAnyhow, MayFail, Responds, RespondsAnyhow};
+ghost use Rattle.gate_hook.specs.Responding.{AnswersDelivery, AnswersRequest, HasConsumed, HasSent, IsTranscript, MakesReport, MakesResponse};
 ghost use Rattle.gate_http.specs.Heads.{IsHeadRead, IsLineOf};
 ghost use Rattle.gate_http.specs.Responses.{IsResponse, fault_response, response_text};
-ghost use Rattle.gate_hook.specs.declared.requests.Request.TheVariants.{Delivery as DeliveryOf, Report as ReportOf};
-ghost use Rattle.gate_hook.specs.Served.{AnswersAnyhow, AnswersOne, AsksNoDelivery, StaysServing, report_in, response_to, response_to_report};
-ghost use Rattle.gate_hook.specs.Serving.{StaysSound};
+ghost use Rattle.gate_hook.specs.declared.requests.Request.TheVariants.{Delivery as DeliveryOf};
+ghost use Rattle.gate_hook.specs.Served.{ServesOne, report_in, response_to, response_to_report};
 
 use crate::answering::delivery_answer;
 use crate::fault::HookFault;
@@ -175,18 +172,8 @@ fn answered<B: Book>(
     keeper: &mut Keeper<B>,
     delivery: &Delivery,
 ) -> Result<Response, Fault>
-    ensures response { B.is_sound keeper.new
-        → IfOk result
+    ensures answers { AnswersDelivery B.Book keeper.old keeper.new delivery.now result
         (λ response. IsResponse response (response_to (B.shows keeper.old) (Ok (DeliveryOf delivery.now)))) }
-    ensures records { B.is_sound keeper.new
-        → OnOk result (B.shows keeper.new ≡ after_delivery (B.shows keeper.old) delivery.now) }
-    ensures stops { B.is_sound keeper.new → IfErr result (λ fault. (B.shows keeper.new ≡ B.shows keeper.old)
-        ⊎ ((fault ≡ Fault.Memory) × (B.shows keeper.new ≡ after_delivery (B.shows keeper.old) delivery.now)
-        × (meets_full (B.shows keeper.old) delivery.now ≡ false))) }
-    ensures full { B.is_sound keeper.new → AgreesOnFull result (meets_full (B.shows keeper.old) delivery.now) }
-    ensures outlasts { Outlasts B.Book keeper.old keeper.new }
-    ensures stays { B.is_honest keeper.new → StaysOpen result (B.is_sound keeper.new) }
-    ensures cause { IfErr result (IsOfKeepers B.may_answer) }
 {
     let text = delivery_answer(alloc, keeper, delivery)?;
     Ok(json_response(alloc, StatusCode::OK, text.as_str())?)
@@ -220,15 +207,7 @@ fn reported<B: Book>(
     keeper: &mut Keeper<B>,
     report: Report,
 ) -> Result<Response, Fault>
-    ensures response { B.is_sound keeper.new
-        → IfOk result (λ response. IsResponse response (response_to (B.shows keeper.old) (Ok (ReportOf report)))) }
-    ensures anyhow { IfOk result (λ response. (records : Records)
-        × IsResponse response (response_to records (Ok (ReportOf report)))) }
-    ensures same { B.is_sound keeper.new → B.shows keeper.new ≡ B.shows keeper.old }
-    ensures outlasts { Outlasts B.Book keeper.old keeper.new }
-    ensures stays { RemainsSound B.Book keeper.old keeper.new (StaysOpen result) }
-    ensures cause { IfErr result (IsOfKeepers B.may_answer) }
-    ensures fault { IfErr result IsOfBooks }
+    ensures makes { MakesReport B.Book keeper.old keeper.new report result }
 {
     match keeper.look(alloc) {
         Ok(gate) => reported_by(alloc, gate, report),
@@ -242,11 +221,7 @@ fn respond<B: Book>(
     keeper: &mut Keeper<B>,
     wish: &Wish,
 ) -> Result<Response, HookFault>
-    ensures responds { B.is_sound keeper.new → Responds result (B.shows keeper.old) wish.now (B.shows keeper.new) }
-    ensures anyhow { B.is_honest keeper.new → B.is_sound keeper.new ⊎ RespondsAnyhow result wish.now }
-    ensures outlasts { Outlasts B.Book keeper.old keeper.new }
-    ensures stays { RemainsSound B.Book keeper.old keeper.new (StaysSound result) }
-    ensures cause { IfErr result (MayFail B.may_answer) }
+    ensures makes { MakesResponse B.Book keeper.old keeper.new wish.now result }
 {
     match wish {
         Ok(Request::Delivery(delivery)) => Ok(answered(alloc, keeper, delivery)?),
@@ -267,16 +242,8 @@ fn answer<B: Book, R: Read>(
     requires { bytes.old.items ≡ [] }
     ensures consumed { HasConsumed result (R.remaining reader.old) (R.remaining reader.new) bytes.new.items }
     ensures head { IsHeadRead head.new bytes.new.items }
-    ensures answered { (input : List ℕ) × IsInput (R.remaining reader.old) (R.remaining reader.new) input
-        × (B.is_sound keeper.new
-        → Answers routes.now result input (B.shows keeper.old) (B.shows keeper.new)) }
-    ensures anyhow { B.is_honest keeper.new → B.is_sound keeper.new
-        ⊎ ((input : List ℕ) × IsInput (R.remaining reader.old) (R.remaining reader.new) input
-        × MakesAnyhow routes.now result input) }
-    ensures taken { HasTaken routes.now (R.remaining reader.old) (R.remaining reader.new) }
-    ensures outlasts { Outlasts B.Book keeper.old keeper.new }
-    ensures stays { RemainsSound B.Book keeper.old keeper.new (StaysSound result) }
-    ensures cause { IfErr result (MayFail B.may_answer) }
+    ensures answers { AnswersRequest B.Book routes.now result keeper.old keeper.new
+        (R.remaining reader.old) (R.remaining reader.new) }
 {
     let wish = match read_wish(alloc, routes, reader, bytes, head) {
         Ok(wish) => wish,
@@ -345,41 +312,10 @@ pub fn serve_guarded<B: Book, R: Read, W: Write>(
     ensures transcript { IsTranscript result transcript.new.request transcript.new.response
         (R.remaining reader.old) (R.remaining reader.new) (W.contents writer.old) (W.contents writer.new) }
 
-    // What is written, and the records after it, are those that the input asks for.
-    ensures served { (input : List ℕ) × IsInput (R.remaining reader.old) (R.remaining reader.new) input
-        × (B.is_sound keeper.new
-        → AnswersOne routes.now result input (B.shows keeper.old) (B.shows keeper.new)
-        (W.contents writer.old) (W.contents writer.new)) }
-
-    // Of the input no more is taken than the answer needs, whatever comes of it.
-    ensures taken { HasTaken routes.now (R.remaining reader.old) (R.remaining reader.new) }
-
-    // Input that asks for no delivery leaves the records as they were.
-    ensures same { B.is_sound keeper.new → (input : List ℕ) → R.remaining reader.old ≡ Some input
-        → AsksNoDelivery routes.now input → B.shows keeper.new ≡ B.shows keeper.old }
-
-    // It ends by a failed read or a failed write alone.
-    ensures ends { IfErr result (λ fault. (fault ≡ HookFault.Read) ⊎ (fault ≡ HookFault.Write)) }
-
-    // The status is 503 exactly if there was a fault.
-    ensures exact { B.is_sound keeper.new → IfOk result (λ served. (served.status ≡ 503) ↔ IsSome served.fault) }
-
-    // A fault is one that the keeper may answer.
-    ensures cause { IfOk result (λ served. IfSome served.fault (IsOfKeepers B.may_answer)) }
-
-    // A book that is sound in the end was sound before, one that is honest was so, and one that was shielded still is.
-    ensures outlasts { Outlasts B.Book keeper.old keeper.new }
-
-    // Of a book that was sound and is honest, only `Memory` and `Store` may have shut it, and then the response is 503, or after `Write`
-    // a part of it. After any other response it is still sound, so what is said above of that response holds, whatever comes later.
-    ensures stays { B.is_sound keeper.old → B.is_honest keeper.new
-        → StaysServing result (B.is_sound keeper.new) (W.contents writer.old) (W.contents writer.new) }
-
-    // A book that is honest is sound after the call, or what was sent needed none. So over a book that had been shut before, a delivery
-    // gets 503, and a refusal is sent as ever. A report gets 503 too, or is of a state that was at hand.
-    ensures anyhow { B.is_honest keeper.new → B.is_sound keeper.new
-        ⊎ ((input : List ℕ) × IsInput (R.remaining reader.old) (R.remaining reader.new) input
-        × AnswersAnyhow routes.now result input (W.contents writer.old) (W.contents writer.new)) }
+    // What is written, and the records after it, are those that the input asks for, of which no more is taken than the answer needs.
+    // What else is told of one request stands at `ServesOne`, and so does what holds of a book that a fault may have shut.
+    ensures serves { ServesOne B.Book routes.now result keeper.old keeper.new
+        (R.remaining reader.old) (R.remaining reader.new) (W.contents writer.old) (W.contents writer.new) }
 {
     transcript.request.clear();
     transcript.response.clear();
@@ -405,49 +341,17 @@ pub fn serve_guarded<B: Book, R: Read, W: Write>(
 /// The two errors are `Read`, after which nothing is written and nothing has changed, and `Write`, after which a part of the
 /// response, but not all, is written, and a delivery that acted stays. The writer isn't flushed.
 ///
-/// What is said of responses and of the book holds if the book's premise does, and `stays` says what holds once a fault has shut it;
-/// which errors and which faults may come, holds without it.
+/// All that is told of it is `ServesOne` in `specs/Served.antt`. What is said of responses and of the book holds if the book's premise
+/// does, and `stays` says what holds once a fault has shut it; which errors and which faults may come, holds without it.
 pub fn serve_one<B: Book, R: Read, W: Write>(
     alloc: Global,
     keeper: &mut Keeper<B>,
     reader: &mut R,
     writer: &mut W,
 ) -> Result<Served, HookFault>
-    // What is written, and the records after it, are those that the input asks for.
-    ensures served { (input : List ℕ) × IsInput (R.remaining reader.old) (R.remaining reader.new) input
-        × (B.is_sound keeper.new
-        → AnswersOne None result input (B.shows keeper.old) (B.shows keeper.new)
-        (W.contents writer.old) (W.contents writer.new)) }
-
-    // Of the input no more is taken than the answer needs, whatever comes of it.
-    ensures taken { HasTaken None (R.remaining reader.old) (R.remaining reader.new) }
-
-    // Input that asks for no delivery leaves the records as they were.
-    ensures same { B.is_sound keeper.new → (input : List ℕ) → R.remaining reader.old ≡ Some input
-        → AsksNoDelivery None input → B.shows keeper.new ≡ B.shows keeper.old }
-
-    // It ends by a failed read or a failed write alone.
-    ensures ends { IfErr result (λ fault. (fault ≡ HookFault.Read) ⊎ (fault ≡ HookFault.Write)) }
-
-    // The status is 503 exactly if there was a fault.
-    ensures exact { B.is_sound keeper.new → IfOk result (λ served. (served.status ≡ 503) ↔ IsSome served.fault) }
-
-    // A fault is one that the keeper may answer.
-    ensures cause { IfOk result (λ served. IfSome served.fault (IsOfKeepers B.may_answer)) }
-
-    // A book that is sound in the end was sound before, one that is honest was so, and one that was shielded still is.
-    ensures outlasts { Outlasts B.Book keeper.old keeper.new }
-
-    // Of a book that was sound and is honest, only `Memory` and `Store` may have shut it, and then the response is 503, or after `Write`
-    // a part of it. After any other response it is still sound, so what is said above of that response holds, whatever comes later.
-    ensures stays { B.is_sound keeper.old → B.is_honest keeper.new
-        → StaysServing result (B.is_sound keeper.new) (W.contents writer.old) (W.contents writer.new) }
-
-    // A book that is honest is sound after the call, or what was sent needed none. So over a book that had been shut before, a delivery
-    // gets 503, and a refusal is sent as ever. A report gets 503 too, or is of a state that was at hand.
-    ensures anyhow { B.is_honest keeper.new → B.is_sound keeper.new
-        ⊎ ((input : List ℕ) × IsInput (R.remaining reader.old) (R.remaining reader.new) input
-        × AnswersAnyhow None result input (W.contents writer.old) (W.contents writer.new)) }
+    // The same without a token.
+    ensures serves { ServesOne B.Book None result keeper.old keeper.new
+        (R.remaining reader.old) (R.remaining reader.new) (W.contents writer.old) (W.contents writer.new) }
 {
     let Ok(routes) = Routes::new(alloc, None) else {
         return send_unavailable(writer, Fault::Memory);

@@ -1,10 +1,11 @@
 -- CONNECTIONS: which token is needed on them, what is printed before the first, what is done with one and with many, and how much is read of one behind its
 -- response.
-use Rattle.std.specs.Prelude.{◌≡◌, ◌⊎◌, ◌<◌, ℕ, ◌+◌, List, [], ◌∷◌, ◌++◌, length, codes, decimal, Option, Some, None, Result, Ok, Err}
+use Rattle.std.specs.Prelude.{◌≡◌, ◌⊎◌, ◌<◌, ℕ, ◌+◌, List, [], ◌∷◌, ◌++◌, length, codes, decimal, Option, Some, None, Result, Ok, Err, IfErr}
 use Rattle.std.specs.Io.KnownBytes.{Appends, Consumes, IsAtEnd, Keeps}
-use Rattle.gate_jobs.specs.Accepting.{Connection}
+use Rattle.std.specs.List.{All}
+use Rattle.gate_jobs.specs.Accepting.{AddsText, AreAcceptedInTurn, AreEndedInTurn, ComesFirst, Connection}
 use Rattle.gate_jobs.specs.declared.fault.JobFault.{JobFault}
-use Rattle.gate_jobs.specs.declared.fault.JobFault.TheVariants.{Hook, Token}
+use Rattle.gate_jobs.specs.declared.fault.JobFault.TheVariants.{Accept, Hook, Token}
 use Rattle.gate_hook.specs.Receiving.{HasTaken, IsInput}
 use Rattle.gate_hook.specs.Sending.{IsCutOff}
 use Rattle.gate_hook.specs.Served.{AnswersAnyhow, AnswersOne}
@@ -14,7 +15,9 @@ use Rattle.gate_hook.specs.declared.fault.HookFault.{HookFault}
 use Rattle.gate_hook.specs.declared.fault.HookFault.TheVariants.{Gate, Read, Write, TooMuch}
 use Rattle.gate_hook.specs.declared.requests.Served.{Served}
 use Rattle.gate_queue.specs.declared.fault.Fault.TheVariants.{Memory}
+use Rattle.gate_store.specs.Outlasting.{Outlasts}
 use Rattle.gate_store.specs.Run.{Records}
+use Rattle.gate_store.specs.declared.book.Book as book
 
 abbrev pub greeting : ℕ → List ℕ
 greeting port = codes "listening on 127.0.0.1:" ++ (decimal port ++ 10 ∷ [])
@@ -68,6 +71,44 @@ AreServedOver {B} shows is_sound token (connection ∷ connections) old new =
 abbrev pub AreAccepted : Result (Unit {0}) JobFault → ℕ → ℕ → Type 0
 AreAccepted (Ok _) accepted count = accepted ≡ count
 AreAccepted (Err fault) accepted count = accepted < count
+
+-- ALL OF IT, over a book, by what an acceptor knows before and after: which connections wait, what was written on those that were ended,
+-- and what these had still to give.
+module _ {A B : Type 0} (g : book.Ghosts B) (token : Option (List ℕ)) (waiting ended unread : A → Option (List (List ℕ))) (before after : A) (old new : B) where
+  -- the first connection was accepted, served and ended
+  abbrev pub OneServed : Type 0
+  OneServed =
+      (connection : Connection) × ComesFirst (waiting before) (waiting after) connection.unread connection.blank
+      × AddsText (ended before) (ended after) connection.written
+      × AddsText (unread before) (unread after) connection.left
+      × IsTakenAsNeeded token connection
+      × (g.is_sound new → IsServed token connection (g.shows old) (g.shows new))
+      × (g.is_honest new → IsServedOver g.shows g.is_sound token connection old new)
+
+  -- none was, and nothing has changed
+  abbrev pub NoneServed : Type 0
+  NoneServed = (new ≡ old) × (waiting after ≡ waiting before) × (ended after ≡ ended before) × (unread after ≡ unread before)
+
+  -- These were accepted and ended, so many or fewer, in the order in which they came, and of each no more was taken than its answer needs.
+  -- If the book is sound in the end, what is left of the records is what their requests made of them, one after the other, and each was
+  -- answered as `serve_guarded` says. If it is honest in the end, each was answered so as long as the book was sound, and those after that
+  -- by what needs no book.
+  abbrev pub AllServed : Result (Unit {0}) JobFault → ℕ → Type 0
+  AllServed result count =
+      (connections : List Connection) × AreAccepted result (length connections) count
+      × AreAcceptedInTurn connections (waiting before) (waiting after)
+      × AreEndedInTurn (λ connection. connection.written) connections (ended before) (ended after)
+      × AreEndedInTurn (λ connection. connection.left) connections (unread before) (unread after)
+      × All (IsTakenAsNeeded token) connections
+      × (g.is_sound new → AreServedInTurn token connections (g.shows old) (g.shows new))
+      × (g.is_honest new → AreServedOver g.shows g.is_sound token connections old new)
+
+-- What serving connections says besides.
+pub record EndsServing {B : Type 0} (g : book.Ghosts B) (old new : B) (result : Result (Unit {0}) JobFault) : Type 0 where
+  -- It stops at a connection that can't be accepted alone.
+  pub cause : IfErr result (λ fault. fault ≡ Accept)
+  -- A book that is sound in the end was sound before, one that is honest was so, and one that was shielded still is.
+  pub outlasts : Outlasts g old new
 
 -- The input holds this token. Or it holds none, or can't be read, or there is no memory.
 abbrev pub IsTokenOf : Result (List ℕ) JobFault → Option (List ℕ) → Option (List ℕ) → Type 0

@@ -96,7 +96,7 @@ enum Backlog {
 ///
 /// To close a connection while bytes of its request are on their way would have the system reset it, and the client might lose the
 /// response. So when one is ended, nothing more is sent on it. Beside the others what still comes is dropped, until the client closes, is
-/// silent for a second, or has sent a megabyte, or until ten seconds are over, or 256 others were ended after it.
+/// silent for a second, or has sent a megabyte, or until ten seconds are over, or if 256 that were ended later haven't left either.
 #[derive(Drop)]
 pub struct Connections<'a, C: Clock> {
     listener: &'a TcpListener,
@@ -147,8 +147,9 @@ impl<'a, C: Clock> Connections<'a, C> {
         })
     }
 
-    /// From now on they end when standard input is closed: then those are still served whose requests are whole, and `accept` fails. What
-    /// can't be waited for, a file or `/dev/null`, counts as closed.
+    /// From now on they end when standard input is closed. Then those are taken in that have come, and nobody after them. The ones that are
+    /// here are still heard, and served, as long as one is ready; once none is, `accept` fails. What can't be waited for, a file or
+    /// `/dev/null`, counts as closed.
     pub fn end_with_input(&mut self)
         ensures waiting { self.new.waiting ≡ self.old.waiting }
     {
@@ -275,7 +276,8 @@ impl<'a, C: Clock> Connections<'a, C> {
         Ok(Some((guest, ready)))
     }
 
-    // Once the input has ended, one look more is had at what has come.
+    // Once the input has ended, those that have come are taken in, and nobody after them. Those that are here are still heard, until none
+    // is ready.
     fn next(&mut self) -> io::Result<(Guest, Ready)> {
         for _ in 0..u64::MAX {
             let pause = shorter(self.see_off()?, self.pause()?);
@@ -288,7 +290,8 @@ impl<'a, C: Clock> Connections<'a, C> {
             }
             // So all is heard that came by this time, before somebody is late at it.
             self.watch.wait(Some(Duration::ZERO))?;
-            self.hear(time);
+            let heard = self.time()?;
+            self.hear(heard);
             match self.first(time)? {
                 Some(next) => return Ok(next),
                 None if self.is_closed => break,

@@ -1,11 +1,8 @@
-ghost use Rattle.std.specs.Prelude.{◌≡◌, ℕ, List, IfErr, IfOk, OnOk};
-ghost use Rattle.std.specs.Io.KnownBytes.{Consumes, IsAtEnd};
+ghost use Rattle.std.specs.Prelude.{◌≡◌, IfErr, IfOk};
 ghost use Rattle.std.specs.String.{string_bytes};
-ghost use Rattle.gate_jobs.specs.Report.{IsMade, IsReported};
-ghost use Rattle.gate_hook.specs.Lines.{MayEnd, after_lines, lines_of};
+ghost use Rattle.gate_jobs.specs.Report.{MakesQueue, MakesText, Reports};
+ghost use Rattle.gate_hook.specs.Lines.{ReadsLines};
 ghost use Rattle.gate_report.specs.Queue.{queue_text_of};
-ghost use Rattle.gate_store.specs.Outlasting.{Outlasts};
-ghost use Rattle.gate_store.specs.Run.{IsOfBooks, IsOfKeepers};
 
 use gate_hook::{HookFault, send, serve_lines};
 use gate_queue::{Fault, Gate};
@@ -24,11 +21,7 @@ fn text_of(alloc: Global, gate: &Gate) -> Result<String, Fault>
 
 // The text of the queue of a keeper.
 fn queue_of<B: Book>(alloc: Global, keeper: &mut Keeper<B>) -> Result<String, Fault>
-    ensures text { B.is_sound keeper.new → IfOk result (λ text. string_bytes text ≡ queue_text_of (B.shows keeper.old).state) }
-    ensures same { B.is_sound keeper.new → B.shows keeper.new ≡ B.shows keeper.old }
-    ensures outlasts { Outlasts B.Book keeper.old keeper.new }
-    ensures cause { IfErr result (IsOfKeepers B.may_answer) }
-    ensures fault { IfErr result IsOfBooks }
+    ensures makes { MakesQueue B.Book keeper.old keeper.new result }
 {
     match keeper.look(alloc) {
         Ok(gate) => text_of(alloc, gate),
@@ -42,11 +35,8 @@ fn text_after<B: Book, R: Read>(
     keeper: &mut Keeper<B>,
     reader: &mut R,
 ) -> Result<String, HookFault>
-    ensures made { (input : List ℕ) × Consumes (R.remaining reader.old) (R.remaining reader.new) input
-        × (B.is_sound keeper.new → IsMade (B.shows keeper.old) result input (R.remaining reader.new) (B.shows keeper.new)) }
-    ensures end { OnOk result (IsAtEnd (R.remaining reader.new)) }
-    ensures outlasts { Outlasts B.Book keeper.old keeper.new }
-    ensures cause { IfErr result (MayEnd B.may_answer) }
+    ensures made { MakesText B.Book keeper.old keeper.new result (R.remaining reader.old) (R.remaining reader.new) }
+    ensures reads { ReadsLines B.Book keeper.old keeper.new result (R.remaining reader.new) }
 {
     if let Err(fault) = serve_lines(alloc, keeper, reader, &mut io::sink()) {
         return Err(fault);
@@ -68,19 +58,11 @@ pub fn report<B: Book, R: Read, W: Write>(
 ) -> Result<(), HookFault>
     // The report is that of the input which was read, and the records are then those after its lines, if the premise of the
     // keeper's book holds.
-    ensures reported { (input : List ℕ) × Consumes (R.remaining reader.old) (R.remaining reader.new) input
-        × (B.is_sound keeper.new
-        → IsReported (B.shows keeper.old) result input (R.remaining reader.new) (W.contents writer.old) (W.contents writer.new)
-        × OnOk result (B.shows keeper.new ≡ after_lines (B.shows keeper.old) (lines_of input))) }
+    ensures reported { Reports B.Book keeper.old keeper.new result
+        (R.remaining reader.old) (R.remaining reader.new) (W.contents writer.old) (W.contents writer.new) }
 
-    // It succeeds at the end of the input alone.
-    ensures end { OnOk result (IsAtEnd (R.remaining reader.new)) }
-
-    // A fault of the gate is one that the keeper may answer.
-    ensures cause { IfErr result (MayEnd B.may_answer) }
-
-    // A book that is sound in the end was sound before, one that is honest was so, and one that was shielded still is.
-    ensures outlasts { Outlasts B.Book keeper.old keeper.new }
+    // It succeeds at the end of the input alone, its faults are those that may come, and the premise of the book outlasts it.
+    ensures reads { ReadsLines B.Book keeper.old keeper.new result (R.remaining reader.new) }
 {
     match text_after(alloc, keeper, reader) {
         Ok(text) => send(writer, text.as_bytes()),

@@ -1,14 +1,10 @@
-ghost use Rattle.std.specs.Prelude.{◌≡◌, ◌⊎◌, ℕ, List, length, IfErr, IfOk, OnErr, OnOk};
-ghost use Rattle.std.specs.List.{All};
+ghost use Rattle.std.specs.Prelude.{◌≡◌, ◌⊎◌, IfErr, IfOk, OnErr, OnOk};
 ghost use Rattle.std.specs.Io.KnownBytes.{Appends};
-ghost use Rattle.gate_jobs.specs.Accepting.{AddsText, AreAcceptedInTurn, AreEndedInTurn, ComesFirst, Connection};
 ghost use Rattle.gate_jobs.specs.Serving as serving;
-ghost use Rattle.gate_jobs.specs.Serving.{AreAccepted, AreServedInTurn, AreServedOver, IsServed, IsServedOver, IsTakenAsNeeded, IsTokenOf, greeting};
-ghost use Rattle.gate_hook.specs.Receiving.{HasTaken, IsInput};
+ghost use Rattle.gate_jobs.specs.Serving.{AllServed, EndsServing, OneServed, IsTokenOf, NoneServed, greeting};
 ghost use Rattle.gate_hook.specs.Responding.{IsTranscript};
 ghost use Rattle.gate_hook.specs.Sending.{IsCutOff};
-ghost use Rattle.gate_hook.specs.Served.{AnswersAnyhow, AnswersOne, StaysServing};
-ghost use Rattle.gate_store.specs.Outlasting.{Outlasts};
+ghost use Rattle.gate_hook.specs.Served.{ServesOne};
 
 use crate::accepting::Acceptor;
 use crate::fault::JobFault;
@@ -42,8 +38,8 @@ fn token_told(read: Result<Option<Token>, HookFault>) -> Result<Token, JobFault>
 /// which nothing is.
 pub fn announce<W: Write>(alloc: Global, port: u16, writer: &mut W) -> Result<(), HookFault>
     ensures ok { OnOk result (Appends (W.contents writer.old) (W.contents writer.new) (greeting port)) }
-    ensures err { IfErr result (λ fault. ((fault ≡ HookFault.Write)
-        × IsCutOff (greeting port) (W.contents writer.old) (W.contents writer.new))
+    ensures err { IfErr result (λ fault.
+        ((fault ≡ HookFault.Write) × IsCutOff (greeting port) (W.contents writer.old) (W.contents writer.new))
         ⊎ ((fault ≡ HookFault.Gate Fault.Memory) × (W.contents writer.new ≡ W.contents writer.old))) }
 {
     let line = format!(in alloc; "listening on 127.0.0.1:{port}\n")?;
@@ -60,26 +56,13 @@ pub fn serve_request<B: Book, R: Read, W: Write>(
     reader: &mut R,
     writer: &mut W,
 ) -> Result<Served, HookFault>
-    // As at `serve_guarded`: what is written and the records after it, and what is taken.
-    ensures served { (input : List ℕ) × IsInput (R.remaining reader.old) (R.remaining reader.new) input
-        × (B.is_sound keeper.new
-        → AnswersOne routes.now result input (B.shows keeper.old) (B.shows keeper.new) (W.contents writer.old)
-        (W.contents writer.new)) }
-    ensures taken { HasTaken routes.now (R.remaining reader.old) (R.remaining reader.new) }
-
     // Whatever comes of it, the transcript has what was taken of the input, and the response, and nothing else.
     ensures transcript { IsTranscript result transcript.new.request transcript.new.response
         (R.remaining reader.old) (R.remaining reader.new) (W.contents writer.old) (W.contents writer.new) }
 
-    // A book that is sound in the end was sound before, one that is honest was so, and one that was shielded still is.
-    ensures outlasts { Outlasts B.Book keeper.old keeper.new }
-
-    // Of a book that a fault may have shut.
-    ensures stays { B.is_sound keeper.old → B.is_honest keeper.new
-        → StaysServing result (B.is_sound keeper.new) (W.contents writer.old) (W.contents writer.new) }
-    ensures anyhow { B.is_honest keeper.new → B.is_sound keeper.new
-        ⊎ ((input : List ℕ) × IsInput (R.remaining reader.old) (R.remaining reader.new) input
-        × AnswersAnyhow routes.now result input (W.contents writer.old) (W.contents writer.new)) }
+    // All that is told of one request, as at `serve_guarded`.
+    ensures serves { ServesOne B.Book routes.now result keeper.old keeper.new
+        (R.remaining reader.old) (R.remaining reader.new) (W.contents writer.old) (W.contents writer.new) }
 {
     serve_guarded(alloc, keeper, routes, transcript, reader, writer)
 }
@@ -92,17 +75,9 @@ fn serve_next<B: Book, R: Read, W: Write, A: Acceptor<R, W>, L: Log>(
     log: &mut L,
     acceptor: &mut A,
 ) -> Result<(), JobFault>
-    ensures served { IfOk result (λ _. (connection : Connection)
-        × ComesFirst (A.waiting acceptor.old) (A.waiting acceptor.new) connection.unread connection.blank
-        × AddsText (A.ended acceptor.old) (A.ended acceptor.new) connection.written
-        × AddsText (A.unread acceptor.old) (A.unread acceptor.new) connection.left
-        × IsTakenAsNeeded routes.now connection
-        × (B.is_sound keeper.new → IsServed routes.now connection (B.shows keeper.old) (B.shows keeper.new))
-        × (B.is_honest keeper.new → IsServedOver B.shows B.is_sound routes.now connection keeper.old keeper.new)) }
-    ensures none { OnErr result ((keeper.new ≡ keeper.old) × (A.waiting acceptor.new ≡ A.waiting acceptor.old)
-        × (A.ended acceptor.new ≡ A.ended acceptor.old) × (A.unread acceptor.new ≡ A.unread acceptor.old)) }
-    ensures cause { IfErr result (λ fault. fault ≡ JobFault.Accept) }
-    ensures outlasts { Outlasts B.Book keeper.old keeper.new }
+    ensures served { OnOk result (OneServed B.Book routes.now A.waiting A.ended A.unread acceptor.old acceptor.new keeper.old keeper.new) }
+    ensures none { OnErr result (NoneServed B.Book routes.now A.waiting A.ended A.unread acceptor.old acceptor.new keeper.old keeper.new) }
+    ensures ends { EndsServing B.Book keeper.old keeper.new result }
 {
     match acceptor.accept() {
         Ok((mut reader, mut writer)) => {
@@ -135,21 +110,12 @@ pub fn serve<B: Book, R: Read, W: Write, A: Acceptor<R, W>, L: Log>(
     acceptor: &mut A,
     count: u32,
 ) -> Result<(), JobFault>
-    // `count` connections were accepted and ended, or fewer after `Accept`, in the order in which they came, and of each no more was taken
-    // than its answer needs. If the book is sound in the end, what is left of the records is what their requests made of them, one after
-    // the other, and each was answered as `serve_guarded` says. If it is honest in the end, each was answered so as long as the book was
-    // sound, and those after that by what needs no book.
-    ensures served { (connections : List Connection) × AreAccepted result (length connections) count
-        × AreAcceptedInTurn connections (A.waiting acceptor.old) (A.waiting acceptor.new)
-        × AreEndedInTurn (λ connection. connection.written) connections (A.ended acceptor.old) (A.ended acceptor.new)
-        × AreEndedInTurn (λ connection. connection.left) connections (A.unread acceptor.old) (A.unread acceptor.new)
-        × All (IsTakenAsNeeded routes.now) connections
-        × (B.is_sound keeper.new → AreServedInTurn routes.now connections (B.shows keeper.old) (B.shows keeper.new))
-        × (B.is_honest keeper.new → AreServedOver B.shows B.is_sound routes.now connections keeper.old keeper.new) }
-    ensures cause { IfErr result (λ fault. fault ≡ JobFault.Accept) }
+    // `count` connections were accepted and ended, or fewer after `Accept`, in the order in which they came. Of each no more was taken than
+    // its answer needs, and each was answered as is due over a book that is sound, or over one that a fault may have shut.
+    ensures served { AllServed B.Book routes.now A.waiting A.ended A.unread acceptor.old acceptor.new keeper.old keeper.new result count }
 
-    // A book that is sound in the end was sound before, one that is honest was so, and one that was shielded still is.
-    ensures outlasts { Outlasts B.Book keeper.old keeper.new }
+    // The fault is `Accept`, and the premise of the book outlasts it.
+    ensures ends { EndsServing B.Book keeper.old keeper.new result }
 {
     for _ in 0..count {
         match serve_next(alloc, keeper, routes, log, acceptor) {

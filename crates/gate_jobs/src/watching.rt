@@ -7,7 +7,8 @@ use std::net::{TcpListener, TcpStream};
 use std::os::fd::{AsRawFd, RawFd};
 use std::time::Duration;
 
-// So much news is told at once: more than there are connections that are waited for. What there is more is told next.
+// So much news is told at once. There is never more, so one look has it all: at the most 256 connections are waited for, 256 others are
+// leaving, and there are the listener and standard input.
 const MOST_NEWS: usize = 1_024;
 
 // What the listener and standard input are known by. Connections are known by their numbers, which are below.

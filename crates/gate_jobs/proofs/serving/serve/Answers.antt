@@ -21,7 +21,7 @@ loop-preserved g c =
     let last = next.served.0 in
     let token = c.args.routes.now in
     record {
-      outlasts = outlasts_both g.B.Book _ _ _ before.outlasts next.outlasts;
+      outlasts = outlasts_both g.B.Book _ _ _ before.outlasts next.ends.outlasts;
       served = (
         connections ++ last ∷ [],
         omega (arith, length-append connections (last ∷ []), before.served.1),
@@ -29,8 +29,8 @@ loop-preserved g c =
         one_more_ended (λ (connection : Connection). connection.written) connections last _ _ _ before.served.3 next.served.2,
         one_more_ended (λ (connection : Connection). connection.left) connections last _ _ _ before.served.4 next.served.3,
         All-push (IsTakenAsNeeded token) connections last before.served.5 next.served.4,
-        λ sound. one_more_served token connections last _ _ _ (before.served.6 (next.outlasts.was sound)) (next.served.5 sound),
-        λ honest. one_more_over g.B.Book.shows g.B.Book.is_sound token connections last _ _ _ (before.served.7 (next.outlasts.honest honest)) (next.served.6 honest),
+        λ sound. one_more_served token connections last _ _ _ (before.served.6 (next.ends.outlasts.was sound)) (next.served.5 sound),
+        λ honest. one_more_over g.B.Book.shows g.B.Book.is_sound token connections last _ _ _ (before.served.7 (next.ends.outlasts.honest honest)) (next.served.6 honest),
       );
     }
 

@@ -4,7 +4,8 @@ use Rattle.gate_jobs.proofs.serving.serve_next.Goals as goal
 
 pub returns-in-Ok-clause-served : goal.returns-in-Ok-clause-served
 returns-in-Ok-clause-served g c =
-    let served = c.serve_request-served.ensures.served in
+    let serves = c.serve_request-served.ensures.serves in
+    let served = serves.served in
     let result = c.serve_request-served.result in (
       record {
         unread = g.R.Read.remaining c.in-Ok.reader;
@@ -15,12 +16,12 @@ returns-in-Ok-clause-served g c =
       search rules,
       search rules,
       search rules,
-      c.serve_request-served.ensures.taken,
+      serves.taken,
       λ sound. (result, served.0, served.1, served.2 sound),
       λ honest. record {
-        stays = λ sound. sound_or_fault result _ _ _ (c.serve_request-served.ensures.stays sound honest);
+        stays = λ sound. sound_or_fault result _ _ _ (serves.stays sound honest);
         due = λ sound. (result, served.0, served.1, served.2 sound);
-        was = c.serve_request-served.ensures.outlasts.was;
-        anyhow = elim (c.serve_request-served.ensures.anyhow honest) [ inl sound ↦ inl sound | inr anyhow ↦ inr (result, anyhow.0, anyhow.1, anyhow.2) ];
+        was = serves.outlasts.was;
+        anyhow = elim (serves.anyhow honest) [ inl sound ↦ inl sound | inr anyhow ↦ inr (result, anyhow.0, anyhow.1, anyhow.2) ];
       },
     )

@@ -13,25 +13,31 @@ returns-in-Ok-clause-served g c opened input left before so_far at_end =
     let session = c.args.self.now in
     let not_none : length session.line ≢ 0 = λ none. cc (c.if-is_empty.ensures.1 none) in
     let some : 0 < length session.line = omega arith in
-    rw c.in-Ok.ensures.count
-    (ends_last _ _ opened input left _ _ session.line session.count before _ _ some c.in-Ok.ensures.turns.outlasts.was so_far c.in-Ok.ensures.answered)
+    rw c.in-Ok.ensures.answers.count
+    (ends_last _ _ opened input left _ _ session.line session.count before _ _ some c.in-Ok.ensures.steps.turns.outlasts.was so_far c.in-Ok.ensures.answers.answered)
 
 pub returns-in-Err-clause-served : goal.returns-in-Err-clause-served
 returns-in-Err-clause-served g c opened input left before so_far at_end =
     let session = c.args.self.now in
     let not_none : length session.line ≢ 0 = λ none. cc (c.if-is_empty.ensures.1 none) in
     let some : 0 < length session.line = omega arith in
-    stops_last _ _ opened input left _ _ session.line session.count before _ _ c.in-Err.fault some at_end c.in-Err.ensures.turns.outlasts.was so_far c.in-Err.ensures.answered
+    stops_last _ _ opened input left _ _ session.line session.count before _ _ c.in-Err.fault some at_end c.in-Err.ensures.steps.turns.outlasts.was so_far c.in-Err.ensures.answers.answered
 
 pub returns-in-Err-clause-within : goal.returns-in-Err-clause-within
-returns-in-Err-clause-within g c input within = stops_within g.B.Book.may_answer c.in-Err.fault input within c.in-Err.ensures.cause
+returns-in-Err-clause-within g c input within = stops_within g.B.Book.may_answer c.in-Err.fault input within c.in-Err.ensures.steps.cause
 
-pub returns-in-Err-clause-cause : goal.returns-in-Err-clause-cause
-returns-in-Err-clause-cause g c = may_end g.B.Book.may_answer c.in-Err.fault c.in-Err.ensures.cause
+pub returns-in-Err-clause-steps : goal.returns-in-Err-clause-steps
+returns-in-Err-clause-steps g c =
+    let steps = c.in-Err.ensures.steps in
+    record {
+      turns = steps.turns;
+      stays = steps.stays;
+      cause = may_end g.B.Book.may_answer c.in-Err.fault steps.cause;
+    }
 
 pub returns-in-Err-clause-told : goal.returns-in-Err-clause-told
 returns-in-Err-clause-told g c opened input left before so_far at_end begun honest =
     let session = c.args.self.now in
     let not_none : length session.line ≢ 0 = λ none. cc (c.if-is_empty.ensures.1 none) in
     let some : 0 < length session.line = omega arith in
-    told_last _ opened input left _ session.line session.count before _ _ c.in-Err.fault some at_end so_far c.in-Err.ensures.unwritten (begun (c.in-Err.ensures.turns.outlasts.honest honest))
+    told_last _ opened input left _ session.line session.count before _ _ c.in-Err.fault some at_end so_far c.in-Err.ensures.answers.unwritten (begun (c.in-Err.ensures.steps.turns.outlasts.honest honest))

@@ -8,5 +8,5 @@ returns-clause-served g c =
       served.1,
       served.2,
       served.3,
-      λ begun honest. serves _ _ _ served.0 _ _ _ _ (c.take_input.ensures.stays (λ _. begun) honest) served.3 (served.4 (λ _. begun) honest),
+      λ begun honest. serves _ _ _ served.0 _ _ _ _ (c.take_input.ensures.steps.stays (λ _. begun) honest) served.3 (served.4 (λ _. begun) honest),
     )

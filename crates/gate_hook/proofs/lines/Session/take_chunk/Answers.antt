@@ -22,8 +22,8 @@ loop-byte-preserved g c =
     let so_far = c.loop-byte.invariant in
     record {
       counted = omega (arith, c.in-Ok.ensures.count, so_far.counted);
-      turns = turns_both g.B.Book _ _ _ so_far.turns c.in-Ok.ensures.turns;
-      stays = λ begun premise. c.in-Ok.ensures.stays (so_far.stays begun) premise;
+      turns = turns_both g.B.Book _ _ _ so_far.turns c.in-Ok.ensures.steps.turns;
+      stays = λ begun premise. c.in-Ok.ensures.steps.stays (so_far.stays begun) premise;
       taken = λ opened input before begun.
           rw (← one_more input bytes i c.loop-byte-test.true) (c.in-Ok.ensures.taken opened (input ++ take i bytes) before (so_far.taken opened input before begun));
     }
@@ -46,5 +46,9 @@ returns-in-Err-clause-taken g c opened input before so_far =
       told = λ premise. at.2 (c.loop-byte.invariant.stays premise.0, premise.1);
     }
 
-pub returns-in-Err-clause-stays : goal.returns-in-Err-clause-stays
-returns-in-Err-clause-stays g c begun premise = c.in-Err.ensures.stays (c.loop-byte.invariant.stays begun) premise
+pub returns-in-Err-clause-steps : goal.returns-in-Err-clause-steps
+returns-in-Err-clause-steps g c = record {
+  turns = turns_both g.B.Book _ _ _ c.loop-byte.invariant.turns c.in-Err.ensures.steps.turns;
+  stays = λ begun premise. c.in-Err.ensures.steps.stays (c.loop-byte.invariant.stays begun) premise;
+  cause = c.in-Err.ensures.steps.cause;
+}

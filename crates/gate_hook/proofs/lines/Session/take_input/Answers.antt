@@ -1,7 +1,7 @@
 use Rattle.std.proofs.Common.{◌≡◌, ◌+◌, ◌-◌, ◌≤◌, ◌++◌, length, take, arith}
 use Rattle.std.proofs.KnownBytes.{Consumes-trans}
 use Rattle.std.proofs.lemmas.List.{length-append, length-take}
-use Rattle.gate_hook.proofs.Ending.{within_served, within_told, stops_within, too_much}
+use Rattle.gate_hook.proofs.Ending.{may_end, within_served, within_told, stops_within, too_much}
 use Rattle.gate_hook.proofs.Splitting.{length-ended_lines}
 use Rattle.gate_hook.proofs.Sessions.{turns_both}
 use Rattle.gate_hook.proofs.lines.Session.take_input.Goals as goal
@@ -44,10 +44,19 @@ returns-in-Err-clause-served g c =
     omega (arith, length-append so_far.0 chunk, so_far.3, length-take c.in_ok-n.n buffer, c.in_ok-n.ensures.0, c.room_for.ensures.left) in (
       so_far.0 ++ chunk,
       Consumes-trans _ _ _ so_far.0 chunk so_far.1 c.in_ok-n.ensures.1,
-      stops_within g.B.Book.may_answer c.in-Err.fault (so_far.0 ++ chunk) within c.in-Err.ensures.cause,
+      stops_within g.B.Book.may_answer c.in-Err.fault (so_far.0 ++ chunk) within c.in-Err.ensures.steps.cause,
       within_served _ _ c.in-Err.fault opened so_far.0 chunk (g.R.Read.remaining c.read_part.new.reader) _ _ _ stopped,
       λ begun honest. within_told _ _ c.in-Err.fault opened so_far.0 chunk (g.R.Read.remaining c.read_part.new.reader) _ _ _ stopped (c.chunks.invariant.stays begun, honest),
     )
+
+pub returns-in-Err-clause-steps : goal.returns-in-Err-clause-steps
+returns-in-Err-clause-steps g c =
+    let steps = c.in-Err.ensures.steps in
+    record {
+      turns = turns_both g.B.Book _ _ _ c.chunks.invariant.turns steps.turns;
+      stays = λ begun premise. steps.stays (c.chunks.invariant.stays begun) premise;
+      cause = may_end g.B.Book.may_answer c.in-Err.fault steps.cause;
+    }
 
 pub chunks-preserved : goal.chunks-preserved
 chunks-preserved g c =
@@ -58,8 +67,8 @@ chunks-preserved g c =
     let size : length (so_far.0 ++ chunk) + (c.chunks.left - c.in_ok-n.n) ≡ 4294967296 =
     omega (arith, so_far.3, length-append so_far.0 chunk, length-take c.in_ok-n.n buffer, c.read_part.auto.buffer, c.in_ok-n.ensures.0, c.if-left-eq0.false, room.within, room.left) in
     record {
-      turns = turns_both g.B.Book _ _ _ c.chunks.invariant.turns c.in-Ok.ensures.turns;
-      stays = λ begun premise. c.in-Ok.ensures.stays (c.chunks.invariant.stays begun) premise;
+      turns = turns_both g.B.Book _ _ _ c.chunks.invariant.turns c.in-Ok.ensures.steps.turns;
+      stays = λ begun premise. c.in-Ok.ensures.steps.stays (c.chunks.invariant.stays begun) premise;
       taken = (
         so_far.0 ++ chunk,
         Consumes-trans _ _ _ so_far.0 chunk so_far.1 c.in_ok-n.ensures.1,
