@@ -24,24 +24,30 @@ Understands sql s = IsPlain (understood s.now.schema sql)
 
 -- IN A TRANSACTION
 module _ {S : Type 0} (g : Ghosts S) (old new : Transaction S) where
+  abbrev pub before : State
+  before = state g old.conn.now
+
+  abbrev pub after : State
+  after = state g new.conn.now
+
   -- A call that commits nothing. If the disk has returned what was written, it did this.
   pub record Does (done : State → State → Type 0) : Type 0 where
     pub same_reference : new.conn.ghost_name ≡ old.conn.ghost_name
-    pub did : HasCleanDisk (state g new.conn.now) → done (state g old.conn.now) (state g new.conn.now)
-    pub goes_on : GoesOn (state g old.conn.now) (state g new.conn.now)
+    pub did : HasCleanDisk after → done before after
+    pub goes_on : GoesOn before after
 
   -- a query of this text, which commits nothing if that is understood
   pub record Queries {E : Type 0} (result : Result (Vec Row Global) E) (sql : List ℕ) : Type 0 where
     pub same_reference : new.conn.ghost_name ≡ old.conn.ghost_name
-    pub shown : HasCleanDisk (state g new.conn.now) → IfOk result (λ rows. Shown sql [] (state g old.conn.now) (state g new.conn.now) rows.items)
-    pub still : HasCleanDisk (state g new.conn.now) → Understands sql (state g old.conn.now) → OnOk result (IsUnchanged (state g old.conn.now) (state g new.conn.now))
-    pub asks : Asks (Understands sql (state g old.conn.now)) (state g old.conn.now) (state g new.conn.now)
+    pub shown : HasCleanDisk after → IfOk result (λ rows. Shown sql [] before after rows.items)
+    pub still : HasCleanDisk after → Understands sql before → OnOk result (IsUnchanged before after)
+    pub asks : Asks (Understands sql before) before after
 
   -- a question of all tables, which finds what they hold
   pub record Finds {T E : Type 0} (result : Result T E) (holds : Trees → T → Type 0) : Type 0 where
     pub same_reference : new.conn.ghost_name ≡ old.conn.ghost_name
-    pub found : HasCleanDisk (state g new.conn.now) → (state g old.conn.now).now.schema ≡ all_schema → IfOk result (Tells holds (state g old.conn.now) (state g new.conn.now))
-    pub asks : Asks ((state g old.conn.now).now.schema ≡ all_schema) (state g old.conn.now) (state g new.conn.now)
+    pub found : HasCleanDisk after → before.now.schema ≡ all_schema → IfOk result (Tells holds before after)
+    pub asks : Asks (before.now.schema ≡ all_schema) before after
 
 -- the table `wanted` was made, whether the others had rows or none
 pub record MakesWanted (old new : State) : Type 0 where

@@ -45,7 +45,7 @@ impl<S: Alter> FoundTables<S> {
         ensures contents { IfOk result (λ found. AreContents S.Store found.0 found.1) }
         ensures found { IfOk result (λ found. HoldsTheSame S.Store connection found.0) }
         ensures outlasts { IfOk result (λ found. Outlasts S.Store connection found.0) }
-        ensures back { IfErr result (λ refused. HandsBack S.Store connection refused.connection) }
+        ensures hands_back { IfErr result (λ refused. HandsBack S.Store connection refused.connection) }
     {
         // That no transaction is open says that the database is as it was committed.
         if !connection.is_autocommit() {
@@ -66,8 +66,8 @@ impl<S: Alter> FoundTables<S> {
     pub fn take(self, changes: &[RowChange]) -> Result<Tables<S>, NotMade<S>>
         ensures rows { IfOk result (λ tables. HasRows S.Store tables (applied changes.now (stored_in S.Store self))) }
         ensures answers { IfOk result (λ tables. HasAnswers S.Store tables (answers_in S.Store self)) }
-        ensures takes { IfOk result (λ tables. TakesOver S.Store self tables) }
-        ensures back { IfErr result (λ refused. HandsBack S.Store self refused.connection) }
+        ensures takes_over { IfOk result (λ tables. TakesOver S.Store self tables) }
+        ensures hands_back { IfErr result (λ refused. HandsBack S.Store self refused.connection) }
     {
         let FoundTables { mut connection } = self;
         match take_over(&mut connection, changes) {

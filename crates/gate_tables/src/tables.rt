@@ -55,8 +55,8 @@ impl<S: Alter> Tables<S> {
         requires blank { (state S.Store connection).now.schema ≡ schema_of [] }
         ensures rows { IfOk result (λ tables. HasRows S.Store tables (applied first.now no_rows)) }
         ensures answers { IfOk result (λ tables. HasAnswers S.Store tables empty) }
-        ensures takes { IfOk result (λ tables. TakesOver S.Store connection tables) }
-        ensures back { IfErr result (λ refused. HandsBack S.Store connection refused.connection) }
+        ensures takes_over { IfOk result (λ tables. TakesOver S.Store connection tables) }
+        ensures hands_back { IfErr result (λ refused. HandsBack S.Store connection refused.connection) }
     {
         // That no transaction is open says that the database is as it was committed.
         if !connection.is_autocommit() {
@@ -102,7 +102,7 @@ impl<S: Alter> Tables<S> {
     /// other kinds or no rowid of its own, and `Memory` if there is no memory for it.
     pub fn read(&mut self, alloc: Global) -> Result<Rows, TablesFault>
         ensures rows { is_sound S.Store self.new → IfOk result (AreSame (rows_in S.Store self.old)) }
-        ensures changes { ChangesNothing S.Store self.old self.new result }
+        ensures changes_nothing { ChangesNothing S.Store self.old self.new result }
     {
         read(alloc, &mut self.connection)
     }
@@ -112,7 +112,7 @@ impl<S: Alter> Tables<S> {
     pub fn answer(&mut self, id: &str) -> Result<Option<Text>, TablesFault>
         ensures answer { is_sound S.Store self.new
             → IfOk result (λ answer. answer ≡ get (answers_in S.Store self.old) id.now) }
-        ensures changes { ChangesNothing S.Store self.old self.new result }
+        ensures changes_nothing { ChangesNothing S.Store self.old self.new result }
     {
         find_answer(&mut self.connection, id)
     }
@@ -126,7 +126,7 @@ impl<S: Alter> Tables<S> {
             → OnOk result (AreSame (rows_in S.Store self.new) (applied changes.now (rows_in S.Store self.old))) }
         ensures answers { is_sound S.Store self.new
             → OnOk result (answers_in S.Store self.new ≡ insert (answers_in S.Store self.old) id.now body.now) }
-        ensures changes { AllOrNothing S.Store self.old self.new result }
+        ensures all_or_nothing { AllOrNothing S.Store self.old self.new result }
     {
         apply_all(&mut self.connection, changes, id, body)
     }
