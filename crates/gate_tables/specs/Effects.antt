@@ -1,24 +1,26 @@
 -- What statements in a transaction make of the tables. For private clauses.
-use Rattle.std.specs.Prelude.{◌≡◌, ◌≢◌, ℕ, true, List, [], ◌∷◌, Ok, IsTrue, IsPermutation}
+use Rattle.std.specs.Prelude.{◌≡◌, ◌≢◌, ℕ, true, List, [], ◌∷◌, length, Ok, IsTrue, IsPermutation}
 use Rattle.std.specs.List.{AllByRecursion}
 use Rattle.gate_tables.specs.Applied.{put, without, applied, no_rows}
-use Rattle.gate_tables.specs.Database.{Layout, all_schema, cells}
+use Rattle.gate_tables.specs.Database.{Layout, all_schema, cells, schema_of}
 use Rattle.gate_tables.specs.Contents.{AreSame, rows_at}
 use Rattle.gate_tables.specs.Database as database
 use Rattle.gate_tables.specs.Forms as forms
 use Rattle.gate_tables.specs.Kept.{AreKept, HaveOwn}
 use Rattle.gate_tables.specs.Forms.{Form, rows_of}
+use Rattle.gate_tables.specs.Keys.{IsGivenAt, is_front}
+use Rattle.gate_tables.specs.Texts.{key_width}
 use Rattle.gate_tables.specs.declared.change.RowChange.{RowChange}
 use Rattle.gate_tables.specs.declared.look.Contents.{Contents}
 use Rattle.gate_tables.specs.declared.read.First.{First}
 use Rattle.gate_tables.specs.declared.read.Last.{Last}
 use Rattle.gate_tables.specs.declared.row.Rows.{Rows}
 use Rattle.gate_tables.specs.declared.version.Version.{Version}
-use Rattle.gate_tables.specs.Schemas.{HasTables, missing_tables, schema_of_version, stored_rows}
+use Rattle.gate_tables.specs.Schemas.{HasTables, missing_tables, schema_of_version, stored_rows, version_of}
 use Rattle.sqlite.specs.Effect.{Database, IsDatabase}
 use Rattle.sqlite.specs.Order.{Row}
 use Rattle.sqlite.specs.Schema.{Schema}
-use Rattle.sqlite.specs.State.{State, Executes, HasCleanDisk, IsUnchanged, KeepsCommit, Shows}
+use Rattle.sqlite.specs.State.{State, Executes, HasCleanDisk, IsLive, IsUnchanged, KeepsCommit, Shows}
 use Rattle.sqlite.specs.Tree.{Trees}
 
 -- A call leaves a connection open only if it was, and forgets no fault.
@@ -87,6 +89,15 @@ pub record Completes (version : Version) (old new : State) : Type 0 where
   pub others : AllByRecursion (λ t. new.now.trees t.tree ≡ old.now.trees t.tree) (schema_of_version version).tables
   pub none : AllByRecursion (λ t. new.now.trees t.tree ≡ []) (missing_tables version)
 
+-- all tables are there, and in an open database they were completed so
+pub record HasAllAfter (version : Version) (old new : State) : Type 0 where
+  pub schema : new.now.schema ≡ all_schema
+  pub whole : IsTrue new.is_open → Completes version old new
+
+-- a database that has no table, index or view
+abbrev pub IsBlank : State → Type 0
+IsBlank s = s.now.schema ≡ schema_of []
+
 -- a database of all tables, with nothing under way
 pub record IsReady (s : State) : Type 0 where
   pub schema_is : s.now.schema ≡ all_schema
@@ -117,6 +128,10 @@ module _ {R : Type 0} (form : Form R) where
   pub record Drops (key : Row) (old new : Trees) : Type 0 where
     pub rows : without form key (rows_of form old) ≡ rows_of form new
     pub others : Spares form.layout.tree old new
+
+  -- so it is, if the key is one of this table
+  abbrev pub DropsOne : Row → State → State → Type 0
+  DropsOne key old new = IsGivenAt 0 key key → is_front form.layout.columns key ≡ true → length key ≡ key_width form.layout → IsInside all_schema old → IsInside all_schema new × Drops key old.now.trees new.now.trees
 
 -- row changes were applied, and the answers are as they were
 pub record Changes (changes : List RowChange) (old new : Trees) : Type 0 where
@@ -178,6 +193,16 @@ pub record MayBeTaken (s : State) : Type 0 where
 pub record Brings (changes : List RowChange) (old new : Database) : Type 0 where
   pub rows_are : AreSame (rows_at new.trees) (applied changes (stored_rows old))
   pub answers : new.trees database.answers.tree ≡ old.trees database.answers.tree
+
+-- so it was in a transaction over the tables of a version
+abbrev pub BringsInside : Version → List RowChange → State → State → Type 0
+BringsInside version changes old new = IsTrue new.is_open → IsBegun version old → AreKept old.now.schema old.now.trees → IsInside all_schema new × Brings changes old.now new.now
+
+-- a live database of this version that may be taken
+pub record MayBeBrought (version : Version) (s : State) : Type 0 where
+  pub version_is : version ≡ version_of s.now.schema
+  pub live : IsLive s
+  pub found : MayBeTaken s
 
 -- it was brought to the last version, and row changes were applied
 pub record Taken (changes : List RowChange) (old new : State) : Type 0 where

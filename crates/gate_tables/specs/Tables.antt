@@ -1,14 +1,16 @@
 -- WHAT TABLES SHOW: their rows and answers. The premise is that the disk has returned what was written and that no fault has
 -- shut the connection; of a database in memory it always holds.
-use Rattle.std.specs.Prelude.{◌≡◌, ℕ, false, List, [], ◌∷◌, map, Option, Some, None, IsTrue, refl}
+use Rattle.std.specs.Prelude.{◌≡◌, ℕ, false, List, [], ◌∷◌, map, Option, Some, None, Result, OnOk, OnErr, IsPermutation, IsTrue, refl}
 use Rattle.std.specs.Cmp.Lexicographic.{slice_cmp}
 use Rattle.std.specs.FinMap.{FinMap}
 use Rattle.std.specs.List.{AllByRecursion, IsDistinct}
 use Rattle.std.specs.Ordering.{nat_cmp, eq_by_cmp}
-use Rattle.gate_tables.specs.Contents.{rows_at, answers_at}
+use Rattle.gate_tables.specs.Contents.{AreSame, rows_at, answers_at}
 use Rattle.gate_tables.specs.Database.{cells}
 use Rattle.gate_tables.specs.Effects.{MayBeTaken, IsReady}
 use Rattle.gate_tables.specs.Forms.{answers, rows_of}
+use Rattle.gate_tables.specs.Schemas.{stored_rows}
+use Rattle.gate_tables.specs.declared.look.Contents.{Contents}
 use Rattle.gate_tables.specs.declared.row.Rows.{Rows}
 use Rattle.sqlite.proofs.Callers.{memory_is_clean}
 use Rattle.sqlite.specs.Held.{Held, state}
@@ -47,12 +49,49 @@ module _ {S : Type 0} (g : Ghosts S) where
   abbrev pub ShowsTheSame : Held S → Held S → Type 0
   ShowsTheSame old new = (rows_in new ≡ rows_in old) × (answers_in new ≡ answers_in old)
 
-  -- A connection that is handed back, if it is sound: it was sound, and its database is as it was.
-  abbrev pub WasSound : Held S → Held S → Type 0
-  WasSound old back = is_sound back → is_sound old
+  -- the rows of a database of any version
+  abbrev pub stored_in : Held S → Rows
+  stored_in h = stored_rows (state g h).now
 
-  abbrev pub HandsBack : Held S → Held S → Type 0
-  HandsBack old back = is_sound back → (state g back).now ≡ (state g old).now
+  -- if it is sound, what was read is all that it holds
+  pub record AreContents (h : Held S) (contents : Contents) : Type 0 where
+    pub rows : is_sound h → AreSame (stored_in h) contents.rows
+    pub answers : is_sound h → IsPermutation (rows_of answers (state g h).now.trees) contents.answers
+
+  -- if it is sound, its database is as it was
+  abbrev pub HoldsTheSame : Held S → Held S → Type 0
+  HoldsTheSame old new = is_sound new → (state g new).now ≡ (state g old).now
+
+  -- if it is sound, it has these rows, in any order, and these answers
+  abbrev pub HasRows : Held S → Rows → Type 0
+  HasRows h rows = is_sound h → AreSame (rows_in h) rows
+
+  abbrev pub HasAnswers : Held S → FinMap (slice_cmp nat_cmp) (List ℕ) → Type 0
+  HasAnswers h answers = is_sound h → answers_in h ≡ answers
+
+  -- A connection that is handed back. No transaction is open. If it is sound, it was sound, and its database is as it was.
+  pub record HandsBack (old back : Held S) : Type 0 where
+    pub same : HoldsTheSame old back
+    pub mode : back.in_transaction ≡ false
+    pub was_refused : is_sound back → is_sound old
+
+  -- a connection that was taken over: what is honest is sound
+  pub record TakesOver (old new : Held S) : Type 0 where
+    pub outlasts : Outlasts old new
+    pub stays : is_honest new → is_sound new
+
+  module _ {T E : Type 0} (old new : Held S) (result : Result T E) where
+    -- A call that changes nothing. If it succeeds, what is honest is sound.
+    pub record ChangesNothing : Type 0 where
+      pub same : is_sound new → ShowsTheSame old new
+      pub outlasts : Outlasts old new
+      pub stays : is_honest new → OnOk result (is_sound new)
+
+    -- A call that changes nothing if it is refused. If it succeeds, what is honest is sound.
+    pub record AllOrNothing : Type 0 where
+      pub same : is_sound new → OnErr result (ShowsTheSame old new)
+      pub outlasts : Outlasts old new
+      pub stays : is_honest new → OnOk result (is_sound new)
 
 -- each answer is of two texts, and no identifier comes twice
 pub record AreAnswers (db : Trees) : Type 0 where

@@ -1,12 +1,10 @@
 ghost use Rattle.std.specs.Prelude.{◌≡◌, false, map, IfOk};
 ghost use Rattle.std.specs.FinMap.{get};
-ghost use Rattle.gate_tables.specs.Calls.{AsksTables, Finds, IsOpenIfOk, LeavesIf, Moves};
-ghost use Rattle.gate_tables.specs.Contents.{answers_at};
-ghost use Rattle.gate_tables.specs.Effects.{Adds, GoesOn, IsReady, Lasts, Reads};
+ghost use Rattle.gate_tables.specs.Calls.{Asked, Does, Finds, Moves};
+ghost use Rattle.gate_tables.specs.Effects.{Adds, IsReady, Reads};
 ghost use Rattle.gate_tables.specs.Forms.{answers};
-ghost use Rattle.gate_tables.specs.Tables.{AreAnswers, answer_of};
+ghost use Rattle.gate_tables.specs.Tables.{IsBook, answer_of, answers_in, is_honest};
 ghost use Rattle.sqlite.specs.Held.{state};
-ghost use Rattle.sqlite.specs.State.{HasCleanDisk};
 
 use crate::fault::TablesFault;
 use crate::rowids::check_rowids;
@@ -21,9 +19,7 @@ pub(crate) fn put_answer<S: Alter>(
     id: &str,
     body: &str,
 ) -> Result<(), TablesFault>
-    ensures same_reference { tx.new.conn.ghost_name ≡ tx.old.conn.ghost_name }
-    ensures added { Moves S.Store tx.old.conn.now tx.new.conn.now result (Adds answers (id.now, body.now)) }
-    ensures goes_on { GoesOn (state S.Store tx.old.conn.now) (state S.Store tx.new.conn.now) }
+    ensures { Does S.Store tx.old tx.new (Moves result (Adds answers (id.now, body.now))) }
 {
     run(
         tx,
@@ -48,9 +44,7 @@ pub(crate) fn read_answers<S: Alter>(
     alloc: Global,
     tx: &mut Transaction<'_, S>,
 ) -> Result<List<(Text, Text)>, TablesFault>
-    ensures same_reference { tx.new.conn.ghost_name ≡ tx.old.conn.ghost_name }
-    ensures read { Finds S.Store tx.old.conn.now tx.new.conn.now result (Reads answers) }
-    ensures asks { AsksTables S.Store tx.old.conn.now tx.new.conn.now }
+    ensures { Finds S.Store tx.old tx.new result (Reads answers) }
 {
     let rows = select_inside(tx, "SELECT id, body, rowid FROM answers")?;
     check_rowids(rows.as_slice(), 2)?;
@@ -60,13 +54,9 @@ pub(crate) fn read_answers<S: Alter>(
 // The rows that the database has of an identifier.
 fn ask<S: Alter>(conn: &mut Connection<S>, id: &str) -> Result<Vec<Row>, TablesFault>
     requires mode { conn.old.in_transaction ≡ false }
-    ensures mode { conn.new.in_transaction ≡ false }
-    ensures found { HasCleanDisk (state S.Store conn.new) → IsReady (state S.Store conn.old)
-        → AreAnswers (state S.Store conn.old).now.trees
-        → IfOk result (λ rows. answer_of rows.items ≡ get (answers_at (state S.Store conn.old).now.trees) id.now) }
-    ensures left { LeavesIf S.Store conn.old conn.new (IsReady (state S.Store conn.old)) }
-    ensures lasts { Lasts (state S.Store conn.old) (state S.Store conn.new) }
-    ensures stays { IsOpenIfOk S.Store conn.new result }
+    ensures found { is_honest S.Store conn.new → IsBook (state S.Store conn.old)
+        → IfOk result (λ rows. answer_of rows.items ≡ get (answers_in S.Store conn.old) id.now) }
+    ensures asked { Asked S.Store conn.old conn.new result IsReady }
 {
     select(conn, "SELECT body FROM answers WHERE id = ?1", params![id])
 }
@@ -87,13 +77,9 @@ pub(crate) fn find_answer<S: Alter>(
     id: &str,
 ) -> Result<Option<Text>, TablesFault>
     requires mode { conn.old.in_transaction ≡ false }
-    ensures mode { conn.new.in_transaction ≡ false }
-    ensures found { HasCleanDisk (state S.Store conn.new) → IsReady (state S.Store conn.old)
-        → AreAnswers (state S.Store conn.old).now.trees
-        → IfOk result (λ answer. answer ≡ get (answers_at (state S.Store conn.old).now.trees) id.now) }
-    ensures left { LeavesIf S.Store conn.old conn.new (IsReady (state S.Store conn.old)) }
-    ensures lasts { Lasts (state S.Store conn.old) (state S.Store conn.new) }
-    ensures stays { IsOpenIfOk S.Store conn.new result }
+    ensures found { is_honest S.Store conn.new → IsBook (state S.Store conn.old)
+        → IfOk result (λ answer. answer ≡ get (answers_in S.Store conn.old) id.now) }
+    ensures asked { Asked S.Store conn.old conn.new result IsReady }
 {
     let rows = ask(conn, id)?;
     first_body(rows.as_slice())

@@ -1,8 +1,4 @@
-ghost use Rattle.std.specs.Prelude.{◌≡◌, IsTrue, OnOk};
-ghost use Rattle.gate_tables.specs.Database.{all_schema};
-ghost use Rattle.gate_tables.specs.Effects.{Completes, GoesOn, IsBegun};
-ghost use Rattle.sqlite.specs.Held.{state};
-ghost use Rattle.sqlite.specs.State.{HasCleanDisk};
+ghost use Rattle.gate_tables.specs.Calls.{CompletesTables, Does};
 
 use crate::create::create_wanted;
 use crate::fault::TablesFault;
@@ -14,14 +10,7 @@ pub(crate) fn complete<S: Alter>(
     tx: &mut Transaction<'_, S>,
     version: Version,
 ) -> Result<(), TablesFault>
-    ensures same_reference { tx.new.conn.ghost_name ≡ tx.old.conn.ghost_name }
-    ensures schema { HasCleanDisk (state S.Store tx.new.conn.now)
-        → OnOk result (IsBegun version (state S.Store tx.old.conn.now)
-        → (state S.Store tx.new.conn.now).now.schema ≡ all_schema) }
-    ensures whole { HasCleanDisk (state S.Store tx.new.conn.now)
-        → OnOk result (IsBegun version (state S.Store tx.old.conn.now) → IsTrue (state S.Store tx.new.conn.now).is_open
-        → Completes version (state S.Store tx.old.conn.now) (state S.Store tx.new.conn.now)) }
-    ensures goes_on { GoesOn (state S.Store tx.old.conn.now) (state S.Store tx.new.conn.now) }
+    ensures { Does S.Store tx.old tx.new (CompletesTables result version) }
 {
     match version {
         Version::Version1 => {

@@ -1,10 +1,5 @@
-ghost use Rattle.std.specs.Prelude.{◌≡◌, OnOk};
-ghost use Rattle.gate_tables.specs.Calls.{CreatesTables};
-ghost use Rattle.gate_tables.specs.Database.{wanted};
-ghost use Rattle.gate_tables.specs.Effects.{GoesOn, Grows};
-ghost use Rattle.gate_tables.specs.Schemas.{schema_of_version, table_count};
-ghost use Rattle.sqlite.specs.Held.{state};
-ghost use Rattle.sqlite.specs.State.{HasCleanDisk};
+ghost use Rattle.gate_tables.specs.Calls.{CreatesTables, CreatesWanted, Does};
+ghost use Rattle.gate_tables.specs.Schemas.{table_count};
 
 use crate::fault::TablesFault;
 use crate::statement::run;
@@ -12,9 +7,7 @@ use crate::version::Version;
 use sqlite::{Alter, Transaction};
 
 fn create_first<S: Alter>(tx: &mut Transaction<'_, S>) -> Result<(), TablesFault>
-    ensures same_reference { tx.new.conn.ghost_name ≡ tx.old.conn.ghost_name }
-    ensures made { CreatesTables S.Store tx.old.conn.now tx.new.conn.now result 0 4 }
-    ensures goes_on { GoesOn (state S.Store tx.old.conn.now) (state S.Store tx.new.conn.now) }
+    ensures { Does S.Store tx.old tx.new (CreatesTables result 0 4) }
 {
     run(
         tx,
@@ -39,9 +32,7 @@ fn create_first<S: Alter>(tx: &mut Transaction<'_, S>) -> Result<(), TablesFault
 }
 
 fn create_last<S: Alter>(tx: &mut Transaction<'_, S>) -> Result<(), TablesFault>
-    ensures same_reference { tx.new.conn.ghost_name ≡ tx.old.conn.ghost_name }
-    ensures made { CreatesTables S.Store tx.old.conn.now tx.new.conn.now result 4 8 }
-    ensures goes_on { GoesOn (state S.Store tx.old.conn.now) (state S.Store tx.new.conn.now) }
+    ensures { Does S.Store tx.old tx.new (CreatesTables result 4 8) }
 {
     run(
         tx,
@@ -67,9 +58,7 @@ fn create_last<S: Alter>(tx: &mut Transaction<'_, S>) -> Result<(), TablesFault>
 
 // Makes the eight tables of version 1, which have no rows, in a database that has none.
 fn create_version_1<S: Alter>(tx: &mut Transaction<'_, S>) -> Result<(), TablesFault>
-    ensures same_reference { tx.new.conn.ghost_name ≡ tx.old.conn.ghost_name }
-    ensures made { CreatesTables S.Store tx.old.conn.now tx.new.conn.now result 0 8 }
-    ensures goes_on { GoesOn (state S.Store tx.old.conn.now) (state S.Store tx.new.conn.now) }
+    ensures { Does S.Store tx.old tx.new (CreatesTables result 0 8) }
 {
     create_first(tx)?;
     create_last(tx)
@@ -77,13 +66,7 @@ fn create_version_1<S: Alter>(tx: &mut Transaction<'_, S>) -> Result<(), TablesF
 
 // Makes the table that version 2 has besides.
 pub(crate) fn create_wanted<S: Alter>(tx: &mut Transaction<'_, S>) -> Result<(), TablesFault>
-    ensures same_reference { tx.new.conn.ghost_name ≡ tx.old.conn.ghost_name }
-    ensures grown { HasCleanDisk (state S.Store tx.new.conn.now)
-        → OnOk result ((state S.Store tx.old.conn.now).now.schema ≡ schema_of_version Version.Version1
-        → Grows (schema_of_version Version.Version1) wanted (schema_of_version Version.Version2)
-        (state S.Store tx.old.conn.now) (state S.Store tx.new.conn.now)) }
-    ensures made { CreatesTables S.Store tx.old.conn.now tx.new.conn.now result 8 9 }
-    ensures goes_on { GoesOn (state S.Store tx.old.conn.now) (state S.Store tx.new.conn.now) }
+    ensures { Does S.Store tx.old tx.new (CreatesWanted result) }
 {
     run(
         tx,
@@ -97,9 +80,7 @@ pub(crate) fn create_version<S: Alter>(
     tx: &mut Transaction<'_, S>,
     version: Version,
 ) -> Result<(), TablesFault>
-    ensures same_reference { tx.new.conn.ghost_name ≡ tx.old.conn.ghost_name }
-    ensures made { CreatesTables S.Store tx.old.conn.now tx.new.conn.now result 0 (table_count version) }
-    ensures goes_on { GoesOn (state S.Store tx.old.conn.now) (state S.Store tx.new.conn.now) }
+    ensures { Does S.Store tx.old tx.new (CreatesTables result 0 (table_count version)) }
 {
     match version {
         Version::Version1 => create_version_1(tx),

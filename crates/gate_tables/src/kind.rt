@@ -1,8 +1,7 @@
 ghost use Rattle.std.specs.Prelude.{◌≡◌, length, map, IfOk};
-ghost use Rattle.gate_tables.specs.Calls.{AsksTables, Finds, Ran, RanCounting};
-ghost use Rattle.gate_tables.specs.Effects.{GoesOn, Reads};
+ghost use Rattle.gate_tables.specs.Calls.{Does, Finds, Ran, RanCounting};
+ghost use Rattle.gate_tables.specs.Effects.{Reads};
 ghost use Rattle.gate_tables.specs.Texts.{delete_text, update_text};
-ghost use Rattle.sqlite.specs.Held.{state};
 
 use crate::fault::TablesFault;
 use crate::rowids::check_rowids;
@@ -33,16 +32,11 @@ pub(crate) trait TableRow: Sized + Drop {
 
     // Changes the row that has the key of this one, and tells how many rows those were.
     fn update<S: Alter>(&self, tx: &mut Transaction<'_, S>) -> Result<usize, TablesFault>
-        ensures same_reference { tx.new.conn.ghost_name ≡ tx.old.conn.ghost_name }
-        ensures ran { RanCounting S.Store tx.old.conn.now tx.new.conn.now result (update_text form.layout)
-            (form.values self.now) }
-        ensures goes_on { GoesOn (state S.Store tx.old.conn.now) (state S.Store tx.new.conn.now) };
+        ensures { Does S.Store tx.old tx.new (RanCounting result (update_text form.layout) (form.values self.now)) };
 
     // Adds the row.
     fn put<S: Alter>(&self, tx: &mut Transaction<'_, S>) -> Result<(), TablesFault>
-        ensures same_reference { tx.new.conn.ghost_name ≡ tx.old.conn.ghost_name }
-        ensures ran { Ran S.Store tx.old.conn.now tx.new.conn.now result form.insert (form.values self.now) }
-        ensures goes_on { GoesOn (state S.Store tx.old.conn.now) (state S.Store tx.new.conn.now) };
+        ensures { Does S.Store tx.old tx.new (Ran result form.insert (form.values self.now)) };
 
     // What a row of the answer says.
     fn read(row: &Row) -> Result<Self, TablesFault>
@@ -67,9 +61,7 @@ pub(crate) fn all<S: Alter, R: TableRow>(
     alloc: Global,
     tx: &mut Transaction<'_, S>,
 ) -> Result<List<R>, TablesFault>
-    ensures same_reference { tx.new.conn.ghost_name ≡ tx.old.conn.ghost_name }
-    ensures rows { Finds S.Store tx.old.conn.now tx.new.conn.now result (Reads R.form) }
-    ensures asks { AsksTables S.Store tx.old.conn.now tx.new.conn.now }
+    ensures { Finds S.Store tx.old tx.new result (Reads R.form) }
 {
     let rows = select_inside(tx, R::select_text())?;
     check_rowids(rows.as_slice(), R::rowid_at())?;

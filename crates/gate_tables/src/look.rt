@@ -1,10 +1,10 @@
-ghost use Rattle.std.specs.Prelude.{◌≡◌, false, IsTrue, IfOk};
-ghost use Rattle.gate_tables.specs.Calls.{AsksTables, Finds, IsOpenIfOk, LeavesIf};
-ghost use Rattle.gate_tables.specs.Contents.{AreSame, rows_at};
-ghost use Rattle.gate_tables.specs.Effects.{IsReady, Lasts, ReadsContents, ShowsAll};
+ghost use Rattle.std.specs.Prelude.{◌≡◌, false, IfOk};
+ghost use Rattle.gate_tables.specs.Calls.{Asked, Finds, Looks};
+ghost use Rattle.gate_tables.specs.Contents.{AreSame};
+ghost use Rattle.gate_tables.specs.Effects.{IsReady, ReadsContents, ShowsAll};
 ghost use Rattle.gate_tables.specs.Schemas.{HasTables};
+ghost use Rattle.gate_tables.specs.Tables.{is_honest, is_sound, rows_in};
 ghost use Rattle.sqlite.specs.Held.{state};
-ghost use Rattle.sqlite.specs.State.{HasCleanDisk};
 
 use crate::answers::read_answers;
 use crate::complete::complete;
@@ -28,12 +28,9 @@ pub struct Contents {
 // The rows of all tables but `answers`. It changes nothing.
 pub(crate) fn read<S: Alter>(alloc: Global, conn: &mut Connection<S>) -> Result<Rows, TablesFault>
     requires mode { conn.old.in_transaction ≡ false }
-    ensures mode { conn.new.in_transaction ≡ false }
-    ensures rows { HasCleanDisk (state S.Store conn.new) → IsTrue (state S.Store conn.new).is_open
-        → IsReady (state S.Store conn.old) → IfOk result (AreSame (rows_at (state S.Store conn.old).now.trees)) }
-    ensures left { LeavesIf S.Store conn.old conn.new (IsReady (state S.Store conn.old)) }
-    ensures lasts { Lasts (state S.Store conn.old) (state S.Store conn.new) }
-    ensures stays { IsOpenIfOk S.Store conn.new result }
+    ensures rows { is_sound S.Store conn.new → IsReady (state S.Store conn.old)
+        → IfOk result (AreSame (rows_in S.Store conn.old)) }
+    ensures asked { Asked S.Store conn.old conn.new result IsReady }
 {
     let mut tx = conn.transaction();
     let rows = read_rows(alloc, &mut tx)?;
@@ -47,9 +44,7 @@ fn read_contents<S: Alter>(
     alloc: Global,
     tx: &mut Transaction<'_, S>,
 ) -> Result<Contents, TablesFault>
-    ensures same_reference { tx.new.conn.ghost_name ≡ tx.old.conn.ghost_name }
-    ensures read { Finds S.Store tx.old.conn.now tx.new.conn.now result ReadsContents }
-    ensures asks { AsksTables S.Store tx.old.conn.now tx.new.conn.now }
+    ensures { Finds S.Store tx.old tx.new result ReadsContents }
 {
     let rows = read_rows(alloc, tx)?;
     let answers = read_answers(alloc, tx)?;
@@ -63,11 +58,9 @@ pub(crate) fn look<S: Alter>(
     conn: &mut Connection<S>,
 ) -> Result<Contents, TablesFault>
     requires mode { conn.old.in_transaction ≡ false }
-    ensures mode { conn.new.in_transaction ≡ false }
-    ensures shown { HasCleanDisk (state S.Store conn.new) → HasTables (state S.Store conn.old).now
+    ensures shown { is_honest S.Store conn.new → HasTables (state S.Store conn.old).now
         → IfOk result (ShowsAll (state S.Store conn.old).now) }
-    ensures left { LeavesIf S.Store conn.old conn.new (HasTables (state S.Store conn.old).now) }
-    ensures lasts { Lasts (state S.Store conn.old) (state S.Store conn.new) }
+    ensures looks { Looks S.Store conn.old conn.new (λ found. HasTables found.now) }
 {
     let version = Version::of(conn.schema());
     let mut tx = conn.transaction();

@@ -1,11 +1,7 @@
-ghost use Rattle.std.specs.Prelude.{◌≡◌, ◌↔◌, [], false, IsTrue, OnOk, OnErr};
-ghost use Rattle.gate_tables.specs.Calls.{IsOpenIfOk};
-ghost use Rattle.gate_tables.specs.Database.{all_schema, schema_of};
-ghost use Rattle.gate_tables.specs.Effects.{Brings, GoesOn, IsBegun, IsInside, Lasts, Leaves, Made, MayBeTaken, Taken};
-ghost use Rattle.gate_tables.specs.Kept.{AreKept};
-ghost use Rattle.gate_tables.specs.Schemas.{version_of};
-ghost use Rattle.sqlite.specs.Held.{state};
-ghost use Rattle.sqlite.specs.State.{HasCleanDisk, IsLive};
+ghost use Rattle.std.specs.Prelude.{◌≡◌, ◌↔◌, [], false, IsTrue};
+ghost use Rattle.gate_tables.specs.Calls.{BringsTo, Commits, Does};
+ghost use Rattle.gate_tables.specs.Database.{schema_of};
+ghost use Rattle.gate_tables.specs.Effects.{IsBlank, Made, MayBeBrought, MayBeTaken, Taken};
 
 use crate::apply::change_all;
 use crate::change::RowChange;
@@ -31,13 +27,7 @@ pub(crate) fn make<S: Alter>(
     first: &[RowChange],
 ) -> Result<(), TablesFault>
     requires mode { conn.old.in_transaction ≡ false }
-    requires blank { (state S.Store conn.old).now.schema ≡ schema_of [] }
-    ensures mode { conn.new.in_transaction ≡ false }
-    ensures made { HasCleanDisk (state S.Store conn.new) → OnOk result (Made first.now (state S.Store conn.new)) }
-    ensures left { HasCleanDisk (state S.Store conn.new)
-        → OnErr result (Leaves (state S.Store conn.old) (state S.Store conn.new)) }
-    ensures lasts { Lasts (state S.Store conn.old) (state S.Store conn.new) }
-    ensures stays { IsOpenIfOk S.Store conn.new result }
+    ensures { Commits S.Store conn.old conn.new result IsBlank (λ _. Made first.now) }
 {
     let mut tx = conn.transaction();
     create_version(&mut tx, Version::Version2)?;
@@ -51,13 +41,7 @@ fn bring<S: Alter>(
     version: Version,
     changes: &[RowChange],
 ) -> Result<(), TablesFault>
-    ensures same_reference { tx.new.conn.ghost_name ≡ tx.old.conn.ghost_name }
-    ensures brought { HasCleanDisk (state S.Store tx.new.conn.now)
-        → OnOk result (IsTrue (state S.Store tx.new.conn.now).is_open → IsBegun version (state S.Store tx.old.conn.now)
-        → AreKept (state S.Store tx.old.conn.now).now.schema (state S.Store tx.old.conn.now).now.trees
-        → IsInside all_schema (state S.Store tx.new.conn.now)
-        × Brings changes.now (state S.Store tx.old.conn.now).now (state S.Store tx.new.conn.now).now) }
-    ensures goes_on { GoesOn (state S.Store tx.old.conn.now) (state S.Store tx.new.conn.now) }
+    ensures { Does S.Store tx.old tx.new (BringsTo result version changes.now) }
 {
     complete(tx, version)?;
     change_all(tx, changes)
@@ -70,17 +54,7 @@ fn bring_all<S: Alter>(
     changes: &[RowChange],
 ) -> Result<(), TablesFault>
     requires mode { conn.old.in_transaction ≡ false }
-    ensures mode { conn.new.in_transaction ≡ false }
-    ensures taken { HasCleanDisk (state S.Store conn.new)
-        → OnOk result (version ≡ version_of (state S.Store conn.old).now.schema → IsLive (state S.Store conn.old)
-        → MayBeTaken (state S.Store conn.old)
-        → Taken changes.now (state S.Store conn.old) (state S.Store conn.new)) }
-    ensures left { HasCleanDisk (state S.Store conn.new)
-        → version ≡ version_of (state S.Store conn.old).now.schema → IsLive (state S.Store conn.old)
-        → MayBeTaken (state S.Store conn.old)
-        → OnErr result (Leaves (state S.Store conn.old) (state S.Store conn.new)) }
-    ensures lasts { Lasts (state S.Store conn.old) (state S.Store conn.new) }
-    ensures stays { IsOpenIfOk S.Store conn.new result }
+    ensures { Commits S.Store conn.old conn.new result (MayBeBrought version) (Taken changes.now) }
 {
     let mut tx = conn.transaction();
     bring(&mut tx, version, changes)?;
@@ -93,13 +67,7 @@ pub(crate) fn take_over<S: Alter>(
     changes: &[RowChange],
 ) -> Result<(), TablesFault>
     requires mode { conn.old.in_transaction ≡ false }
-    ensures mode { conn.new.in_transaction ≡ false }
-    ensures taken { HasCleanDisk (state S.Store conn.new) → OnOk result (MayBeTaken (state S.Store conn.old)
-        → Taken changes.now (state S.Store conn.old) (state S.Store conn.new)) }
-    ensures left { HasCleanDisk (state S.Store conn.new) → MayBeTaken (state S.Store conn.old)
-        → OnErr result (Leaves (state S.Store conn.old) (state S.Store conn.new)) }
-    ensures lasts { Lasts (state S.Store conn.old) (state S.Store conn.new) }
-    ensures stays { IsOpenIfOk S.Store conn.new result }
+    ensures { Commits S.Store conn.old conn.new result MayBeTaken (Taken changes.now) }
 {
     let version = Version::of(conn.schema());
     bring_all(conn, version, changes)

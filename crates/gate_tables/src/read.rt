@@ -1,5 +1,4 @@
-ghost use Rattle.std.specs.Prelude.{◌≡◌};
-ghost use Rattle.gate_tables.specs.Calls.{AsksTables, Finds};
+ghost use Rattle.gate_tables.specs.Calls.{Finds};
 ghost use Rattle.gate_tables.specs.Effects.{ReadsFirst, ReadsLast, ReadsRows};
 
 use crate::fault::TablesFault;
@@ -30,9 +29,7 @@ struct Last {
 }
 
 fn read_first<S: Alter>(alloc: Global, tx: &mut Transaction<'_, S>) -> Result<First, TablesFault>
-    ensures same_reference { tx.new.conn.ghost_name ≡ tx.old.conn.ghost_name }
-    ensures rows { Finds S.Store tx.old.conn.now tx.new.conn.now result ReadsFirst }
-    ensures asks { AsksTables S.Store tx.old.conn.now tx.new.conn.now }
+    ensures { Finds S.Store tx.old tx.new result ReadsFirst }
 {
     let desk = all(alloc, tx)?;
     let people = all(alloc, tx)?;
@@ -47,9 +44,7 @@ fn read_first<S: Alter>(alloc: Global, tx: &mut Transaction<'_, S>) -> Result<Fi
 }
 
 fn read_last<S: Alter>(alloc: Global, tx: &mut Transaction<'_, S>) -> Result<Last, TablesFault>
-    ensures same_reference { tx.new.conn.ghost_name ≡ tx.old.conn.ghost_name }
-    ensures rows { Finds S.Store tx.old.conn.now tx.new.conn.now result ReadsLast }
-    ensures asks { AsksTables S.Store tx.old.conn.now tx.new.conn.now }
+    ensures { Finds S.Store tx.old tx.new result ReadsLast }
 {
     let batches = all(alloc, tx)?;
     let members = all(alloc, tx)?;
@@ -68,9 +63,7 @@ pub(crate) fn read_rows<S: Alter>(
     alloc: Global,
     tx: &mut Transaction<'_, S>,
 ) -> Result<Rows, TablesFault>
-    ensures same_reference { tx.new.conn.ghost_name ≡ tx.old.conn.ghost_name }
-    ensures rows { Finds S.Store tx.old.conn.now tx.new.conn.now result ReadsRows }
-    ensures asks { AsksTables S.Store tx.old.conn.now tx.new.conn.now }
+    ensures { Finds S.Store tx.old tx.new result ReadsRows }
 {
     let First {
         desk,

@@ -1,9 +1,9 @@
-ghost use Rattle.std.specs.Prelude.{◌≡◌, [], None, false, IfOk, IfErr, OnOk, OnErr};
+ghost use Rattle.std.specs.Prelude.{◌≡◌, [], None, false, IfOk, IfErr, OnOk};
 ghost use Rattle.std.specs.FinMap.{empty, get, insert};
 ghost use Rattle.gate_tables.specs.Applied.{applied, no_rows};
 ghost use Rattle.gate_tables.specs.Contents.{AreSame};
 ghost use Rattle.gate_tables.specs.Database.{schema_of};
-ghost use Rattle.gate_tables.specs.Tables.{HandsBack, ShowsTheSame, WasSound, Outlasts, is_honest, is_sound, rows_in, answers_in, IsBook, Stands};
+ghost use Rattle.gate_tables.specs.Tables.{AllOrNothing, ChangesNothing, HandsBack, HasAnswers, HasRows, TakesOver, is_sound, rows_in, answers_in, IsBook, Stands};
 ghost use Rattle.sqlite.specs.Held.{state};
 
 use crate::answers::find_answer;
@@ -53,14 +53,10 @@ impl<S: Alter> Tables<S> {
     pub fn new(mut connection: Connection<S>, first: &[RowChange]) -> Result<Tables<S>, NotMade<S>>
         requires mode { connection.in_transaction ≡ false }
         requires blank { (state S.Store connection).now.schema ≡ schema_of [] }
-        ensures rows { IfOk result (λ tables. is_sound S.Store tables
-            → AreSame (rows_in S.Store tables) (applied first.now no_rows)) }
-        ensures answers { IfOk result (λ tables. is_sound S.Store tables → answers_in S.Store tables ≡ empty) }
-        ensures same { IfErr result (λ refused. HandsBack S.Store connection refused.connection) }
-        ensures mode { IfErr result (λ refused. refused.connection.in_transaction ≡ false) }
-        ensures outlasts { IfOk result (λ tables. Outlasts S.Store connection tables) }
-        ensures stays { IfOk result (λ tables. is_honest S.Store tables → is_sound S.Store tables) }
-        ensures was_refused { IfErr result (λ refused. WasSound S.Store connection refused.connection) }
+        ensures rows { IfOk result (λ tables. HasRows S.Store tables (applied first.now no_rows)) }
+        ensures answers { IfOk result (λ tables. HasAnswers S.Store tables empty) }
+        ensures takes_over { IfOk result (λ tables. TakesOver S.Store connection tables) }
+        ensures hands_back { IfErr result (λ refused. HandsBack S.Store connection refused.connection) }
     {
         // That no transaction is open says that the database is as it was committed.
         if !connection.is_autocommit() {
@@ -106,9 +102,7 @@ impl<S: Alter> Tables<S> {
     /// other kinds or no rowid of its own, and `Memory` if there is no memory for it.
     pub fn read(&mut self, alloc: Global) -> Result<Rows, TablesFault>
         ensures rows { is_sound S.Store self.new → IfOk result (AreSame (rows_in S.Store self.old)) }
-        ensures same { is_sound S.Store self.new → ShowsTheSame S.Store self.old self.new }
-        ensures outlasts { Outlasts S.Store self.old self.new }
-        ensures stays { is_honest S.Store self.new → OnOk result (is_sound S.Store self.new) }
+        ensures changes_nothing { ChangesNothing S.Store self.old self.new result }
     {
         read(alloc, &mut self.connection)
     }
@@ -118,9 +112,7 @@ impl<S: Alter> Tables<S> {
     pub fn answer(&mut self, id: &str) -> Result<Option<Text>, TablesFault>
         ensures answer { is_sound S.Store self.new
             → IfOk result (λ answer. answer ≡ get (answers_in S.Store self.old) id.now) }
-        ensures same { is_sound S.Store self.new → ShowsTheSame S.Store self.old self.new }
-        ensures outlasts { Outlasts S.Store self.old self.new }
-        ensures stays { is_honest S.Store self.new → OnOk result (is_sound S.Store self.new) }
+        ensures changes_nothing { ChangesNothing S.Store self.old self.new result }
     {
         find_answer(&mut self.connection, id)
     }
@@ -134,9 +126,7 @@ impl<S: Alter> Tables<S> {
             → OnOk result (AreSame (rows_in S.Store self.new) (applied changes.now (rows_in S.Store self.old))) }
         ensures answers { is_sound S.Store self.new
             → OnOk result (answers_in S.Store self.new ≡ insert (answers_in S.Store self.old) id.now body.now) }
-        ensures same { is_sound S.Store self.new → OnErr result (ShowsTheSame S.Store self.old self.new) }
-        ensures outlasts { Outlasts S.Store self.old self.new }
-        ensures stays { is_honest S.Store self.new → OnOk result (is_sound S.Store self.new) }
+        ensures all_or_nothing { AllOrNothing S.Store self.old self.new result }
     {
         apply_all(&mut self.connection, changes, id, body)
     }

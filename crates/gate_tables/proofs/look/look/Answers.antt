@@ -18,9 +18,9 @@ returns-clause-shown g c clean has =
     let found : version ≡ version_of old.now.schema = search rules in
     let same = begun_same g.S.Store c.args.conn.now c.transaction-tx.result.conn.now c.transaction-tx.ensures.begun in
     let is_begun = has_begun g.S.Store c.args.conn.now c.transaction-tx.result.conn.now c.transaction-tx.ensures.begun version found has c.schema.ensures.live in
-    let all = c.in_ok-complete.ensures.schema mid_clean is_begun in
-    let told = c.in_ok-contents.ensures.read after_clean all in
-    let completes = c.in_ok-complete.ensures.whole mid_clean is_begun told.still.0.was_open in
+    let all = c.in_ok-complete.ensures.did mid_clean is_begun in
+    let told = c.in_ok-contents.ensures.found after_clean all.schema in
+    let completes = all.whole told.still.0.was_open in
     let was_open = (c.in_ok-complete.ensures.goes_on.kept mid_clean).was_open told.still.0.was_open in
     subst (λ (db : Database). ShowsAll db c.in_ok-contents.contents) same
     (shows begun.now.trees mid.now.trees c.in_ok-contents.contents told.holds begun.now.schema version

@@ -1,40 +1,17 @@
-use Rattle.gate_tables.proofs.Steps.{asks_then, tells_then}
+use Rattle.std.proofs.Common.{rules}
+use Rattle.gate_tables.proofs.Steps.{finds_both, finds_so, finds_then}
 use Rattle.gate_tables.proofs.read.read_first.Goals as goal
 
-pub returns-in_err-people-clause-asks : goal.returns-in_err-people-clause-asks
-returns-in_err-people-clause-asks g c = asks_then c.in_ok-desk.ensures.rows c.all.ensures.asks c.all-2.ensures.asks
+pub returns-in_err-people : goal.returns-in_err-people
+returns-in_err-people g c = finds_then c.in_ok-desk.ensures c.in_err-people.ensures (λ _ _. search rules)
 
-pub returns-in_err-changes-clause-asks : goal.returns-in_err-changes-clause-asks
-returns-in_err-changes-clause-asks g c =
-    let told = tells_then c.in_ok-desk.ensures.rows c.all-2.ensures.asks.lasts.clean c.in_ok-people.ensures.rows in
-    asks_then told (asks_then c.in_ok-desk.ensures.rows c.all.ensures.asks c.all-2.ensures.asks) c.all-3.ensures.asks
+pub returns-in_err-changes : goal.returns-in_err-changes
+returns-in_err-changes g c = finds_then (finds_both c.in_ok-desk.ensures c.in_ok-people.ensures) c.in_err-changes.ensures (λ _ _. search rules)
 
-pub returns-in_err-marks-clause-asks : goal.returns-in_err-marks-clause-asks
-returns-in_err-marks-clause-asks g c =
-    let second = tells_then c.in_ok-desk.ensures.rows c.all-2.ensures.asks.lasts.clean c.in_ok-people.ensures.rows in
-    let third = tells_then second c.all-3.ensures.asks.lasts.clean c.in_ok-changes.ensures.rows in
-    asks_then third (asks_then second (asks_then c.in_ok-desk.ensures.rows c.all.ensures.asks c.all-2.ensures.asks) c.all-3.ensures.asks) c.all-4.ensures.asks
+pub returns-in_err-marks : goal.returns-in_err-marks
+returns-in_err-marks g c = finds_then (finds_both (finds_both c.in_ok-desk.ensures c.in_ok-people.ensures) c.in_ok-changes.ensures) c.in_err-marks.ensures (λ _ _. search rules)
 
-pub returns-clause-asks : goal.returns-clause-asks
-returns-clause-asks g c =
-    let second = tells_then c.in_ok-desk.ensures.rows c.all-2.ensures.asks.lasts.clean c.in_ok-people.ensures.rows in
-    let third = tells_then second c.all-3.ensures.asks.lasts.clean c.in_ok-changes.ensures.rows in
-    asks_then third (asks_then second (asks_then c.in_ok-desk.ensures.rows c.all.ensures.asks c.all-2.ensures.asks) c.all-3.ensures.asks) c.all-4.ensures.asks
-
-pub returns-clause-rows : goal.returns-clause-rows
-returns-clause-rows g c clean has =
-    let second = tells_then c.in_ok-desk.ensures.rows c.all-2.ensures.asks.lasts.clean c.in_ok-people.ensures.rows in
-    let third = tells_then second c.all-3.ensures.asks.lasts.clean c.in_ok-changes.ensures.rows in
-    let fourth = tells_then third c.all-4.ensures.asks.lasts.clean c.in_ok-marks.ensures.rows in
-    let after_third = c.all-4.ensures.asks.lasts.clean clean in
-    let after_second = c.all-3.ensures.asks.lasts.clean after_third in
-    let after_first = c.all-2.ensures.asks.lasts.clean after_second in
-    record {
-      holds = record {
-        desk = (c.in_ok-desk.ensures.rows after_first has).holds;
-        people = (second after_second has).holds;
-        changes = (third after_third has).holds;
-        marks = (fourth clean has).holds;
-      };
-      still = (fourth clean has).still;
-    }
+pub returns : goal.returns
+returns g c =
+    let all = finds_both (finds_both (finds_both c.in_ok-desk.ensures c.in_ok-people.ensures) c.in_ok-changes.ensures) c.in_ok-marks.ensures in
+    finds_so all (λ db read. record { desk = read.0.0.0; people = read.0.0.1; changes = read.0.1; marks = read.1 })

@@ -1,40 +1,17 @@
-use Rattle.gate_tables.proofs.Steps.{asks_then, tells_then}
+use Rattle.std.proofs.Common.{rules}
+use Rattle.gate_tables.proofs.Steps.{finds_both, finds_so, finds_then}
 use Rattle.gate_tables.proofs.read.read_last.Goals as goal
 
-pub returns-in_err-members-clause-asks : goal.returns-in_err-members-clause-asks
-returns-in_err-members-clause-asks g c = asks_then c.in_ok-batches.ensures.rows c.all.ensures.asks c.all-2.ensures.asks
+pub returns-in_err-members : goal.returns-in_err-members
+returns-in_err-members g c = finds_then c.in_ok-batches.ensures c.in_err-members.ensures (λ _ _. search rules)
 
-pub returns-in_err-statuses-clause-asks : goal.returns-in_err-statuses-clause-asks
-returns-in_err-statuses-clause-asks g c =
-    let told = tells_then c.in_ok-batches.ensures.rows c.all-2.ensures.asks.lasts.clean c.in_ok-members.ensures.rows in
-    asks_then told (asks_then c.in_ok-batches.ensures.rows c.all.ensures.asks c.all-2.ensures.asks) c.all-3.ensures.asks
+pub returns-in_err-statuses : goal.returns-in_err-statuses
+returns-in_err-statuses g c = finds_then (finds_both c.in_ok-batches.ensures c.in_ok-members.ensures) c.in_err-statuses.ensures (λ _ _. search rules)
 
-pub returns-in_err-wanted-clause-asks : goal.returns-in_err-wanted-clause-asks
-returns-in_err-wanted-clause-asks g c =
-    let second = tells_then c.in_ok-batches.ensures.rows c.all-2.ensures.asks.lasts.clean c.in_ok-members.ensures.rows in
-    let third = tells_then second c.all-3.ensures.asks.lasts.clean c.in_ok-statuses.ensures.rows in
-    asks_then third (asks_then second (asks_then c.in_ok-batches.ensures.rows c.all.ensures.asks c.all-2.ensures.asks) c.all-3.ensures.asks) c.all-4.ensures.asks
+pub returns-in_err-wanted : goal.returns-in_err-wanted
+returns-in_err-wanted g c = finds_then (finds_both (finds_both c.in_ok-batches.ensures c.in_ok-members.ensures) c.in_ok-statuses.ensures) c.in_err-wanted.ensures (λ _ _. search rules)
 
-pub returns-clause-asks : goal.returns-clause-asks
-returns-clause-asks g c =
-    let second = tells_then c.in_ok-batches.ensures.rows c.all-2.ensures.asks.lasts.clean c.in_ok-members.ensures.rows in
-    let third = tells_then second c.all-3.ensures.asks.lasts.clean c.in_ok-statuses.ensures.rows in
-    asks_then third (asks_then second (asks_then c.in_ok-batches.ensures.rows c.all.ensures.asks c.all-2.ensures.asks) c.all-3.ensures.asks) c.all-4.ensures.asks
-
-pub returns-clause-rows : goal.returns-clause-rows
-returns-clause-rows g c clean has =
-    let second = tells_then c.in_ok-batches.ensures.rows c.all-2.ensures.asks.lasts.clean c.in_ok-members.ensures.rows in
-    let third = tells_then second c.all-3.ensures.asks.lasts.clean c.in_ok-statuses.ensures.rows in
-    let fourth = tells_then third c.all-4.ensures.asks.lasts.clean c.in_ok-wanted.ensures.rows in
-    let after_third = c.all-4.ensures.asks.lasts.clean clean in
-    let after_second = c.all-3.ensures.asks.lasts.clean after_third in
-    let after_first = c.all-2.ensures.asks.lasts.clean after_second in
-    record {
-      holds = record {
-        batches = (c.in_ok-batches.ensures.rows after_first has).holds;
-        members = (second after_second has).holds;
-        statuses = (third after_third has).holds;
-        wanted = (fourth clean has).holds;
-      };
-      still = (fourth clean has).still;
-    }
+pub returns : goal.returns
+returns g c =
+    let all = finds_both (finds_both (finds_both c.in_ok-batches.ensures c.in_ok-members.ensures) c.in_ok-statuses.ensures) c.in_ok-wanted.ensures in
+    finds_so all (λ db read. record { batches = read.0.0.0; members = read.0.0.1; statuses = read.0.1; wanted = read.1 })

@@ -1,4 +1,4 @@
 use Rattle.gate_tables.proofs.members.MemberRowTableRow.put.Goals as goal
 
-pub returns-clause-ran : goal.returns-clause-ran
-returns-clause-ran g c clean = rw (c.params-to_sql.ensures, c.params-to_sql-2.ensures, c.params-to_sql-3.ensures) at (c.run.ensures.ran clean)
+pub returns : goal.returns
+returns g c = rw (c.params-to_sql.ensures, c.params-to_sql-2.ensures, c.params-to_sql-3.ensures) at c.run.ensures

@@ -1,4 +1,4 @@
 use Rattle.gate_tables.proofs.wanted.WantedRowTableRow.update.Goals as goal
 
-pub returns-clause-ran : goal.returns-clause-ran
-returns-clause-ran g c clean = rw (c.params-to_sql.ensures, c.params-to_sql-2.ensures, c.params-to_sql-3.ensures, c.as_str.ensures.value) at (c.run_counting.ensures.ran clean)
+pub returns : goal.returns
+returns g c = rw (c.params-to_sql.ensures, c.params-to_sql-2.ensures, c.params-to_sql-3.ensures, c.as_str.ensures.value) at c.run_counting.ensures
