@@ -1,7 +1,7 @@
 ghost use Rattle.std.specs.Prelude.{◌≡◌, ℕ, List, IfErr, IfOk, OnOk};
 ghost use Rattle.std.specs.Io.KnownBytes.{Consumes, IsAtEnd};
 ghost use Rattle.gate_bot.specs.Program.{IsOfFiles, no_records};
-ghost use Rattle.gate_hook.specs.Lines.{IsServed, IsWithinLimit, MayEnd, Serves};
+ghost use Rattle.gate_hook.specs.Lines.{IsServed, IsWithinLimit, MayEnd, Serves, ServesLines};
 ghost use Rattle.gate_sql.specs.Files.{StandIn};
 ghost use Rattle.gate_sql.specs.Shown.{shown};
 ghost use Rattle.gate_store.specs.Run.{IsOfBooks, Records};
@@ -25,14 +25,8 @@ fn run_over<B: Book, R: Read, W: Write>(
     reader: &mut R,
     writer: &mut W,
 ) -> (Result<u64, HookFault>, B)
-    ensures served { (input : List ℕ) × Consumes (R.remaining reader.old) (R.remaining reader.new) input
-        × IsWithinLimit result.0 input
-        × (B.is_sound result.1
-        → IsServed result.0 (B.shows book) input (R.remaining reader.new) (B.shows result.1) (W.contents writer.old)
-        (W.contents writer.new))
-        × (B.is_sound book → B.is_honest result.1
-        → Serves (B.is_sound result.1) result.0 (B.shows book) input (R.remaining reader.new) (B.shows result.1) (W.contents writer.old)
-        (W.contents writer.new)) }
+    ensures served { ServesLines B.Book book result.1 result.0 (R.remaining reader.old) (R.remaining reader.new)
+        (W.contents writer.old) (W.contents writer.new) }
     ensures end { OnOk result.0 (IsAtEnd (R.remaining reader.new)) }
     ensures cause { IfErr result.0 (MayEnd B.may_answer) }
     ensures honest { B.is_honest result.1 → B.is_honest book }
