@@ -10,22 +10,16 @@ use Rattle.gate_waiting.specs.declared.guest.Reason.TheVariants.{Late}
 use Rattle.gate_waiting.proofs.Rooms.{longer}
 
 module _ (patience in_all : ℕ) where
-  -- the first is no later than any of them
-  first_least : (due : ℕ) (guests : List Guest) → first_due_of patience in_all due guests ≤ due
-  first_least due [] = omega arith
-  first_least due (guest ∷ guests) =
-      let rest = first_least (min due (due_of patience in_all guest)) guests in
-      omega arith
+  pub first_least : (guests : List Guest) → first_due_of patience in_all guests ≤ last_time
+  first_least [] = omega arith
+  first_least (guest ∷ guests) = let rest = first_least guests in omega arith
 
   not_late : (time : ℕ) (guest : Guest) → time < due_of patience in_all guest → is_later patience in_all time guest ≡ false
   not_late time guest before = grind arith
 
-  nobody : (due time : ℕ) (guests : List Guest) → time < first_due_of patience in_all due guests → find (is_later patience in_all time) guests ≡ None
-  nobody due time [] before = refl
-  nobody due time (guest ∷ guests) before =
-      let least = first_least (min due (due_of patience in_all guest)) guests in
-      let early = not_late time guest (omega arith) in
-      rw early (nobody (min due (due_of patience in_all guest)) time guests before)
+  nobody : (time : ℕ) (guests : List Guest) → time < first_due_of patience in_all guests → find (is_later patience in_all time) guests ≡ None
+  nobody time [] before = refl
+  nobody time (guest ∷ guests) before = let early = not_late time guest (omega arith) in rw early (nobody time guests (omega arith))
 
   -- one that is late stays so
   late_still : (time later : ℕ) (guest : Guest) → time ≤ later → is_later patience in_all time guest ≡ true → is_later patience in_all later guest ≡ true
@@ -58,33 +52,30 @@ module _ (patience in_all : ℕ) where
       exact : due_of patience in_all guest < last_time → is_later patience in_all (due_of patience in_all guest) guest ≡ true
       exact before = grind arith
 
-  some_at : (due : ℕ) (guests : List Guest) → (first_due_of patience in_all due guests ≡ due)
-      ⊎ ((first_due_of patience in_all due guests ≡ last_time) ⊎ IsSome (find (is_later patience in_all (first_due_of patience in_all due guests)) guests))
-  some_at due [] = inl refl
-  some_at due (guest ∷ guests) = of_rest (first_due_of patience in_all (min due (due_of patience in_all guest)) guests) refl (some_at (min due (due_of patience in_all guest)) guests)
+  some_at : (guests : List Guest) → (first_due_of patience in_all guests ≡ last_time)
+      ⊎ IsSome (find (is_later patience in_all (first_due_of patience in_all guests)) guests)
+  some_at [] = inl refl
+  some_at (guest ∷ guests) =
+      of_least (first_due_of patience in_all (guest ∷ guests))
+      (least_is (due_of patience in_all guest) (first_due_of patience in_all guests) (first_due_of patience in_all (guest ∷ guests)) refl) (some_at guests)
     where
-      of_least : (least : ℕ) → (least ≡ due) ⊎ (least ≡ due_of patience in_all guest)
-          → (least ≡ due) ⊎ ((least ≡ last_time) ⊎ IsSome (cond (is_later patience in_all least guest) (Some guest) (find (is_later patience in_all least) guests)))
-      of_least least (inl is) = inl is
-      of_least least (inr is) = elim (due_late guest) [
-        | inl last ↦ inr (inl (is ∙ last))
-        | inr late ↦ inr (inr (rw is (rw late refl)))
-      ]
+      least_is : (a b least : ℕ) → least ≡ min a b → (least ≡ a) ⊎ (least ≡ b)
+      least_is a b least is = grind arith
 
       with_more : (least : ℕ) (late : Bool) → IsSome (find (is_later patience in_all least) guests)
           → IsSome (cond late (Some guest) (find (is_later patience in_all least) guests))
       with_more least true some = refl
       with_more least false some = some
 
-      least_is : (a b least : ℕ) → least ≡ min a b → (least ≡ a) ⊎ (least ≡ b)
-      least_is a b least is = grind arith
-
-      of_rest : (least : ℕ) → first_due_of patience in_all (min due (due_of patience in_all guest)) guests ≡ least
-          → (least ≡ min due (due_of patience in_all guest)) ⊎ ((least ≡ last_time) ⊎ IsSome (find (is_later patience in_all least) guests))
-          → (least ≡ due) ⊎ ((least ≡ last_time) ⊎ IsSome (cond (is_later patience in_all least guest) (Some guest) (find (is_later patience in_all least) guests)))
-      of_rest least at (inl is) = of_least least (least_is due (due_of patience in_all guest) least is)
-      of_rest least at (inr (inl last)) = inr (inl last)
-      of_rest least at (inr (inr some)) = inr (inr (with_more least (is_later patience in_all least guest) some))
+      of_least : (least : ℕ) → (least ≡ due_of patience in_all guest) ⊎ (least ≡ first_due_of patience in_all guests)
+          → (first_due_of patience in_all guests ≡ last_time) ⊎ IsSome (find (is_later patience in_all (first_due_of patience in_all guests)) guests)
+          → (least ≡ last_time) ⊎ IsSome (cond (is_later patience in_all least guest) (Some guest) (find (is_later patience in_all least) guests))
+      of_least least (inl is) rest = elim (due_late guest) [
+        | inl last ↦ inl (is ∙ last)
+        | inr late ↦ inr (rw is (rw late refl))
+      ]
+      of_least least (inr is) (inl last) = inl (is ∙ last)
+      of_least least (inr is) (inr some) = inr (rw is (with_more (first_due_of patience in_all guests) (is_later patience in_all (first_due_of patience in_all guests) guest) some))
 
 -- WHOM THE NEXT CALL HANDS ON
 module _ {W : Type 0} (room : Room W) where
@@ -107,25 +98,26 @@ module _ {W : Type 0} (room : Room W) where
   -- somebody is ready
   pub pause_if_ready : (now : ℕ) → 0 < length room.ready → IsPause now (Some 0) room
   pause_if_ready now some = (
+    omega arith,
     λ time from before. absurd (omega arith),
     inl (hands_first (gives_up (now + 0) room) (gives_up (now + 0) room).ready
         (let long = longer_by (find (is_late room (now + 0)) room.guests) (now + 0) in omega arith)),
   )
 
   -- nobody is ready
-  pub pause_until_late : (now : ℕ) → now ≤ last_time → room.ready ≡ []
-      → IsPause now (Some (first_due_of room.patience (10 * room.patience) last_time room.guests - now)) room
-  pause_until_late now told none =
-      let due = first_due_of room.patience (10 * room.patience) last_time room.guests in (
-        λ time from before. hands_nobody time (find (is_late room time) room.guests) (nobody room.patience (10 * room.patience) last_time time room.guests (omega arith)) none,
-        at_due due (first_least room.patience (10 * room.patience) last_time room.guests) (some_at room.patience (10 * room.patience) last_time room.guests),
+  pub pause_until_late : (now : ℕ) → now ≤ last_time → room.ready ≡ [] → 0 < length room.guests
+      → IsPause now (Some (first_due_of room.patience (10 * room.patience) room.guests - now)) room
+  pause_until_late now told none some =
+      let due = first_due_of room.patience (10 * room.patience) room.guests in (
+        omega arith,
+        λ time from before. hands_nobody time (find (is_late room time) room.guests) (nobody room.patience (10 * room.patience) time room.guests (omega arith)) none,
+        at_due due (first_least room.patience (10 * room.patience) room.guests) (some_at room.patience (10 * room.patience) room.guests),
       )
     where
       handed : (time : ℕ) → IsSome (find (is_late room time) room.guests) → IsSome (next time room).0
       handed time some = hands_first (gives_up time room) (gives_up time room).ready (longer_if (find (is_late room time) room.guests) time some)
 
-      at_due : (due : ℕ) → due ≤ last_time → (due ≡ last_time) ⊎ ((due ≡ last_time) ⊎ IsSome (find (is_later room.patience (10 * room.patience) due) room.guests))
+      at_due : (due : ℕ) → due ≤ last_time → (due ≡ last_time) ⊎ IsSome (find (is_later room.patience (10 * room.patience) due) room.guests)
           → IsSome (next (now + (due - now)) room).0 ⊎ (now + (due - now) ≡ last_time)
       at_due due within (inl last) = inr (omega arith)
-      at_due due within (inr (inl last)) = inr (omega arith)
-      at_due due within (inr (inr some)) = inl (handed (now + (due - now)) (some_still room.patience (10 * room.patience) due (now + (due - now)) room.guests (omega arith) some))
+      at_due due within (inr some) = inl (handed (now + (due - now)) (some_still room.patience (10 * room.patience) due (now + (due - now)) room.guests (omega arith) some))

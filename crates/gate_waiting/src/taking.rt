@@ -73,7 +73,7 @@ impl LateAt {
 
     // When it is late to wait for the first of these, and no later than a number can say.
     pub(crate) fn first_due(&self, guests: &[Guest]) -> u64
-        ensures { result ≡ first_due_of self.now.patience self.now.in_all last_time guests.now }
+        ensures { result ≡ first_due_of self.now.patience self.now.in_all guests.now }
     {
         let mut due = u64::MAX;
         for guest in guests {

@@ -114,11 +114,11 @@ impl<W: Whole + Drop> Waiting<W> {
     pub fn pause(&self, now: u64) -> Option<u64>
         ensures pause { IsPause now result self.now }
     {
-        if self.is_empty() {
-            return None;
-        }
         if self.ready.len() > 0 {
             return Some(0);
+        }
+        if self.guests.len() == 0 {
+            return None;
         }
         let due = LateAt::new(now, self.patience).first_due(self.guests.as_slice());
         Some(due.saturating_sub(now))
