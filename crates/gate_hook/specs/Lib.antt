@@ -3,7 +3,7 @@
 --     Lines        the lines of a text, and what is written for them, by the run and the answers of gate_store
 --     Told         the deliveries that lines and requests are, and the headline of what is written for them
 --     Requests     what a request asks for, or why it is refused
---     Served       what is sent for one request, and the records after it
+--     Served       what is sent for one request, and the records after it; `ServesOne` has all that is told of it
 --     Denials      the rule by which a request was denied, for a log
 -- Of the other files public clauses cite `IsCutOff` (Sending), `IsInput`, `HasTaken`, `HasReadToken` and `IsEnough` (Receiving), and
 -- `IsTranscript` (Responding), which cites `HasKept` (Receiving). A transcript is an `Exchange` (Exchanges). The rest is of functions

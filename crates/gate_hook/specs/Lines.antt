@@ -179,8 +179,9 @@ IsWithinLimit (Err Read) input = length input ≤ max_input
 IsWithinLimit (Err Write) input = length input ≤ max_input
 IsWithinLimit (Err TooMuch) input = length input ≡ max_input + 1
 
--- ALL OF IT: of the input that the reader had, this was consumed, within the limit, and left. If the book is sound, what is written is the
--- text for its lines. If it was sound, and is honest still, so are the answers before a fault that has shut it.
+-- ALL OF IT, over a book: some input was consumed, within the limit; `all` is what the reader had, and `left` what it still has. If the
+-- book is sound, what is written is the text for the lines of that input. If it was sound, and is honest still, so are the answers before a
+-- fault that has shut it.
 abbrev pub ServesLines : {B : Type 0} → book.Ghosts B → B → B → Result ℕ HookFault → (all left before after : Option (List ℕ)) → Type 0
 ServesLines g old new result all left before after =
     (input : List ℕ) × Consumes all left input × IsWithinLimit result input

@@ -11,8 +11,8 @@ use Rattle.gate_hook.specs.Sending.{IsCutOff}
 use Rattle.gate_hook.specs.declared.fault.HookFault.{HookFault}
 use Rattle.gate_hook.specs.declared.fault.HookFault.TheVariants.{Gate, Read, Write, TooMuch}
 
--- The text of the answer to a line is made, with its line feed. Or a fault came, and nothing has changed, or the line has acted all the
--- same.
+-- The text of the answer to a line is made, with its line feed. Or it stops at a fault: nothing has changed, or the line has acted and
+-- there was no memory left for its text.
 pub record MakesAnswer {A B : Type 0} (g : book.Ghosts B) (old new : B) (line : List ℕ) (result : Result (String A) Fault) : Type 0 where
   pub text : g.is_sound new → IfOk result (λ text. string_bytes text ≡ line_text (g.shows old) line ++ 10 ∷ [])
   pub records : g.is_sound new → OnOk result (g.shows new ≡ after_line (g.shows old) line)

@@ -54,7 +54,7 @@ pub record MakesQueue {A B : Type 0} (g : book.Ghosts B) (old new : B) (result :
   pub cause : IfErr result (IsOfKeepers g.may_answer)
   pub fault : IfErr result IsOfBooks
 
--- The text is that of the input which was read, of all that there was, and this is left.
+-- The text is that of the input which was read; `all` is what the reader had, and `left` what it still has.
 abbrev pub MakesText : {A B : Type 0} → book.Ghosts B → B → B → Result (String A) HookFault → (all left : Option (List ℕ)) → Type 0
 MakesText g old new result all left =
     (input : List ℕ) × Consumes all left input × (g.is_sound new → IsMade (g.shows old) result input left (g.shows new))

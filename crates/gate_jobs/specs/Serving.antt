@@ -105,7 +105,7 @@ module _ {A B : Type 0} (g : book.Ghosts B) (token : Option (List ℕ)) (waiting
 
 -- What serving connections says besides.
 pub record EndsServing {B : Type 0} (g : book.Ghosts B) (old new : B) (result : Result (Unit {0}) JobFault) : Type 0 where
-  -- It stops at a connection that can't be accepted alone.
+  -- It stops only at a connection that can't be accepted.
   pub cause : IfErr result (λ fault. fault ≡ Accept)
   -- A book that is sound in the end was sound before, one that is honest was so, and one that was shielded still is.
   pub outlasts : Outlasts g old new
