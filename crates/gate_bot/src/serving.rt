@@ -1,8 +1,6 @@
-ghost use Rattle.std.specs.Prelude.{◌≡◌, ◌↔◌, List, length, IfErr, IfOk, IsSome};
-ghost use Rattle.std.specs.List.{All};
+ghost use Rattle.std.specs.Prelude.{◌≡◌, ◌↔◌, IfErr, IfOk, IsSome};
 ghost use Rattle.gate_bot.specs.Program.{IsOfTokens};
-ghost use Rattle.gate_jobs.specs.Accepting.{AreAcceptedInTurn, AreEndedInTurn, Connection};
-ghost use Rattle.gate_jobs.specs.Serving.{AreAccepted, AreServedInTurn, AreServedOver, IsTakenAsNeeded};
+ghost use Rattle.gate_jobs.specs.Serving.{AllServed};
 
 use crate::records::{book_in_file, book_in_memory, close};
 use gate_hook::{HookFault, Routes, Token};
@@ -143,14 +141,8 @@ fn serve_with<B: Book, R: Read, W: Write, A: Acceptor<R, W>, L: Log>(
     log: &mut L,
     service: Service<'_>,
 ) -> Result<(), JobFault>
-    ensures served { (connections : List Connection) × AreAccepted result (length connections) service.entry.count
-        × AreAcceptedInTurn connections (A.waiting acceptor.old) (A.waiting acceptor.new)
-        × AreEndedInTurn (λ connection. connection.written) connections (A.ended acceptor.old) (A.ended acceptor.new)
-        × AreEndedInTurn (λ connection. connection.left) connections (A.unread acceptor.old) (A.unread acceptor.new)
-        × All (IsTakenAsNeeded service.entry.routes.now) connections
-        × (B.is_sound keeper.new → AreServedInTurn service.entry.routes.now connections (B.shows keeper.old) (B.shows keeper.new))
-        × (B.is_honest keeper.new
-        → AreServedOver B.shows B.is_sound service.entry.routes.now connections keeper.old keeper.new) }
+    ensures served { AllServed B.Book service.entry.routes.now A.waiting A.ended A.unread acceptor.old acceptor.new keeper.old keeper.new
+        result service.entry.count }
     ensures cause { IfErr result (λ fault. fault ≡ JobFault.Accept) }
 {
     let Service { routes, count, .. } = service;
