@@ -108,7 +108,8 @@ impl<B: Book> Keeper<B> {
     /// meets a full gate, `Memory`, or one that the book may answer.
     pub fn deliver(&mut self, alloc: Global, delivery: &Delivery) -> Result<Answer, Fault>
         // The answer is that of the run, and so are the records. A fault changes nothing.
-        ensures answer { B.is_sound self.new → IfOk result (λ answer. answer ≡ answer_to (B.shows self.old) delivery.now) }
+        ensures answer { B.is_sound self.new
+            → IfOk result (λ answer. answer ≡ answer_to (B.shows self.old) delivery.now) }
         ensures delivers { Delivers B.Book self.old self.new delivery.now result }
 
         // The headline for this delivery, and all that the history tells.
@@ -172,7 +173,8 @@ impl<B: Book> Keeper<B> {
 
     // Answers a delivery from the records, or lets it act.
     fn answer(&mut self, alloc: Global, delivery: &Delivery) -> Result<Answer, Fault>
-        ensures answer { B.is_sound self.new → IfOk result (λ answer. answer ≡ answer_to (B.shows self.old) delivery.now) }
+        ensures answer { B.is_sound self.new
+            → IfOk result (λ answer. answer ≡ answer_to (B.shows self.old) delivery.now) }
         ensures delivers { Delivers B.Book self.old self.new delivery.now result }
     {
         if let Some(answer) = self.book.kept(alloc, &delivery.id)? {

@@ -162,7 +162,8 @@ fn keep(
     id: &DeliveryId,
     answer: &Answer,
 ) -> Result<(), AllocError>
-    ensures ok { OnOk result (answers_in answers.new.entries ≡ insert (answers_in answers.old.entries) id.now answer.now) }
+    ensures ok { OnOk result
+        (answers_in answers.new.entries ≡ insert (answers_in answers.old.entries) id.now answer.now) }
     ensures err { OnErr result (answers_in answers.new.entries ≡ answers_in answers.old.entries) }
 {
     answers.insert(id.copy(alloc)?, answer.copy(alloc)?)?;

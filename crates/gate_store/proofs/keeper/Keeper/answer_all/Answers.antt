@@ -1,5 +1,6 @@
-use Rattle.std.proofs.Common.{◌≡◌, ◌++◌, [], ◌∷◌, length, ◌∙◌, ap, arith}
+use Rattle.std.proofs.Common.{◌≡◌, ◌++◌, [], ◌∷◌, List, length, ◌∙◌, ap, arith}
 use Rattle.std.proofs.lemmas.List.{length_push}
+use Rattle.gate_state.specs.declared.reply.Reply.{Reply}
 use Rattle.gate_store.proofs.Outlasting.{outlasts_both}
 use Rattle.gate_store.proofs.Runs.{answers_more, led_more, room_more, tell_more}
 use Rattle.gate_store.proofs.keeper.Keeper.answer_all.Goals as goal
@@ -18,7 +19,7 @@ loop-delivery-preserved g c =
     let stays = c.in-Ok.ensures.delivers.stays in
     let so_far = c.loop-delivery.invariant in
     let pushed : c.push_reserved.new.self.items ≡ c.loop-delivery.answers.items ++ c.in-Ok.answer ∷ [] =
-    c.push_reserved.ensures.items ∙ ap (λ answers. answers ++ c.in-Ok.answer ∷ []) c.reserve.ensures.items in
+    ◌∙◌ {A = List (List Reply)} c.push_reserved.ensures.items (ap (λ answers. answers ++ c.in-Ok.answer ∷ []) c.reserve.ensures.items) in
     record {
       answers = λ honest.
           let led = so_far.book (was (stays honest)) in
