@@ -1,6 +1,6 @@
-ghost use Rattle.std.specs.Prelude.{◌≡◌, IfOk};
+ghost use Rattle.std.specs.Prelude.{IfOk};
 ghost use Rattle.std.specs.FinMap.{empty};
-ghost use Rattle.gate_tables.specs.Tables.{is_sound, answers_in};
+ghost use Rattle.gate_tables.specs.Tables.{HasAnswers};
 ghost use Rattle.sqlite.specs.Steps.{over_memory};
 
 use crate::fault::BooksFault;
@@ -24,7 +24,7 @@ pub(crate) fn print_row_changes<W: Write>(alloc: Global, writer: &mut W) -> Resu
 
 // Tables without rows, in a new database in memory.
 fn new_tables(alloc: Global) -> Result<Tables<MemStore>, BooksFault>
-    ensures { IfOk result (λ tables. is_sound over_memory tables → answers_in over_memory tables ≡ empty) }
+    ensures { IfOk result (λ tables. HasAnswers over_memory tables empty) }
 {
     let connection = Connection::open_in_memory(alloc)?;
     if !is_blank(connection.schema()) {

@@ -5,9 +5,10 @@ use Rattle.gate_sql.specs.Versions.{OpensAs}
 use Rattle.gate_store.specs.Run.{Records}
 use Rattle.gate_tables.specs.Tables.{is_honest}
 use Rattle.sqlite.specs.Effect.{Database, IsDatabase}
-use Rattle.sqlite.specs.Files.{AreFoundIn, HoldsDatabase, over_files}
+use Rattle.sqlite.specs.Files.{AreFoundIn, Finds, HoldsDatabase, IsOpened, file_state, over_files}
 use Rattle.sqlite.specs.Held.{Held, state}
 use Rattle.sqlite.specs.Recovery.{Image}
+use Rattle.sqlite.specs.State.{HasCleanDisk}
 use Rattle.sqlite.specs.Tree.{Trees}
 use Rattle.sqlite.specs.declared.FileStore.{FileStore}
 use Rattle.sqlite_disk.specs.Memory.{memory_bytes}
@@ -24,6 +25,14 @@ pub record StandIn (files : Image) (records : Records) : Type 0 where
   pub reads : AreFoundIn files found.trees
   pub sound : IsDatabase found
   pub opens : OpensAs found records
+
+-- For private clauses: a connection to the database of two files, in which no transaction is open. If the disk has returned what was
+-- written, it is opened, shows what the files hold, and each later read is tested.
+pub record ConnectsTo {D : Type 0} {g : disk.Ghosts D} (files : Files D) (connection : Held (FileStore D g)) : Type 0 where
+  pub found : HasCleanDisk (file_state connection) → Finds files connection
+  pub opened : HasCleanDisk (file_state connection) → IsOpened connection
+  pub guarded : HasCleanDisk (file_state connection) → (file_state connection).IsShielded
+  pub mode : connection.in_transaction ≡ false
 
 -- what a log and a database file in memory hold
 abbrev pub held_by : Files Memory → Image

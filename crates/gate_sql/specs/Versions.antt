@@ -13,13 +13,14 @@ use Rattle.gate_answers.specs.Reading.{answer_of}
 use Rattle.gate_store.specs.Run.{Records}
 use Rattle.gate_rows.specs.Encoding.{rows_of}
 use Rattle.gate_rows.specs.FirstRows.{in_first}
-use Rattle.gate_sql.specs.Shown.{AreTextsOf}
+use Rattle.gate_sql.specs.Shown.{AreTextsOf, shown}
 use Rattle.gate_rows.specs.Standing.{KeepsLimits}
 use Rattle.gate_tables.specs.Applied.{applied}
 use Rattle.gate_tables.specs.Contents.{AreSame, answers_at}
 use Rattle.gate_tables.specs.Forms as forms
 use Rattle.gate_tables.specs.Database.{schema_of}
 use Rattle.gate_tables.specs.Schemas.{HasTables, stored_rows, version_of}
+use Rattle.gate_tables.specs.Tables.{is_sound}
 use Rattle.gate_tables.specs.declared.change.RowChange.{RowChange}
 use Rattle.gate_tables.specs.declared.row.DeskRow.{DeskRow}
 use Rattle.gate_tables.specs.declared.row.Rows.{Rows}
@@ -27,6 +28,8 @@ use Rattle.gate_tables.specs.declared.version.Version.{Version}
 use Rattle.gate_tables.specs.declared.version.Version.TheVariants.{Version1, Version2}
 use Rattle.serde_json.specs.Read.{read}
 use Rattle.sqlite.specs.Effect.{Database}
+use Rattle.sqlite.specs.Held.{Held, state}
+use Rattle.sqlite.specs.Store.{Ghosts}
 
 -- the rows of a version that stand for what rows of the last one stand for
 abbrev pub rows_as : Version → Rows → Rows
@@ -43,10 +46,21 @@ pub record StandsFor (db : Database) (records : Records) : Type 0 where
   pub identified : AllByRecursion (λ entry. IsOk (delivery_id_of entry.0)) (forms.rows_of forms.answers db.trees)
   pub texts_are : AreTextsOf records.kept (answers_at db.trees)
 
+-- a database has no table, index or view
+abbrev pub HasNoTables : Database → Type 0
+HasNoTables db = db.schema ≡ schema_of []
+
+-- the records of a new book
+abbrev pub new_records : Records
+new_records = record { state = empty_state 1; kept = empty }
+
 -- WHAT A DATABASE IS OPENED AS: what it stands for, or, if it has no table, index or view, the empty state without answers
 abbrev pub OpensAs : Database → Records → Type 0
-OpensAs db records =
-    ((db.schema ≡ schema_of []) × (records ≡ record { state = empty_state 1; kept = empty })) ⊎ (HasTables db × StandsFor db records)
+OpensAs db records = (HasNoTables db × (records ≡ new_records)) ⊎ (HasTables db × StandsFor db records)
+
+-- a book shows records for which the database of a connection stands, if it is sound
+abbrev pub ShowsWhat : {S : Type 0} → (Database → Records → Type 0) → Ghosts S → Held S → Held S → Type 0
+ShowsWhat stands g connection book = is_sound g book → stands (state g connection).now (shown g book)
 
 -- For private clauses: whether the row of the desk names the next version,
 abbrev pub is_next : Version → ℤ → Bool
@@ -70,10 +84,18 @@ IsKeptAnswer entry = IsOk (delivery_id_of entry.0) × IsAnswerText entry.1
 abbrev pub AreKeptAnswers : List (List ℕ × List ℕ) → Type 0
 AreKeptAnswers entries = AllByRecursion IsKeptAnswer entries
 
+-- row changes that lead from rows to those of a state,
+abbrev pub LeadTo : State → List RowChange → Rows → Type 0
+LeadTo s changes rows = AreSame (applied changes rows) (rows_of s)
+
+-- and so from its rows in a version, in any order,
+abbrev pub LeadFromVersion : Version → State → List RowChange → Type 0
+LeadFromVersion version s changes = (rows : Rows) → AreSame rows (rows_as version (rows_of s)) → LeadTo s changes rows
+
 -- and rows of a version that stand for a state, with row changes that lead from them to its rows in the last version
 pub record Understands (version : Version) (rows : Rows) (changes : List RowChange) : Type 0 where
   pub s : State
   pub state : IsState s
   pub limits : KeepsLimits s.desk
   pub rows_are : AreSame rows (rows_as version (rows_of s))
-  pub leads : (others : Rows) → AreSame others rows → AreSame (applied changes others) (rows_of s)
+  pub leads : (others : Rows) → AreSame others rows → LeadTo s changes others

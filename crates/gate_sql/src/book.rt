@@ -1,16 +1,11 @@
-ghost use Rattle.std.specs.Prelude.{◌≡◌, ◌≢◌, ◌⊎◌, [], None, false, IfOk, IfErr, IsErrAnd, OnOk, OnErr};
-ghost use Rattle.std.specs.FinMap.{empty};
+ghost use Rattle.std.specs.Prelude.{◌≡◌, None, false, IfOk, IfErr, IsErrAnd};
 ghost use Rattle.std.specs.Option.{option_map};
-ghost use Rattle.gate_queue.specs.Machine.{empty_state};
-ghost use Rattle.gate_tables.specs.Applied.{applied, no_rows as no_rows_at_all};
-ghost use Rattle.gate_tables.specs.Contents.{AreSame};
-ghost use Rattle.gate_tables.specs.Database.{schema_of};
-ghost use Rattle.gate_rows.specs.Encoding as encoding;
-ghost use Rattle.gate_sql.specs.Faults.{MayRefuse};
+ghost use Rattle.gate_tables.specs.Applied.{no_rows as no_rows_at_all};
+ghost use Rattle.gate_sql.specs.Faults.{MayRefuse, MayRefuseOf};
 ghost use Rattle.gate_sql.specs.Shown.{CommitsTables, shown, Holds, IsHeld};
-ghost use Rattle.gate_sql.specs.Versions.{OpensAs, StandsFor};
+ghost use Rattle.gate_sql.specs.Versions.{HasNoTables, LeadTo, OpensAs, ShowsWhat, StandsFor, new_records};
 ghost use Rattle.gate_tables.specs.Schemas.{HasTables, IsFound, version_of};
-ghost use Rattle.gate_tables.specs.Tables.{HandsBack, ShowsTheSame, WasSound, Outlasts, is_honest, is_shielded, is_sound, rows_in, answers_in, IsBook};
+ghost use Rattle.gate_tables.specs.Tables.{HandsBack, ShowsTheSame, Outlasts, TakesOver, is_sound, rows_in, answers_in, IsBook};
 ghost use Rattle.gate_answers.specs.Reading.{answer_of};
 ghost use Rattle.gate_store.specs.Performing.{HasItsText, LeadsFrom};
 ghost use Rattle.gate_store.specs.Run.{IsOfBooks, kept_under, with_answer};
@@ -72,15 +67,13 @@ impl<S: Alter> SqlBook<S> {
     /// no memory for it.
     pub fn new(alloc: Global, connection: Connection<S>) -> Result<SqlBook<S>, Refused<S>>
         requires { connection.in_transaction ≡ false }
-        ensures value { IfOk result (λ book. is_sound S.Store book → shown S.Store book ≡ record { state = empty_state 1; kept = empty }) }
+        ensures value { IfOk result (λ book. is_sound S.Store book → shown S.Store book ≡ new_records) }
         ensures holds { IfOk result (λ book. is_sound S.Store book → Holds S.Store book) }
-        ensures taken { (state S.Store connection).now.schema ≢ schema_of [] → IsErrAnd result (λ refused. refused.fault ≡ Fault.Store) }
-        ensures same { IfErr result (λ refused. HandsBack S.Store connection refused.connection) }
-        ensures mode { IfErr result (λ refused. refused.connection.in_transaction ≡ false) }
+        ensures taken { ¬ HasNoTables (state S.Store connection).now
+            → IsErrAnd result (λ refused. refused.fault ≡ Fault.Store) }
         ensures fault { IfErr result (λ refused. IsOfBooks refused.fault) }
-        ensures outlasts { IfOk result (λ book. Outlasts S.Store connection book) }
-        ensures stays { IfOk result (λ book. is_honest S.Store book → is_sound S.Store book) }
-        ensures was_refused { IfErr result (λ refused. WasSound S.Store connection refused.connection) }
+        ensures takes_over { IfOk result (λ book. TakesOver S.Store connection book) }
+        ensures hands_back { IfErr result (λ refused. HandsBack S.Store connection refused.connection) }
     {
         if !is_blank(connection.schema()) {
             return Err(Refused {
@@ -122,17 +115,13 @@ impl<S: Alter> SqlBook<S> {
     /// indexes are others, or if the database fails. `Memory` if there is no memory for it.
     pub fn open(alloc: Global, connection: Connection<S>) -> Result<SqlBook<S>, Refused<S>>
         requires { connection.in_transaction ≡ false }
-        ensures stands { IfOk result (λ book. is_sound S.Store book → OpensAs (state S.Store connection).now (shown S.Store book)) }
+        ensures stands { IfOk result (λ book. ShowsWhat OpensAs S.Store connection book) }
         ensures holds { IfOk result (λ book. is_sound S.Store book → Holds S.Store book) }
-        ensures others { (state S.Store connection).now.schema ≢ schema_of [] → ¬ HasTables (state S.Store connection).now
+        ensures others { ¬ HasNoTables (state S.Store connection).now → ¬ HasTables (state S.Store connection).now
             → IsErrAnd result (λ refused. IsOfBooks refused.fault) }
-        ensures same { IfErr result (λ refused. HandsBack S.Store connection refused.connection) }
-        ensures mode { IfErr result (λ refused. refused.connection.in_transaction ≡ false) }
-        ensures fault { IfErr result (λ refused. IsOfBooks refused.fault
-            ⊎ ((refused.fault ≡ Fault.Foreign) × HasTables (state S.Store connection).now)) }
-        ensures outlasts { IfOk result (λ book. Outlasts S.Store connection book) }
-        ensures stays { IfOk result (λ book. is_honest S.Store book → is_sound S.Store book) }
-        ensures was_refused { IfErr result (λ refused. WasSound S.Store connection refused.connection) }
+        ensures fault { IfErr result (λ refused. MayRefuseOf (state S.Store connection).now refused.fault) }
+        ensures takes_over { IfOk result (λ book. TakesOver S.Store connection book) }
+        ensures hands_back { IfErr result (λ refused. HandsBack S.Store connection refused.connection) }
     {
         match found_in(alloc, connection.schema()) {
             Ok(found) => open_found(alloc, connection, found),
@@ -271,16 +260,12 @@ fn open_found<S: Alter>(
 ) -> Result<SqlBook<S>, Refused<S>>
     requires mode { connection.in_transaction ≡ false }
     requires found { IsFound found (state S.Store connection).now.schema }
-    ensures stands { IfOk result (λ book. is_sound S.Store book → OpensAs (state S.Store connection).now (shown S.Store book)) }
+    ensures stands { IfOk result (λ book. ShowsWhat OpensAs S.Store connection book) }
     ensures holds { IfOk result (λ book. is_sound S.Store book → Holds S.Store book) }
     ensures others { found ≡ Found.Others → IsErrAnd result (λ refused. refused.fault ≡ Fault.Store) }
-    ensures same { IfErr result (λ refused. HandsBack S.Store connection refused.connection) }
-    ensures mode { IfErr result (λ refused. refused.connection.in_transaction ≡ false) }
-    ensures fault { IfErr result (λ refused. IsOfBooks refused.fault
-        ⊎ ((refused.fault ≡ Fault.Foreign) × HasTables (state S.Store connection).now)) }
-    ensures outlasts { IfOk result (λ book. Outlasts S.Store connection book) }
-    ensures stays { IfOk result (λ book. is_honest S.Store book → is_sound S.Store book) }
-    ensures was_refused { IfErr result (λ refused. WasSound S.Store connection refused.connection) }
+    ensures fault { IfErr result (λ refused. MayRefuseOf (state S.Store connection).now refused.fault) }
+    ensures takes_over { IfOk result (λ book. TakesOver S.Store connection book) }
+    ensures hands_back { IfErr result (λ refused. HandsBack S.Store connection refused.connection) }
 {
     match found {
         Found::Nothing => SqlBook::new(alloc, connection),
@@ -298,14 +283,11 @@ fn adopt<S: Alter>(
     requires mode { connection.in_transaction ≡ false }
     requires tables { HasTables (state S.Store connection).now }
     requires version { version ≡ version_of (state S.Store connection).now.schema }
-    ensures stands { IfOk result (λ book. is_sound S.Store book → StandsFor (state S.Store connection).now (shown S.Store book)) }
+    ensures stands { IfOk result (λ book. ShowsWhat StandsFor S.Store connection book) }
     ensures holds { IfOk result (λ book. is_sound S.Store book → Holds S.Store book) }
-    ensures same { IfErr result (λ refused. HandsBack S.Store connection refused.connection) }
-    ensures mode { IfErr result (λ refused. refused.connection.in_transaction ≡ false) }
     ensures fault { IfErr result (λ refused. MayRefuse refused.fault) }
-    ensures outlasts { IfOk result (λ book. Outlasts S.Store connection book) }
-    ensures stays { IfOk result (λ book. is_honest S.Store book → is_sound S.Store book) }
-    ensures was_refused { IfErr result (λ refused. WasSound S.Store connection refused.connection) }
+    ensures takes_over { IfOk result (λ book. TakesOver S.Store connection book) }
+    ensures hands_back { IfErr result (λ refused. HandsBack S.Store connection refused.connection) }
 {
     law_of_rows();
     let (found, contents) = match FoundTables::open(alloc, connection) {
@@ -334,7 +316,7 @@ fn refusal<S: Alter>(fault: Fault, connection: Connection<S>) -> Refused<S>
 
 // The row changes that lead from no rows to those of a gate.
 fn first_changes(alloc: Global, gate: &Gate) -> Result<Vec<RowChange>, AllocError>
-    ensures { IfOk result (λ first. AreSame (applied first.items no_rows_at_all) (encoding.rows_of gate.now)) }
+    ensures { IfOk result (λ first. LeadTo gate.now first.items no_rows_at_all) }
 {
     law_of_differences();
     law_of_keys_of(gate);
@@ -364,7 +346,7 @@ fn changes_to<S: Alter>(
     gate: &Gate,
 ) -> Result<Vec<RowChange>, TablesFault>
     ensures led { is_sound S.Store tables.new → IsHeld (rows_in S.Store tables.old) (answers_in S.Store tables.old)
-        → IfOk result (λ changes. AreSame (applied changes.items (rows_in S.Store tables.old)) (encoding.rows_of gate.now)) }
+        → IfOk result (λ changes. LeadTo gate.now changes.items (rows_in S.Store tables.old)) }
     ensures same { is_sound S.Store tables.new → ShowsTheSame S.Store tables.old tables.new }
     ensures outlasts { Outlasts S.Store tables.old tables.new }
     ensures book { is_sound S.Store tables.new → IsBook (state S.Store tables.new) }

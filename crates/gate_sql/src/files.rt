@@ -1,12 +1,10 @@
 ghost use Rattle.std.specs.Prelude.{◌≡◌, IfErr, IfOk, IsTrue, false};
 ghost use Rattle.gate_sql.specs.Faults.{MayRefuse, told_of_files};
-ghost use Rattle.gate_sql.specs.Files.{StandIn, held_by};
+ghost use Rattle.gate_sql.specs.Files.{ConnectsTo, StandIn, held_by};
 ghost use Rattle.gate_sql.specs.Shown.{shown};
-ghost use Rattle.gate_sql.specs.Versions.{OpensAs};
-ghost use Rattle.gate_tables.specs.Tables.{Outlasts, is_honest, is_shielded, is_sound};
-ghost use Rattle.sqlite.specs.Files.{Finds, IsOpened, file_state, image_of, over_files};
-ghost use Rattle.sqlite.specs.Held.{state};
-ghost use Rattle.sqlite.specs.State.{HasCleanDisk};
+ghost use Rattle.gate_sql.specs.Versions.{OpensAs, ShowsWhat};
+ghost use Rattle.gate_tables.specs.Tables.{TakesOver, is_honest, is_shielded, is_sound};
+ghost use Rattle.sqlite.specs.Files.{image_of, over_files};
 ghost use Rattle.sqlite_disk.specs.Memory.{memory_is_usable};
 
 use crate::book::SqlBook;
@@ -26,7 +24,8 @@ pub fn book_in_files<D: Disk + Drop>(
     requires log { IsTrue (D.Disk.is_usable files.log) }
     requires db { IsTrue (D.Disk.is_usable files.db) }
     // If the disk has returned what was written, the records are those for which the two files stood.
-    ensures records { IfOk result (λ book. is_honest over_files book → StandIn (image_of D.Disk files) (shown over_files book)) }
+    ensures records { IfOk result (λ book. is_honest over_files book
+        → StandIn (image_of D.Disk files) (shown over_files book)) }
     ensures stays { IfOk result (λ book. is_honest over_files book → is_sound over_files book) }
     ensures shield { IfOk result (λ book. is_honest over_files book → is_shielded over_files book) }
     ensures fault { IfErr result MayRefuse }
@@ -62,10 +61,7 @@ fn connected<D: Disk + Drop>(
 ) -> Result<Connection<FileStore<D>>, Fault>
     requires log { IsTrue (D.Disk.is_usable files.log) }
     requires db { IsTrue (D.Disk.is_usable files.db) }
-    ensures found { IfOk result (λ connection. HasCleanDisk (file_state connection) → Finds files connection) }
-    ensures opened { IfOk result (λ connection. HasCleanDisk (file_state connection) → IsOpened connection) }
-    ensures guarded { IfOk result (λ connection. HasCleanDisk (file_state connection) → (file_state connection).IsShielded) }
-    ensures mode { IfOk result (λ connection. connection.in_transaction ≡ false) }
+    ensures connects { IfOk result (ConnectsTo files) }
     ensures fault { IfErr result MayRefuse }
 {
     match Connection::open_files(alloc, files, options) {
@@ -77,9 +73,8 @@ fn connected<D: Disk + Drop>(
 // The book that a database keeps. A connection whose store is known is dear to prove.
 fn opened<S: Alter + Drop>(alloc: Global, connection: Connection<S>) -> Result<SqlBook<S>, Fault>
     requires { connection.in_transaction ≡ false }
-    ensures stands { IfOk result (λ book. is_sound S.Store book → OpensAs (state S.Store connection).now (shown S.Store book)) }
-    ensures outlasts { IfOk result (λ book. Outlasts S.Store connection book) }
-    ensures stays { IfOk result (λ book. is_honest S.Store book → is_sound S.Store book) }
+    ensures stands { IfOk result (λ book. ShowsWhat OpensAs S.Store connection book) }
+    ensures takes_over { IfOk result (λ book. TakesOver S.Store connection book) }
     ensures fault { IfErr result MayRefuse }
 {
     match SqlBook::open(alloc, connection) {

@@ -3,11 +3,9 @@ ghost use Rattle.gate_text.specs.SmallTexts.{delivery_id_of};
 ghost use Rattle.gate_rows.specs.Encoding as encoding;
 ghost use Rattle.gate_sql.specs.Faults.{MayRefuse, foreign_unless_memory};
 ghost use Rattle.gate_sql.specs.Versions as versions;
-ghost use Rattle.gate_sql.specs.Versions.{AreKeptAnswers, IsAnswerText, IsKeptAnswer, Understands, rows_as};
+ghost use Rattle.gate_sql.specs.Versions.{AreKeptAnswers, IsAnswerText, IsKeptAnswer, LeadFromVersion, Understands, rows_as};
 ghost use Rattle.gate_store.specs.Run.{IsOfBooks};
-ghost use Rattle.gate_tables.specs.Applied.{applied};
 ghost use Rattle.gate_tables.specs.Contents.{AreSame};
-ghost use Rattle.gate_tables.specs.declared.row.Rows.{Rows as RowsOf};
 
 use crate::fault::told;
 use crate::gate::gate_of;
@@ -112,8 +110,7 @@ fn rows_in(alloc: Global, rows: Rows, version: Version) -> Result<Rows, AllocErr
 
 // The row changes that lead from the rows of a gate in a version to those in the last one.
 fn upgrade(alloc: Global, gate: &Gate, version: Version) -> Result<Vec<RowChange>, AllocError>
-    ensures { IfOk result (λ changes. (rows : RowsOf) → AreSame rows (rows_as version (encoding.rows_of gate.now))
-        → AreSame (applied changes.items rows) (encoding.rows_of gate.now)) }
+    ensures { IfOk result (λ changes. LeadFromVersion version gate.now changes.items) }
 {
     match version {
         Version::Version1 => changes_from(alloc, gate, version),
@@ -123,8 +120,7 @@ fn upgrade(alloc: Global, gate: &Gate, version: Version) -> Result<Vec<RowChange
 }
 
 fn changes_from(alloc: Global, gate: &Gate, version: Version) -> Result<Vec<RowChange>, AllocError>
-    ensures { IfOk result (λ changes. (rows : RowsOf) → AreSame rows (rows_as version (encoding.rows_of gate.now))
-        → AreSame (applied changes.items rows) (encoding.rows_of gate.now)) }
+    ensures { IfOk result (λ changes. LeadFromVersion version gate.now changes.items) }
 {
     law_of_differences();
     law_of_keys_of(gate);

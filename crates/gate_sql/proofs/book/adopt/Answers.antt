@@ -12,11 +12,11 @@ use Rattle.gate_sql.proofs.book.adopt.Goals as goal
 -- what is so once the tables are taken over
 all : (g : Over) (c : goal.After-connection g) → is_sound g.S.Store c.in-Ok-take.tables → Opened g.S.Store c.args.connection c.in-Ok-take.tables
 all g c sound =
-    let was = c.in-Ok-take.ensures.outlasts.was sound in
+    let was = c.in-Ok-take.ensures.takes_over.outlasts.was sound in
     let stored = stored_rows (state g.S.Store c.in-Ok.found.0).now in
     opened g.S.Store c.args.connection c.in-Ok.found.0 c.in-Ok-take.tables c.args.version c.in-Ok.found.1.rows c.in-Ok.found.1.answers c.in-Ok-understood.changes.items
     c.law_of_rows.ensures c.in-Ok-understood.ensures.rows c.in-Ok-understood.ensures.texts c.requires.version
-    (c.in-Ok.ensures.found was) (c.in-Ok.ensures.rows was) (c.in-Ok.ensures.answers was)
+    (c.in-Ok.ensures.found was) (c.in-Ok.ensures.contents.rows was) (c.in-Ok.ensures.contents.answers was)
     (subst (λ cs. AreSame (rows_in g.S.Store c.in-Ok-take.tables) (applied cs stored)) c.as_slice.ensures.value (c.in-Ok-take.ensures.rows sound)) (c.in-Ok-take.ensures.answers sound)
 
 pub invariant_of-result : goal.invariant_of-result

@@ -15,7 +15,7 @@ written g c sound =
     let new = c.apply-written.new.self in
     let old = c.self.inside.tables in
     let gate = c.args.gate.now in
-    let mid_sound = c.apply-written.ensures.outlasts.was sound in
+    let mid_sound = c.apply-written.ensures.all_or_nothing.outlasts.was sound in
     let held = c.self.invariant (c.changes_to.ensures.outlasts.was mid_sound) in
     let moved = c.changes_to.ensures.same mid_sound in
     leaves gate (rows_in g.S.Store new) (answers_in g.S.Store new) (answers_in g.S.Store old) c.text.result.now c.as_str.result.now c.args.answer.now
