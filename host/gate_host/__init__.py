@@ -1,3 +1,3 @@
 """gate-host: guards the main branch of a bare git repository with the bot `gate`."""
 
-VERSION = "0.9.0"
+VERSION = "1.0.0"

@@ -10,7 +10,7 @@ from typing import List, NoReturn, Optional
 from . import VERSION, ssh_command
 from .audit.audit import audit
 from .bare import run_host
-from .doctor import checks_of, stray_named
+from .doctor import checks_of, release_checked, stray_named
 from .git import GitFailed
 from .github import starting
 from .github.doctor import checks_on_github
@@ -26,8 +26,9 @@ from .locks import is_locked
 from .troubles import complain
 from .faults import Trouble
 from .places import Places, asked_of_git, find_places, must_be_safe, name_of_user, person_here, pointed_to
+from .release import PROGRAM
 from .settings import read_reporters, read_settings
-from .setting_up import PROGRAM, must_be_own, set_up
+from .setting_up import must_be_own, set_up
 from .spool import leave
 
 OUTPUT = re.compile(r"    output: ([0-9]+-[0-9]+-[A-Za-z0-9._-]+)")
@@ -221,7 +222,7 @@ def look_after(arguments: argparse.Namespace) -> int:
         print(f"the host takes it that the move to {commit} was right" + ("" if is_running(places) else ", when it runs again"))
         return 0
     is_at_work = is_locked(places)
-    checked = checks_on_github(places, github, is_at_work) if github else checks_of(places, is_at_work)
+    checked = [release_checked(), *(checks_on_github(places, github, is_at_work) if github else checks_of(places, is_at_work))]
     for check in checked:
         print(check.line)
     return 0 if all(check.is_right for check in checked) else 1

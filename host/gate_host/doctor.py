@@ -8,6 +8,7 @@ from dataclasses import dataclass
 from pathlib import Path
 from typing import Iterator, List
 
+from . import VERSION
 from .bot_file import lacks_answers
 from .hook_file import SCRIPT, is_for_all, python_for_all
 from .inspection import findings
@@ -17,6 +18,7 @@ from .marks import mark_is_strong
 from .core.words import plain, stray
 from .faults import Trouble
 from .places import Places, name_of_repository
+from .release import PROGRAM, PROVED, commit_of_checkout, release_in, sum_in, sum_of, text_of_proved
 from .repository import BRANCHES
 from .sandbox import sandbox_of
 from .settings import Settings, read_reporters, read_roles, read_settings
@@ -43,6 +45,18 @@ class Checked:
 
 def note(said: str) -> Checked:
     return Checked(True, said, True)
+
+
+def release_checked() -> Checked:
+    """Which version this is, and of which commit."""
+    try:
+        text = text_of_proved()
+        if text is not None:
+            return Checked(True, f"this is {release_in(text)}; {PROVED} says what was proved of its program")
+        commit = commit_of_checkout()
+    except Trouble as fault:
+        return Checked(False, str(fault))
+    return note(f"this is gate-host {VERSION}, " + (f"in a checkout of commit {commit}" if commit else "and of which commit isn't known"))
 
 
 def checks_of(places: Places, is_running: bool) -> List[Checked]:
@@ -94,7 +108,27 @@ def programs(settings: Settings) -> Iterator[Checked]:
     """What runs: the program of the bot, and Python with SQLite."""
     is_built = os.access(settings.program, os.X_OK)
     yield Checked(is_built, f"the program of the bot is {settings.program}" + ("" if is_built else ", and isn't there; build it"))
+    if is_built:
+        yield from program_checked(Path(settings.program))
     yield Checked(sys.version_info >= (3, 9) and sqlite3.sqlite_version_info >= (3, 37), "Python and SQLite are new enough")
+
+
+def program_checked(program: Path) -> Iterator[Checked]:
+    """Whether the program is the one that was proved, if this host was installed by a package."""
+    try:
+        text = text_of_proved()
+        if text is None:
+            return
+        is_same = sum_of(program) == sum_in(text)
+    except (OSError, Trouble) as fault:
+        yield Checked(False, f"whether the program is the one that was proved can't be told: {fault}")
+        return
+    if is_same:
+        yield Checked(True, f"it is the program that was proved, by the sum in {PROVED}")
+    elif program.resolve() == PROGRAM.resolve():
+        yield Checked(False, f"it isn't the program that was proved: {PROVED} has another sum; install the package again")
+    else:
+        yield note(f"it isn't the program of the package, which is {PROGRAM}")
 
 
 def in_records(places: Places, is_running: bool) -> Iterator[Checked]:

@@ -16,13 +16,12 @@ from .core.words import MOST_IN_SETTINGS
 from .faults import Trouble
 from .troubles import complain
 from .places import Places, is_open_to_others, make_identity, must_be_safe, name_of_user, person, pointed_to
+from .release import PROGRAM
 from .repository import BRANCHES, Repository
 from .settings import (
     FIRST_REPORTERS, FIRST_ROLES, FIRST_SETTINGS, Settings, read_reporters, read_roles, read_settings, reporters_in, roles_in, settings_in,
 )
 from .spool import leave
-
-PROGRAM = SCRIPT.parent.parent / "crates/gate_bot/out/gate_bot"
 
 
 def set_up(repository: Path, arguments: argparse.Namespace) -> None:

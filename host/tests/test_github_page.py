@@ -23,6 +23,8 @@ MARK = re.compile(r"\s*<!-- gate:[^>]*-->")
 # was read, and how often this test has the host ask.
 COMMIT = re.compile(r"\b[0-9a-f]{40}\b|\b(?=[0-9a-f]*[0-9])[0-9a-f]{7}\b")
 CLOCK, ADDRESS = re.compile(r"(?<=clock )\d+"), re.compile(r"https?://\S+/runs/\d+")
+# Which host it is differs where the test runs.
+RELEASE = re.compile(r"^(right|note): this is gate-host .*$", re.MULTILINE)
 COUNTS = re.compile(r"\d+ facts, \d+ answers to \d+ deliveries|every \d+ seconds")
 PATIENCE = float(os.environ.get("GATE_STORY_SECONDS", "120"))
 ACCESS = {"read": "read", "read and write": "write"}
@@ -56,7 +58,8 @@ def steps_of(block):
 
 
 def alike(text):
-    """A text with one word in the place of each commit, reading of the clock and run, and of what is counted in a journal."""
+    """A text with one word in the place of each commit, reading of the clock and run, of what is counted in a journal, and of the host."""
+    text = RELEASE.sub("HOST", text)
     return COUNTS.sub("COUNTS", ADDRESS.sub("RUN", CLOCK.sub("N", COMMIT.sub("COMMIT", text))))
 
 

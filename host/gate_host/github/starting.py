@@ -8,7 +8,8 @@ from pathlib import Path
 from ..faults import Trouble
 from ..git import ALONE, clean_environment
 from ..places import Places, make_identity, must_be_safe
-from ..setting_up import PROGRAM, make_folders, replace, with_lines
+from ..release import PROGRAM
+from ..setting_up import make_folders, replace, with_lines
 from ..settings import settings_in
 from ..troubles import complain
 from .settings import BY_APP, BY_TOKEN, FIRST_ROLES, FIRST_SETTINGS, REPOSITORY, GitHubSettings, github_in
