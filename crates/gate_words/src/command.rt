@@ -19,7 +19,7 @@ pub const MAX_PATIENCE: u32 = 3_600;
 
 // What is told of the whole program. Its version comes first, and CHANGELOG.md begins with the same.
 const ABOUT: &str = "\
-gate 0.9.0
+gate 1.0.0
 A merge bot: it is told what happened to the changes of a project, and answers each delivery with what is to be done.
 It keeps its records in a database file, or in memory, and then they are gone when it ends.";
 
