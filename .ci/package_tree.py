@@ -65,11 +65,11 @@ def verdict_of(crate):
 class Tree:
     """A copy of this tree in a folder of its own, which is a checkout with one commit, in which the program is built."""
 
-    def __init__(self, folder, program=None):
+    def __init__(self, folder, program=None, source=TOP):
         self.folder = Path(folder)
         self.folder.mkdir(parents=True)
         left_out = [f"--exclude={it}" for it in ("out", ".git", "__pycache__", "must-fail", "./host/tests", "./bench", "./crates")]
-        must(["tar", "-C", TOP, *left_out, "-cf", self.folder / "it.tar", ".", *(f"crates/{it}" for it in CRATES)])
+        must(["tar", "-C", source, *left_out, "-cf", self.folder / "it.tar", ".", *(f"crates/{it}" for it in CRATES)])
         must(["tar", "-C", self.folder, "-xf", self.folder / "it.tar"])
         (self.folder / "it.tar").unlink()
         self.git("init", "--quiet", "--initial-branch=main")
