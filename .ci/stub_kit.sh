@@ -3,8 +3,8 @@
 # Writes the stub of a kit into the folder $1. `rt` tries a program, `rattle` proves a crate, and `rattle-link` gives a program that
 # prints its arguments and its input. Files beside them say how they act: `hangs` that a proof waits, `meets` that gate_rules and
 # gate_tables each wait for the other to be begun, `fails` that gate_rules isn't proved, `forgets` that its proof ends well without a
-# verdict, `hides` that it is proved with a reserve, and `breaks` that the program can't be linked. What they do stands in `calls`, and
-# `proved` has the crates in their order.
+# verdict, `hides` that it is proved with a reserve, and `breaks` that the program can't be linked. `crawls` says how many seconds the small
+# proof takes, and `refuses` that it fails. What they do stands in `calls`, and `proved` has the crates in their order.
 write_kit() {
     cat >"$1/rt" <<'STUB'
 #!/usr/bin/env bash
@@ -22,6 +22,13 @@ STUB
 set -euo pipefail
 bin=$(cd "$(dirname "${BASH_SOURCE[0]}")" && pwd)
 read -r line && echo "standard input isn't empty: $line"
+if [[ $1 == check ]]; then
+    echo "check $*" >>"$bin/checks"
+    [[ ! -e $bin/crawls ]] || sleep "$(<"$bin/crawls")"
+    [[ ! -e $bin/refuses ]] || exit 1
+    echo "logic=proved functions=1 sum=0"
+    exit
+fi
 echo "$*" >>"$bin/words"
 sleep 300 &
 name='' jobs='' to=''

@@ -24,7 +24,7 @@ use std::alloc::Global;
 /// A book in a database file, which keeps the records for the next program. `S` stands for what the file and its log held.
 pub type FileBook<S> = SqlBook<FileStore<FileFrom<S>>>;
 
-/// A book without records, which keeps them in memory until the program ends. It takes no memory.
+/// A book in memory that has no records. What it keeps is lost when the program ends. It takes no memory.
 pub fn book_in_memory(alloc: Global) -> PlainBook
     ensures value { result ≡ no_records }
 {

@@ -90,7 +90,7 @@ pub record MakesResponse {B : Type 0} (g : book.Ghosts B) (old new : B) (wish : 
   pub stays : RemainsSound g old new (StaysSound result)
   pub cause : IfErr result (MayFail g.may_answer)
 
--- The response to the request is made that this reader had, if this token is needed, or none.
+-- The response to the request that this reader had is made. `token` is the one that it needs, if it needs one.
 pub record AnswersRequest {B : Type 0} (g : book.Ghosts B) (token : Option (List ℕ)) (result : Result Response HookFault) (old new : B) (unread left : Option (List ℕ)) : Type 0 where
   pub answered : (input : List ℕ) × IsInput unread left input × (g.is_sound new → Answers token result input (g.shows old) (g.shows new))
   pub anyhow : g.is_honest new → g.is_sound new ⊎ ((input : List ℕ) × IsInput unread left input × MakesAnyhow token result input)

@@ -136,8 +136,8 @@ StaysServing (Err Read) sound before after = sound
 StaysServing (Err (Gate fault)) sound before after = ⊥
 StaysServing (Err TooMuch) sound before after = ⊥
 
--- ALL OF IT: one request is served over a book, if this token is needed, or none. `unread` and `left` are what the reader had before and
--- has after it, `blank` and `written` what the writer had taken, as far as that is known.
+-- ALL OF IT: one request is served over a book. `token` is the one that it needs, if it needs one. `unread` and `left` are what the reader
+-- has before and after it, `blank` and `written` what the writer has taken by then, as far as that is known.
 pub record ServesOne {B : Type 0} (g : book.Ghosts B) (token : Option (List ℕ)) (result : Result Served HookFault) (old new : B) (unread left blank written : Option (List ℕ)) : Type 0 where
   -- What is written, and the records after it, are those that the input asks for.
   pub served : (input : List ℕ) × IsInput unread left input × (g.is_sound new → AnswersOne token result input (g.shows old) (g.shows new) blank written)

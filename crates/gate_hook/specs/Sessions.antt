@@ -23,7 +23,7 @@ pub record Steps {B W X : Type 0} (g : book.Ghosts B) (may_come : (Fault → Typ
   pub stays : RemainsSound g old.keeper.now new.keeper.now (StaysSound result)
   pub cause : IfErr result (may_come g.may_answer)
 
--- WHAT EACH STEP SAYS: the line that is open is answered, and stays. At a fault of the gate nothing is written.
+-- WHAT ANSWERING A LINE SAYS: the line that is open is answered, and stays. At a fault of the gate nothing is written.
 pub record AnswersLine {B W : Type 0} (g : book.Ghosts B) (contents : W → Option (List ℕ)) (old new : Session B W) (result : Result (Unit {0}) HookFault) : Type 0 where
   pub answered : g.is_sound new.keeper.now
       → IsAnswered result (g.shows old.keeper.now) old.line (g.shows new.keeper.now) (contents old.writer.now) (contents new.writer.now)

@@ -54,12 +54,12 @@ pub record MakesQueue {A B : Type 0} (g : book.Ghosts B) (old new : B) (result :
   pub cause : IfErr result (IsOfKeepers g.may_answer)
   pub fault : IfErr result IsOfBooks
 
--- The text is that of the input which was read; `all` is what the reader had, and `left` what it still has.
+-- If the book is sound, the text is that of the input which was read. `all` is what the reader had, and `left` what it still has.
 abbrev pub MakesText : {A B : Type 0} → book.Ghosts B → B → B → Result (String A) HookFault → (all left : Option (List ℕ)) → Type 0
 MakesText g old new result all left =
     (input : List ℕ) × Consumes all left input × (g.is_sound new → IsMade (g.shows old) result input left (g.shows new))
 
--- The report is that of the input which was read, and the records are then those after its lines.
+-- If the book is sound, the report is that of the input which was read, and the records are those after its lines.
 abbrev pub Reports : {B : Type 0} → book.Ghosts B → B → B → Result (Unit {0}) HookFault → (all left before after : Option (List ℕ)) → Type 0
 Reports g old new result all left before after =
     (input : List ℕ) × Consumes all left input

@@ -12,7 +12,7 @@ use Rattle.gate_store.specs.declared.book.Book as book
 pub record LeadsTo {B T : Type 0} (g : book.Ghosts B) (old new : B) (after : Records) (acts : List Act) (met : Bool) (result : Result T Fault) : Type 0 where
   -- The records are those of the run.
   pub book : g.is_sound new → OnOk result (g.shows new ≡ after)
-  -- Each act tells what the history says of it.
+  -- Each of these acts tells what the history says of it, from the state of before on.
   pub tells : g.is_sound new → OnOk result (AllTell (g.shows old).state acts)
   -- A fault changes nothing.
   pub err : g.is_sound new → OnErr result (g.shows new ≡ g.shows old)
@@ -26,6 +26,7 @@ abbrev pub Delivers : {B T : Type 0} → book.Ghosts B → B → B → Delivery 
 Delivers g old new delivery result =
     LeadsTo g old new (after_delivery (g.shows old) delivery) (new_acts (g.shows old) delivery) (meets_full (g.shows old) delivery) result
 
+-- the acts of a delivery are performed and kept, as of one that is new
 abbrev pub Steps : {B T : Type 0} → book.Ghosts B → B → B → Delivery → Result T Fault → Type 0
 Steps g old new delivery result =
     LeadsTo g old new (stepped (g.shows old) delivery) (acts_in delivery) (acts_meet_full (g.shows old).state (acts_in delivery)) result

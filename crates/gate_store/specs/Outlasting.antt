@@ -1,4 +1,4 @@
--- WHAT EVERY CALL ON A BOOK says of the book's premise.
+-- WHAT A CALL ON A BOOK SAYS of the book's premise, and of what it commits.
 use Rattle.std.specs.Prelude.{Result}
 use Rattle.gate_queue.specs.declared.fault.Fault.{Fault}
 use Rattle.gate_store.specs.Calls.{Commits}

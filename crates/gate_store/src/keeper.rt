@@ -26,7 +26,8 @@ use std::marker::Model;
 /// What answers deliveries, lets each act once, and keeps the records of them in a book. A contract sees it as its book.
 ///
 /// Between deliveries it has the gate of the book at hand. So it loads only if there is none: for the first new delivery or the
-/// first look, and after a fault of acts, of their text or of a commit. To a commit it tells what was before the acts.
+/// first look, and after a fault of acts, of their text or of a commit. To a commit it tells what was performed: the acts, and
+/// what was before them.
 #[derive(Drop)]
 pub struct Keeper<B: Book> {
     book: B,

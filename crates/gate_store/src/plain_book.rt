@@ -20,7 +20,7 @@ use std::marker::Model;
 const MOST: usize = 4_096;
 
 /// A book in memory, without a database. A contract sees it as its records. It has a gate as it was some deliveries ago, and the acts
-/// since. So a commit of a keeper copies no gate, but one of 4,096.
+/// since. So a commit of a keeper copies no gate, but one of 4,097.
 #[derive(Drop)]
 pub struct PlainBook {
     gate: Gate,
@@ -47,7 +47,8 @@ impl Model for PlainBook {
 }
 
 impl PlainBook {
-    /// A book with the state of this gate, in which no answer is kept. It takes no memory; its map keeps the allocator.
+    /// A book with the state of this gate, in which no answer is kept. It takes no memory; its log and its map keep the
+    /// allocator.
     pub fn new(alloc: Global, gate: Gate) -> PlainBook
         ensures value { result ≡ record { state = gate; kept = empty } }
     {
@@ -121,7 +122,7 @@ impl Book for PlainBook {
         Ok(())
     }
 
-    /// Keeps the acts, or if there are many, a copy of the gate in their place.
+    /// Keeps the acts, and a copy of the answer. If the log is full, a copy of the gate takes its place.
     fn commit_since(
         &mut self,
         alloc: Global,

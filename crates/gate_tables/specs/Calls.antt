@@ -18,7 +18,7 @@ use Rattle.sqlite.specs.Store.{Ghosts}
 use Rattle.sqlite.specs.Tree.{Trees}
 use Rattle.sqlite.specs.declared.transaction.Transaction.{Transaction}
 
--- a statement of this text is understood, and does nothing besides
+-- a statement of this text is understood, has no RETURNING, and reads no clock
 abbrev pub Understands : List ℕ → State → Type 0
 Understands sql s = IsPlain (understood s.now.schema sql)
 
