@@ -1,6 +1,8 @@
 """Which version of the host this is, of which commit, and where the program of the bot stands: in a package, or in a checkout."""
 import hashlib
 import re
+import shlex
+import shutil
 from pathlib import Path
 from typing import Dict, Optional
 
@@ -22,6 +24,12 @@ def usual_program(proved: Path, checkout: Path) -> Path:
 
 
 PROGRAM = usual_program(PROVED, CHECKOUT)
+
+
+def command_of(script: Path = SCRIPT) -> str:
+    """How people call this host: by its name, if the PATH leads to it, or else by its path."""
+    found = shutil.which("gate-host")
+    return "gate-host" if found and Path(found).resolve() == script.resolve() else shlex.quote(str(script))
 
 
 def told_in(text: str) -> Dict[str, str]:

@@ -16,7 +16,7 @@ from .core.words import MOST_IN_SETTINGS
 from .faults import Trouble
 from .troubles import complain
 from .places import Places, is_open_to_others, make_identity, must_be_safe, name_of_user, person, pointed_to
-from .release import PROGRAM
+from .release import PROGRAM, command_of
 from .repository import BRANCHES, Repository
 from .settings import (
     FIRST_REPORTERS, FIRST_ROLES, FIRST_SETTINGS, Settings, read_reporters, read_roles, read_settings, reporters_in, roles_in, settings_in,
@@ -50,7 +50,7 @@ def set_up(repository: Path, arguments: argparse.Namespace) -> None:
     give_other_names(guarded, places, kept)
     add_settings_of_bot(guarded, places, kept)
     tell_what_is_missing(kept)
-    print(f"To begin: {shlex.quote(str(SCRIPT))} run {shlex.quote(str(repository))}")
+    print(f"To begin: {command_of()} run {shlex.quote(str(repository))}")
 
 
 def must_be_own(repository: Path) -> None:

@@ -1,9 +1,11 @@
 """Tests of which version a host is, of which commit, and which program it means."""
 import hashlib
+import os
 import shutil
 import subprocess
 import sys
 import unittest
+import unittest.mock
 from pathlib import Path
 
 sys.path.insert(0, str(Path(__file__).resolve().parent.parent))
@@ -11,7 +13,7 @@ sys.path.insert(0, str(Path(__file__).resolve().parent.parent))
 from folders import SCRIPT, InFolder  # noqa: E402
 from gate_host import VERSION  # noqa: E402
 from gate_host.faults import Trouble  # noqa: E402
-from gate_host.release import commit_of_checkout, release_in, sum_in, told_in, usual_program  # noqa: E402
+from gate_host.release import command_of, commit_of_checkout, release_in, sum_in, told_in, usual_program  # noqa: E402
 
 COMMIT = "0123456789abcdef0123456789abcdef01234567"
 SUM = "ab" * 32
@@ -34,6 +36,19 @@ class ReleaseTests(InFolder):
         self.assertEqual(told_in(PROVED), told)
         self.assertEqual(release_in(PROVED), f"gate-host {VERSION}, of commit {COMMIT}")
         self.assertEqual(sum_in(PROVED), SUM)
+
+    def test_a_host_on_the_path_is_called_by_its_name(self):
+        script = self.room / "lib/gate host/gate-host"
+        script.parent.mkdir(parents=True)
+        script.write_text("#!/bin/sh\n", encoding="utf-8")
+        script.chmod(0o755)
+        commands = self.room / "bin"
+        commands.mkdir()
+        with unittest.mock.patch.dict(os.environ, {"PATH": str(commands)}):
+            self.assertEqual(command_of(script), f"'{script}'")
+            (commands / "gate-host").symlink_to(script)
+            self.assertEqual(command_of(script), "gate-host")
+            self.assertEqual(command_of(SCRIPT), str(SCRIPT))
 
     def test_changes_that_arent_committed_are_told(self):
         text = PROVED.replace("tree: clean", "tree: with uncommitted changes")
