@@ -374,6 +374,13 @@ def show_change(arguments: argparse.Namespace) -> int:
     return 0
 
 
+def explain_change(arguments: argparse.Namespace) -> int:
+    status = explain(arguments)
+    if arguments.at is None and not is_running(find_places(arguments.repository)):
+        complain("no host runs at present, so nothing goes on; this is how it was when the last one ended")
+    return status
+
+
 def show_log(arguments: argparse.Namespace) -> int:
     number = arguments.change
     places = find_places(arguments.repository)
@@ -397,5 +404,5 @@ def plain_lines(text: str) -> str:
 JOBS = {
     "init": init, "run": run, "doctor": look_after, "say": say, "queue": show_queue, "change": show_change, "log": show_log,
     "hook": look_at_push, "ssh": serve_by_ssh, "status": report_status, "audit": audit,
-    "receive": receive, "explain": explain,
+    "receive": receive, "explain": explain_change,
 }

@@ -1,5 +1,6 @@
 """`gate-host explain` on a repository: what it reads, that it writes nothing, and what it refuses."""
 import json
+import os
 import shutil
 import sqlite3
 import stat
@@ -70,12 +71,17 @@ class CommandTests(InRepository):
             self.assertGreater((self.places.records / "journal.db-wal").stat().st_size, 0)
             before = self.files()
             ran = self.explain("11")
-            self.assertEqual((ran.returncode, ran.stderr), (0, ""))
+            self.assertEqual(ran.returncode, 0)
+            self.assertRegex(ran.stderr, "^gate-host: no host runs at present, .*\n$")
             self.assertEqual(ran.stdout.splitlines()[1], f"It is open, and approved by rosa {mark(approved)}.")
-            self.assertEqual(self.explain("11", "--at", "7").stdout.splitlines()[1], "It is open, and not approved.")
+            ran = self.explain("11", "--at", "7")
+            self.assertEqual((ran.stderr, ran.stdout.splitlines()[1]), ("", "It is open, and not approved."))
             document = json.loads(self.explain("11", "--json", "--at", approved).stdout)
             self.assertEqual(document["approved"]["mark"][1], approved)
             self.assertEqual(self.explain("99").stdout.splitlines()[1], "It was never opened.")
+            (self.places.reports / "process").write_text(str(os.getpid()), encoding="utf-8")
+            self.assertEqual(self.explain("11").stderr, "")
+            (self.places.reports / "process").unlink()
             self.assertEqual(self.files(), before)
         self.assertEqual(list(Path("/dev/shm").glob(f"{asking.PREFIX}*")), [])
 
