@@ -185,6 +185,17 @@ class BatchTests(unittest.TestCase):
         for change in (11, 12, 13):
             self.assertEqual(steps_of(story, change), due)
 
+    def test_a_long_way_is_cut(self):
+        """A batch that waits again and again, since the main branch moves: more often than a program may call itself."""
+        story = staged(11, settings='status = ["build"]\n')
+        for number in range(1, 1100):
+            story.happens("base", commit=f"{number:040x}")
+            story.ticks(1000)
+        lines = story.lines(11)
+        steps = lines[lines.index("What became of its batch:") + 1:]
+        self.assertEqual((len(steps), steps[-1]), (101, "  and so on"))
+        self.assertIn("batch 100 (change 11) was taken back", steps[-2])
+
     def test_a_time_that_is_over(self):
         """A status that isn't required fails nothing, whatever it says."""
         story = staged(11, 12)
@@ -230,6 +241,24 @@ class BatchTests(unittest.TestCase):
             "  batch 1 (changes 11, 12) was taken back: change 12 was pushed to eeeeeee by vera. Its other changes wait again "
             f"{mark(id)}",
             "  batch 2 (change 11) waits", f"  change 12 left: it was pushed (Pushed), to eeeeeee, by vera {mark(id)}",
+        ])
+        for event, more, due, why in (
+            ("closed", {"change": 12}, "change 12 was closed", "it is no open change any more (Closed)"),
+            ("labeled", {"change": 12, "label": "wip"}, "change 12 got the label wip",
+             "it has a label that blocks it (Labeled), the label wip"),
+        ):
+            story = staged(11, 12)
+            id = story.happens(event, **more)
+            self.assertEqual(steps_of(story, 12), [
+                f"  batch 1 (changes 11, 12) was taken back: {due}. Its other changes wait again {mark(id)}",
+                "  batch 2 (change 11) waits", f"  change 12 left: {why} {mark(id)}",
+            ])
+        story = staged(11, 12)
+        story.happens("labeled", change=12, label="docs")
+        id = story.happens("settings", text=SETTINGS.replace("wip", "docs"))
+        self.assertEqual(steps_of(story, 11), [
+            f"  batch 1 (changes 11, 12) was taken back: new settings are against a change of it. Its other changes wait again {mark(id)}",
+            "  batch 2 (change 11) waits", f"  change 12 left: by the new settings it may not be approved (Settings) {mark(id)}",
         ])
         story = staged(11, 12)
         id = story.says("rosa", 12, "bors p=4")

@@ -96,7 +96,7 @@ def explanation_of(change: int, moment: Moment, program: str, room: Path) -> Exp
     records = records_in(file, change, queue_after(program, moment, room))
     running = {it.number for it in records.queue if it.state != "waiting"}
     courses = courses_of(moment.events, {}, running)
-    texts = texts_to_ask(courses, changes_of_interest(change, moment.events, courses))
+    texts = texts_to_ask(courses, changes_of_interest(change, courses))
     if texts:
         courses = courses_of(moment.events, required_by(program, texts), running)
     is_to_ask = records.change.phase in (Phase.OPEN, Phase.CLOSED) and not records.change.is_approved

@@ -76,6 +76,8 @@ class Courses:
     def __init__(self, required: Mapping[str, Sequence[str]]):
         self.required = required
         self.all: Dict[int, Course] = {}
+        # Those of `staging` in which each change was, in their order.
+        self.of_change: Dict[int, List[Course]] = {}
         self.running: Dict[str, Course] = {}
         self.suspects: List[Suspect] = []
         self.settings = ""
@@ -175,7 +177,13 @@ class Courses:
         before = self.running.get(stage.branch)
         if before:
             self.close_unseen(before, event)
-        self.all[stage.batch] = self.running[stage.branch] = Course(stage, event, name)
+        course = self.all[stage.batch] = self.running[stage.branch] = Course(stage, event, name)
+        for change in stage.changes if stage.branch == "staging" else ():
+            self.of_change.setdefault(change, []).append(course)
+
+    def of(self, change: int) -> List[Course]:
+        """The batches of `staging` in which a change was, in the order in which they were ordered."""
+        return self.of_change.get(change, [])
 
     def close_unseen(self, course: Course, event: Event) -> None:
         """Nothing else said that it has ended: other settings did it, or else this reading of the clock."""

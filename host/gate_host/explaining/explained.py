@@ -5,7 +5,7 @@ from typing import Dict, List, Mapping, Optional, Sequence, Set, Tuple
 from ..core.orders import Denied
 from ..core.queue import QueuedBatch
 from .courses import HALVED, Course, Courses, End
-from .events import Event, Mark, Moment
+from .events import Mark, Moment
 from .lives import Leaving, Life
 from .records import Asked, BatchRow, ChangeRow, Phase, Records
 
@@ -128,6 +128,7 @@ class Explanation:
     trying: Optional[QueuedBatch] = None
     left: Optional[Left] = None
     steps: Tuple[Step, ...] = ()
+    has_more_steps: bool = False
 
 
 @dataclass(frozen=True)
@@ -146,6 +147,7 @@ def explained(number: int, story: Story, asked: Sequence[Asked]) -> Explanation:
     place, left = place_of(number, story.records.queue), last_leaving(number, story, life)
     trying = next((it for it in story.records.queue if it.branch == "trying" and number in it.changes), None)
     is_on_its_way = change.phase is not Phase.LANDED
+    steps = steps_of(number, story, life) if is_on_its_way else []
     return Explanation(
         number, story.moment.last, change, story.moment.waiting,
         life.closed.mark if life.closed and change.phase is Phase.CLOSED else None,
@@ -153,7 +155,7 @@ def explained(number: int, story: Story, asked: Sequence[Asked]) -> Explanation:
         approved_by(life) if change.is_approved or not is_on_its_way else None,
         groups_of(asked, change), place, run_of(story) if place else None, trying,
         left if is_on_its_way and not change.is_approved else None,
-        tuple(steps_of(number, story, life)[:MOST_STEPS]) if is_on_its_way else (),
+        tuple(steps[:MOST_STEPS]), len(steps) > MOST_STEPS,
     )
 
 
@@ -163,8 +165,8 @@ def approved_by(life: Life) -> Optional[Approved]:
 
 
 def landed_by(number: int, courses: Courses) -> Optional[Landed]:
-    for course in courses.all.values():
-        if course.end is End.LANDED and course.ended and number in course.stage.changes:
+    for course in courses.of(number):
+        if course.end is End.LANDED and course.ended:
             return Landed(course.stage.batch, tuple(course.stage.changes), course.ended.commit, course.ended.mark)
     return None
 
@@ -235,7 +237,7 @@ def last_leaving(number: int, story: Story, life: Life) -> Optional[Left]:
 
 def left_of(number: int, leaving: Leaving, courses: Courses) -> Left:
     event = leaving.event
-    ended = next((it for it in courses.all.values() if it.ended is event and number in it.stage.changes and it.end in HALVED), None)
+    ended = next((it for it in courses.of(number) if it.ended is event and it.end in HALVED), None)
     is_settings = leaving.why == "Settings"
     return Left(
         leaving.why, leaving.name or (event.name if event.kind == "labeled" else ""), "" if is_settings else event.person,
@@ -248,30 +250,28 @@ def steps_of(number: int, story: Story, life: Life) -> List[Step]:
     if not life.approvals:
         return []
     since = life.approvals[-1].event.mark.number
-    first = next((it for it in ordered(story.courses) if number in it.stage.changes and it.ordered.mark.number > since), None)
+    first = next((it for it in story.courses.of(number) if it.ordered.mark.number > since), None)
+    steps: List[Step] = []
     # A batch whose run goes on is told of by its place.
-    return steps_from(first, story, 0) if first and first.end else []
-
-
-def ordered(courses: Courses) -> List[Course]:
-    """The batches of `staging`, in the order in which they were ordered."""
-    return [course for course in courses.all.values() if course.stage.branch == "staging"]
-
-
-def steps_from(course: Course, story: Story, depth: int) -> List[Step]:
-    """A batch and what came of it: its halves one level below it, and what waits again on the same level."""
-    steps = [step_of(course, story, depth)]
-    if course.end is None or course.end is End.LANDED or course.ended is None:
-        return steps
-    below = depth + (course.end in HALVED)
-    if course.end in HALVED and len(course.stage.changes) == 1:
-        return steps
-    for part in parts_after(course, story):
-        if part.course:
-            steps += steps_from(part.course, story, below) if len(steps) < MOST_STEPS else []
-        else:
-            steps.append(last_step(part, story, below))
+    if first and first.end:
+        add_steps(steps, first, story, 0)
     return steps
+
+
+def add_steps(steps: List[Step], course: Course, story: Story, depth: int) -> None:
+    """Adds a batch and what came of it: its halves one level below it, and what waits again on the same level. One more than the most is
+    enough to know that there are more."""
+    steps.append(step_of(course, story, depth))
+    is_halved = course.end in HALVED
+    if course.end in (None, End.LANDED) or is_halved and len(course.stage.changes) == 1:
+        return
+    for part in parts_after(course, story):
+        if len(steps) > MOST_STEPS:
+            return
+        if part.course:
+            add_steps(steps, part.course, story, depth + is_halved)
+        else:
+            steps.append(last_step(part, story, depth + is_halved))
 
 
 @dataclass
@@ -305,8 +305,7 @@ def is_same(one: Part, other: Part) -> bool:
 
 def part_after(change: int, course: Course, number: int, story: Story) -> Part:
     later = next((
-        it for it in ordered(story.courses)
-        if change in it.stage.changes and it.stage.batch > course.stage.batch and it.ordered.mark.number >= number
+        it for it in story.courses.of(change) if it.stage.batch > course.stage.batch and it.ordered.mark.number >= number
     ), None)
     # A batch that is landing keeps a change that has left meanwhile.
     left = story.lives.get(change, Life()).left_after(course.ordered.mark.number)
@@ -339,10 +338,9 @@ def step_of(course: Course, story: Story, depth: int) -> Step:
     )
 
 
-def changes_of_interest(number: int, events: Sequence[Event], courses: Courses) -> Set[int]:
+def changes_of_interest(number: int, courses: Courses) -> Set[int]:
     """The changes that were in a batch with this one, itself included."""
     found = {number}
-    for course in ordered(courses):
-        if number in course.stage.changes:
-            found.update(course.stage.changes)
+    for course in courses.of(number):
+        found.update(course.stage.changes)
     return found

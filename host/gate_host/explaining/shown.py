@@ -45,6 +45,8 @@ def lines_of(found: Explanation) -> Iterator[str]:
     if found.steps:
         yield "What became of its batch:"
         yield from (f"{'  ' * (step.depth + 1)}{line_of_step(step)}" for step in found.steps)
+    if found.has_more_steps:
+        yield "  and so on"
     if found.waiting:
         are = "deliveries of the journal have" if found.waiting > 1 else "delivery of the journal has"
         yield f"{found.waiting} {are} no answer yet, so this may be another way soon."
