@@ -11,6 +11,7 @@ from . import VERSION, ssh_command
 from .audit.audit import audit
 from .bare import run_host
 from .doctor import checks_of, release_checked, stray_named
+from .explaining.asking import explain
 from .git import GitFailed
 from .github import starting
 from .github.doctor import checks_on_github
@@ -18,7 +19,7 @@ from .github.settings import read_github
 from .hook import before_push
 from .core.commands import command_lines
 from .core.notes import (
-    MOST_IN_COMMENT, MOST_IN_DESCRIPTION, STATES, AcceptanceLeft, CommentLeft, ReportLeft, is_commit, is_description,
+    LAST_CHANGE, MOST_IN_COMMENT, MOST_IN_DESCRIPTION, STATES, AcceptanceLeft, CommentLeft, ReportLeft, is_commit, is_description,
     is_name_of_status,
 )
 from .core.words import plain
@@ -140,7 +141,20 @@ def add_jobs_of_people(jobs: "argparse._SubParsersAction[argparse.ArgumentParser
         "Shows what was said of a change, and the output of the last check of it that has failed."))
     job.add_argument("change", type=int, metavar="CHANGE")
     job.add_argument("--all", action="store_true", help="show the outputs of all its checks")
+    job = add("explain", "say what stands between a change and the main branch", (
+        "Says who could approve a change that isn't approved, what one that is approved waits for, and why it left the queue last: by the "
+        "journal and the program of the bot, so for the owner of the repository, and for who asks by ssh."))
+    job.add_argument("change", type=number_of_change, metavar="CHANGE")
+    job.add_argument("--at", metavar="DELIVERY", help="say it for the moment after this delivery, by its identifier or number")
+    job.add_argument("--json", action="store_true", help="print one document of JSON")
     add("hook", "what git runs before a push", "Looks at a push, whose updates stand on standard input. Git runs this.")
+
+
+def number_of_change(word: str) -> int:
+    """The number of a change, for argparse, which tells of it if it is none."""
+    if not (word.isascii() and word.isdigit()) or not 0 < int(word) <= LAST_CHANGE:
+        raise argparse.ArgumentTypeError(f"{word!r} is no number of a change")
+    return int(word)
 
 
 def entry() -> NoReturn:
@@ -361,6 +375,13 @@ def show_change(arguments: argparse.Namespace) -> int:
     return 0
 
 
+def explain_change(arguments: argparse.Namespace) -> int:
+    status = explain(arguments)
+    if arguments.at is None and not is_running(find_places(arguments.repository)):
+        complain("no host runs at present, so nothing goes on; this is how it was when the last one ended")
+    return status
+
+
 def show_log(arguments: argparse.Namespace) -> int:
     number = arguments.change
     places = find_places(arguments.repository)
@@ -384,5 +405,5 @@ def plain_lines(text: str) -> str:
 JOBS = {
     "init": init, "run": run, "doctor": look_after, "say": say, "queue": show_queue, "change": show_change, "log": show_log,
     "hook": look_at_push, "ssh": serve_by_ssh, "status": report_status, "audit": audit,
-    "receive": receive,
+    "receive": receive, "explain": explain_change,
 }

@@ -4,7 +4,6 @@ The queue and the changes are texts of the bot, byte for byte. Since the bot tha
 beside it for that, over a copy of its file. It is handed in what was answered when a report is due. If it is lost, it is made again.
 """
 import os
-import re
 import shutil
 import sqlite3
 import tempfile
@@ -15,6 +14,7 @@ from typing import Callable, Collection, Dict, List, Optional, Sequence, Set, Tu
 from .bot_file import copy_up_to_date, has_file
 from .core.deliveries import Delivery
 from .core.head_status import Place
+from .core.queue import batches_in
 from .core.words import plain
 from .faults import Trouble
 from .journal import Journal
@@ -36,8 +36,6 @@ SECONDS_OF_HANDING_IN = 1.0
 SECONDS_OF_ASKING = 0.05
 # The base, the clock and the heading. Below them is a line for each batch.
 LINES_WITHOUT_BATCH = 3
-# A line of a batch: its number, its branch, its state, its priority and its changes.
-BATCH = re.compile(r" *([0-9]+) ([a-z]+) +([a-z]+) +(-?[0-9]+) ([0-9,]+)")
 # The file that has the identifier of the delivery up to which all is written, and what names the start of the system by then.
 MARK = ".written-up-to"
 BOOT = Path("/proc/sys/kernel/random/boot_id")
@@ -130,9 +128,8 @@ class Reports:
 
     def places_in_queue(self) -> Dict[int, Place]:
         """Where each approved change is in the queue, as the report of that had it last."""
-        found = [it for it in map(BATCH.fullmatch, (self.queue or "").split("\n")) if it and it[2] == "staging"]
-        places = [(Place(int(it[1]), it[3], number), it[5]) for number, it in enumerate(found, 1)]
-        return {int(change): place for place, changes in places for change in changes.split(",")}
+        found = [it for it in batches_in(self.queue or "") if it.branch == "staging"]
+        return {change: Place(it.number, it.state, number) for number, it in enumerate(found, 1) for change in it.changes}
 
     @property
     def is_current(self) -> bool:

@@ -28,14 +28,18 @@ SERVICES = ("receive-pack", "upload-pack", "upload-archive")
 # How each job of gate-host is asked for, and with which options.
 USES = {
     "say": "say CHANGE [TEXT] [--head COMMIT]", "queue": "queue", "change": "change NUMBER", "log": "log NUMBER [--all]",
-    "status": "status COMMIT NAME STATE [--description TEXT]",
+    "status": "status COMMIT NAME STATE [--description TEXT]", "explain": "explain NUMBER [--at DELIVERY] [--json]",
 }
 OPTIONS = {
     "say": ("--repository", "--head"), "queue": ("--repository",), "change": ("--repository",), "log": ("--repository", "--all"),
-    "status": ("--repository", "--description"),
+    "status": ("--repository", "--description"), "explain": ("--repository", "--at", "--json"),
 }
+# Those that have no value.
+FLAGS = ("--all", "--json")
 NUMBER = re.compile(r"[1-9][0-9]{0,9}")
 COMMIT = re.compile(r"[0-9a-f]{40}")
+# A delivery is named by its identifier or its number.
+DELIVERY = re.compile(r"[!-~]{1,128}")
 PROTOCOL = re.compile(r"version=[012]")
 # What sshd says of the account and of the connection. It says so after what a client sends, which therefore doesn't count.
 KEPT = ("HOME", "LOGNAME", "PATH", "SSH_CLIENT", "SSH_CONNECTION", "USER")
@@ -79,7 +83,8 @@ def serve(person: str, repositories: List[Path], asked: str) -> int:
 def greet(who: str, repositories: Sequence[Path]) -> int:
     """Answers a client that asks for nothing. It wants a shell and gets none, so it is told by the status that nothing was done: a script
     that writes commands to that shell must not take them for done."""
-    complain(f"you are {who} here. Clone, fetch and push {listed(repositories)}, or ask for gate-host say, queue, change, log or status.")
+    jobs = "gate-host say, queue, change, log, explain or status"
+    complain(f"you are {who} here. Clone, fetch and push {listed(repositories)}, or ask for {jobs}.")
     return 1
 
 
@@ -100,7 +105,7 @@ def request_in(asked: str, repositories: Sequence[Path]) -> Union[Service, Job]:
     if words[:1] == ["gate-host"]:
         del words[0]
     if not words or words[0] not in USES:
-        raise Trouble("this account runs git and gate-host say, queue, change, log and status, and no other command")
+        raise Trouble("this account runs git and gate-host say, queue, change, log, explain and status, and no other command")
     return job_in(words[0], words[1:], repositories)
 
 
@@ -134,7 +139,10 @@ def job_in(job: str, words: Sequence[str], repositories: Sequence[Path]) -> Job:
     if not COMMIT.fullmatch(options.get("--head", "0" * 40)):
         raise Trouble("--head takes a commit with its 40 digits")
     more = ["--head", options["--head"]] if "--head" in options else []
-    more += ["--all"] if "--all" in options else []
+    if not DELIVERY.fullmatch(options.get("--at", "1")):
+        raise Trouble("--at takes the identifier of a delivery or its number")
+    more += [f"--at={options['--at']}"] if "--at" in options else []
+    more += [flag for flag in FLAGS if flag in options]
     # A text goes to the job on standard input, so no word of it can be taken for an option.
     more += [*numbers, "-"] if job == "say" else numbers
     text = " ".join(texts) if texts and texts != ["-"] else None
@@ -165,9 +173,9 @@ def options_in(job: str, words: Sequence[str]) -> Tuple[Dict[str, str], List[str
         if not word.startswith("-") or word == "-" or (name not in OPTIONS[job] and re.search(r"\s", word)):
             others.append(word)
             continue
-        if name not in OPTIONS[job] or name in options or (name == "--all" and equals):
+        if name not in OPTIONS[job] or name in options or (name in FLAGS and equals):
             raise misuse(job)
-        options[name] = value if equals or name == "--all" else next(rest, "")
+        options[name] = value if equals or name in FLAGS else next(rest, "")
     return options, others
 
 

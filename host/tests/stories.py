@@ -452,14 +452,22 @@ exec {git} "$@"
         self.push("otto", 22, {"parts/b": f"while test -e {wait}; do sleep 0.1; done\n"})
         self.say("rosa", 22, "bors r+")
         self.until("it is staged", lambda: "staging staged" in self.report("queue"))
-        self.push("vera", 22, {"parts/b": "test 1 -gt 0\n"})
+        self.explained(22, "It is open, and approved by rosa [", "), which is being tested.\n", "\n  the check build is open\n")
+        head = self.push("vera", 22, {"parts/b": "test 1 -gt 0\n"})
         self.told(22, "(Pushed)")
+        self.explained(22, "\nbors r+ would approve it now if rosa said so.\n", f"since it was pushed (Pushed), to {head[:7]}, by vera [")
         self.say("rosa", 22, "bors r+")
         # The check of the commit before is stopped, although it waits.
         self.told(22, "Landed on main")
+        self.explained(22, "\nIt has landed as ", "\nIt was approved by rosa [")
         wait.unlink()
         self.push("vera", 22, {"parts/b": "test 3 -gt 0\n"})
         self.told(22, "Push it as another change")
+
+    def explained(self, change, *words):
+        """While the host runs, an explanation of a change has these words."""
+        said = self.show("explain", str(change))
+        must(f"whether {words} are in {said}", all(it in said for it in words))
 
     def a_branch_goes_and_comes_back(self):
         self.push("otto", 23, {"parts/c": "test 1 -gt 0\n"})

@@ -25,7 +25,7 @@ from gate_host.places import Places  # noqa: E402
 from gate_host.setting_up import make_folders  # noqa: E402
 from with_sshd import ACCOUNT, SCP, SFTP, WithSshd, blocks_of_page  # noqa: E402
 
-NOTHING_ELSE = "this account runs git and gate-host say, queue, change, log and status, and no other command"
+NOTHING_ELSE = "this account runs git and gate-host say, queue, change, log, explain and status, and no other command"
 NO_REPOSITORY = "there is no such repository here, but "
 ONE_PATH = " takes the path of a repository here, and nothing else"
 OPEN_QUOTE = "a quote in it isn't closed"
@@ -115,6 +115,18 @@ class AskedTests(unittest.TestCase):
         for asked in ("status", f"status {HEAD} build", f"status {HEAD[1:]} build success", f"status {HEAD} build fine",
                       f"status {HEAD} '- x' success", f"status {HEAD} build success more", f"status --head {HEAD} build success"):
             self.refused(asked, OF_STATUS)
+
+    def test_an_explanation_is_asked_for(self):
+        for asked, *due in (
+            ("explain 7", "7"), ("gate-host explain 7 --at tick-17.0", "--at=tick-17.0", "7"),
+            ("explain --json --at=31 7", "--at=31", "--json", "7"), ("explain 7 --at --json", "--at=--json", "7"),
+        ):
+            self.runs_job(asked, "explain", *due)
+        for asked in ("explain", "explain x", "explain 7 8", "explain 7 --json=yes", "explain 7 --program /bin/sh", "explain 7 --all",
+                      "explain 7 --at 1 --at 2"):
+            self.refused(asked, "ask for it as gate-host explain NUMBER [--at DELIVERY] [--json], if need be with --repository NAME")
+        for asked in ("explain 7 --at ''", "explain 7 --at 'a b'", f"explain 7 --at={'x' * 129}"):
+            self.refused(asked, "--at takes the identifier of a delivery or its number")
 
     # Git
 

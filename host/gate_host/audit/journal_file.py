@@ -34,7 +34,7 @@ def must_be_journal(path: Path, version: int) -> None:
     if version in (1, 2):
         raise Trouble(
             f"{path} is a journal of version {version}; start the host of today once on it (gate-host run), which brings it to version "
-            f"{VERSION}, and audit that"
+            f"{VERSION}"
         )
     if version != VERSION:
         raise Trouble(f"{path} is no journal of version {VERSION}: it says that it is of version {version}")
@@ -68,7 +68,7 @@ def copy(path: Path, folder: Path) -> Path:
         if marks_of(path, log) == before:
             return copied
         time.sleep(PAUSE)
-    raise Trouble(f"{path} is written all the time; audit a copy that was made while no host ran")
+    raise Trouble(f"{path} is written all the time; try again, or with a copy that was made while no host ran")
 
 
 def marks_of(*paths: Path) -> List[Optional[Tuple[int, int, int]]]:

@@ -2,7 +2,8 @@
 import os
 import subprocess
 import tempfile
-from typing import List, Sequence
+from pathlib import Path
+from typing import List, Optional, Sequence
 
 from ..faults import Trouble
 from .entries import Finding, Row, shown
@@ -39,15 +40,16 @@ def beginning_at_difference(text: str, other: str) -> str:
     return shown(text) if same < MOST_SAME else f"..{shown(text[same - MOST_SAME // 2:])}"
 
 
-def answers_of(program: str, lines: Sequence[str]) -> List[str]:
-    """What the program answers to each line, all of one run without records of before."""
+def answers_of(program: str, lines: Sequence[str], records: Optional[Path] = None) -> List[str]:
+    """What the program answers to each line, all of one run without records of before. It leaves its records in a file, if one is named."""
+    command = [program, "run", *(["--db", str(records)] if records else [])]
     with tempfile.TemporaryFile() as given, tempfile.TemporaryFile() as written, tempfile.TemporaryFile() as said:
         for line in lines:
             # One that breaks in two would give two answers. As it stands it is no delivery, and so it is none with a space there.
             given.write(line.replace("\n", " ").encode("utf-8", "replace") + b"\n")
         given.seek(0)
         try:
-            ran = subprocess.run([program, "run"], stdin=given, stdout=written, stderr=said, timeout=SECONDS, check=False)
+            ran = subprocess.run(command, stdin=given, stdout=written, stderr=said, timeout=SECONDS, check=False)
         except OSError as fault:
             raise Trouble(f"{program} can't be started: {fault.strerror}") from fault
         except subprocess.TimeoutExpired:
