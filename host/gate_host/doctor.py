@@ -128,7 +128,7 @@ def program_checked(program: Path) -> Iterator[Checked]:
     elif program.resolve() == PROGRAM.resolve():
         yield Checked(False, f"it isn't the program that was proved: {PROVED} has another sum; install the package again")
     else:
-        yield note(f"it isn't the program of the package, which is {PROGRAM}; the command gate is a script before that")
+        yield note(f"it isn't the program of the package, which is {PROGRAM}")
 
 
 def in_records(places: Places, is_running: bool) -> Iterator[Checked]:
