@@ -39,6 +39,26 @@ list_crates() {
     order+=("$1")
 }
 
+# Takes note of the verdict of a crate, if the line $1 of `rt ci` is one: of those below the heading of a crate the last one counts. Its
+# tests have a heading of their own. The caller has `verdicts`, and `of_crate`, which keeps the heading from one line to the next.
+note_verdict() {
+    case $1 in
+    "== "*) of_crate=${1#== } ;;
+    "logic=proved "*) [[ ! $of_crate =~ ^[a-z_]+$ ]] || verdicts[$of_crate]=$1 ;;
+    esac
+}
+
+# Prints the crates of the program, by the tree $1, that `verdicts` lacks.
+without_verdict() {
+    local top=$1 it
+    local -a order=()
+    local -A needs=()
+    list_crates gate_bot
+    for it in "${order[@]}"; do
+        [[ -v verdicts[$it] ]] || echo "$it"
+    done
+}
+
 # Writes into the file $1, beside a program, what was proved of it: from the sources $2, compiled by the compiler $3. On standard input
 # stands the verdict of each crate, as the kit prints it, behind the name of the crate. `deploy/package` reads this.
 note_verdicts() {
