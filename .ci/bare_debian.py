@@ -1,9 +1,13 @@
 """A bare Debian 12 by debootstrap, in which `.ci/test_package` installs the package. It needs root, and a mirror of Debian."""
 import os
+import re
 import shutil
 import subprocess
 import time
+from http.client import HTTPException
 from pathlib import Path
+from urllib.error import HTTPError
+from urllib.request import urlopen
 
 from package_tree import must, ran
 from programs import Failed
@@ -11,9 +15,11 @@ from programs import Failed
 CODENAME = "bookworm"
 # So long a kept one is used. Then a new one has the packages of its day.
 MOST_SECONDS = 30 * 24 * 3600
-# Which mirror this machine's apt uses, and else that of Debian.
+# The mirror if this machine's apt has none of Debian 12.
 MIRROR = "http://deb.debian.org/debian"
 SECONDS = 900
+# So long the mirror may take for one small file.
+MIRROR_SECONDS = 60
 
 
 def why_not():
@@ -31,6 +37,31 @@ def mirror():
     return next((it[0].rstrip("/") for it in lines if it[1:] == [CODENAME, "main"]), MIRROR)
 
 
+def mirror_fault():
+    """Why the mirror can't be reached, or nothing. It is asked for the file that each mirror of Debian 12 has. Whatever it answers, it is
+    reached, but for a status from 500 on, by which a proxy says that it doesn't reach it."""
+    try:
+        with urlopen(f"{mirror()}/dists/{CODENAME}/Release", timeout=MIRROR_SECONDS) as response:
+            response.read()
+    except HTTPError as fault:
+        return f"the mirror can't be reached: {fault}" if fault.code >= 500 else ""
+    except (OSError, HTTPException) as fault:
+        return f"the mirror can't be reached: {fault}"
+    return ""
+
+
+def remove_all(root):
+    """Removes the folder of a Debian, if it is there. What is mounted in it is unmounted before, since else that would be emptied too."""
+    mounts = [line.split(" ")[4] for line in Path("/proc/self/mountinfo").read_text(encoding="utf-8").splitlines()]
+    # A space and its like stand there as the octal number of the byte.
+    paths = [Path(re.sub(r"\\(\d{3})", lambda it: chr(int(it[1], 8)), mount)) for mount in mounts]
+    # What was mounted last lies above the rest.
+    for path in reversed(paths):
+        if path.is_relative_to(Path(root).resolve()):
+            must(["umount", "--lazy", path])
+    must(["rm", "-rf", "--one-file-system", root], timeout=SECONDS)
+
+
 def kept_archive():
     """An archive with a bare Debian, which stands in the folder for such things of the user. It is made if it isn't there."""
     folder = Path(os.environ.get("XDG_CACHE_HOME") or Path.home() / ".cache") / "gate"
@@ -38,13 +69,16 @@ def kept_archive():
     if archive.exists() and time.time() - archive.stat().st_mtime < MOST_SECONDS:
         return archive
     folder.mkdir(parents=True, exist_ok=True)
+    # Two of these tests may run at the same time.
     room = folder / f".{CODENAME}-{os.getpid()}"
+    made = room.with_name(f"{room.name}.tar")
     try:
         must(["debootstrap", "--variant=minbase", CODENAME, room, mirror()], timeout=SECONDS)
-        must(["tar", "-C", room, "--numeric-owner", "-cf", folder / f".{CODENAME}.tar", "."], timeout=SECONDS)
-        os.replace(folder / f".{CODENAME}.tar", archive)
+        must(["tar", "-C", room, "--numeric-owner", "-cf", made, "."], timeout=SECONDS)
+        os.replace(made, archive)
     finally:
-        shutil.rmtree(room, ignore_errors=True)
+        made.unlink(missing_ok=True)
+        remove_all(room)
     return archive
 
 

@@ -13,7 +13,7 @@ VERSION = re.search(r"^## (\d+\.\d+\.\d+)", (TOP / "CHANGELOG.md").read_text(enc
 CRATES = ("gate_bot", "gate_text", "gate_words")
 KIT = "stub-kit-1 logic 0"
 COMPILER = "a compiler"
-# When the commit of a tree was made: a day that is over, so that no clock is at it.
+# When the commit of a tree was made: a day in the past, so that a time taken from the clock is never equal to it.
 MADE = 1_750_000_000
 # A program that says what it was given, and ends with a status of its own.
 STUB = f"""\
@@ -70,7 +70,8 @@ class Tree:
         self.folder.mkdir(parents=True)
         left_out = [f"--exclude={it}" for it in ("out", ".git", "__pycache__", "must-fail", "./host/tests", "./bench", "./crates")]
         must(["tar", "-C", source, *left_out, "-cf", self.folder / "it.tar", ".", *(f"crates/{it}" for it in CRATES)])
-        must(["tar", "-C", self.folder, "-xf", self.folder / "it.tar"])
+        # Else the files are those of the owner of the tree when root unpacks them.
+        must(["tar", "-C", self.folder, "--no-same-owner", "-xf", self.folder / "it.tar"])
         (self.folder / "it.tar").unlink()
         self.git("init", "--quiet", "--initial-branch=main")
         self.commit("All")
