@@ -5,6 +5,7 @@ from typing import Callable, FrozenSet, List, Mapping, Tuple, TypeVar
 
 from .after_landing import AfterLandings
 from .checks import Checks
+from .core.broken import MAIN
 from .core.deliveries import touched
 from .core.known import Known, Test
 from .core.words import landing_of
@@ -13,8 +14,10 @@ from .guarded import BranchesAndNotes, Guarded
 from .inspection import findings, must_be_guarded
 from .journal import Journal
 from .kept_bot import KeptBot
+from .landing_times import lines_of_estimates
 from .locks import take_lock, take_lock_of_git
 from .loop import Host
+from .on_event import OnEvents
 from .places import Places, must_be_safe, name_of_user
 from .ports import Ports
 from .reports import Reports
@@ -22,6 +25,7 @@ from .repository import Repository
 from .sandbox import sandbox_of
 from .setting_up import mend_hook
 from .settings import Settings, read_reporters, read_roles, read_settings
+from .showing.files import Around, Pages
 from .spool import ROUNDS_FOR_ALL, Spool
 from .troubles import Troubles, complain
 
@@ -90,9 +94,12 @@ def run_host(places: Places, is_all_again: bool) -> None:
     reports = Reports(places, journal, complain)
     known = journal.known(lambda then, it: reports.note(it.delivery, touched(it.delivery, it.orders, then)))
     reports.more_of = lambda change: landing_of(known.landing_of(change), change)
-    reports.begin(known.changes)
+    reports.more_of_queue = lambda queue: lines_of_estimates(known, queue, SystemClock().now())
     troubles = Troubles()
     bot = KeptBot(places, journal, lambda: files.settings.program, is_all_again, lambda: host.ending)
+    around = Around(places.repository.name, "", files, bot.has_read, lambda: bot.starts, repository.title_of, SystemClock().now)
+    reports.pages = Pages(places.reports, journal, known, around)
+    reports.begin(known.changes)
     ports = ports_of(places, files, repository, journal, known, bot, reports)
     host = Host(ports, known, name_of_user(owner), ROUNDS_FOR_ALL, troubles)
     try:
@@ -111,13 +118,15 @@ def ports_of(
 
     def bring(test: Test) -> None:
         batch = known.batch_of(test.batch)
-        if batch:
+        if test.branch == MAIN:
+            repository.must_have("main", test.commit)
+        elif batch:
             guarded.bring(batch)
 
     return Ports(
         source=BranchesAndNotes(places, repository, Spool(places, files.owner, complain)), repository=guarded,
         runner=Checks(places, repository, bring), bot=bot, journal=journal, clock=SystemClock(),
-        board=reports, owner=files, after=AfterLandings(places, journal, files.main),
+        board=reports, owner=files, after=AfterLandings(places, journal, files.main), on_event=OnEvents(places, journal),
     )
 
 

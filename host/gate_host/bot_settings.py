@@ -37,7 +37,7 @@ def read_settings(program: str, text: str, room: Optional[Path] = None) -> Readi
     found = wanted_of(program, text, room)
     remarks = tuple(map(remark_on, unknown_keys(text)))
     if isinstance(found, Wanted):
-        return Reading(tuple(found.statuses), tuple(found.pr_statuses), found.approvals, "", remarks)
+        return Reading(tuple(found.statuses), tuple(found.pr_statuses), found.approvals, "", remarks, found.timeout)
     return Reading(refusal=refusal_in_words(program, text, found, room), remarks=remarks)
 
 

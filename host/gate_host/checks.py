@@ -21,6 +21,7 @@ from typing import Callable, Dict, Iterator, List, Mapping, Optional, Sequence, 
 
 from .check_runner import KILLED, NOBODYS, UNRUN
 from .git import GitFailed, clean_environment
+from .core.broken import MAIN
 from .core.known import Test
 from .faults import Trouble
 from .places import Places
@@ -293,7 +294,7 @@ class Checks:
 def output_of(test: Test, name: str, settings: Settings) -> str:
     """The name of the file with the output of a check."""
     place = list(settings.checks).index(name)
-    return f"{test.batch}-{place}-{re.sub(r'[^A-Za-z0-9._-]', '_', name)[:80]}"
+    return f"{test.batch}-{place}-{re.sub(r'[^A-Za-z0-9._-]', '_', name)[:80]}{'-on-main' if test.branch == MAIN else ''}"
 
 
 def lack_of_room(folder: Path, size: int) -> str:

@@ -19,9 +19,10 @@ class BotEnded(Exception):
 class Bot:
     """A running bot. It ends with its input, and so with the host, however that ends."""
 
-    def __init__(self, program: str, database: Path):
+    def __init__(self, program: str, database: Optional[Path]):
+        """Starts it over the records in a file, or without any."""
         self.said = tempfile.TemporaryFile()
-        command = [program, "run", "--db", str(database)]
+        command = [program, "run", *(["--db", str(database)] if database else [])]
         try:
             self.process = subprocess.Popen(
                 command, stdin=subprocess.PIPE, stdout=subprocess.PIPE, stderr=self.said, bufsize=0, start_new_session=True,

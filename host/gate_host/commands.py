@@ -1,11 +1,12 @@
 """The command line of gate-host."""
 import argparse
+import json
 import os
 import re
 import sqlite3
 import sys
 from pathlib import Path
-from typing import List, NoReturn, Optional
+from typing import Dict, List, Mapping, NoReturn, Optional
 
 from . import VERSION, ssh_command
 from .audit.audit import audit
@@ -19,18 +20,22 @@ from .github.settings import read_github
 from .hook import before_push
 from .core.commands import command_lines
 from .core.notes import (
-    LAST_CHANGE, MOST_IN_COMMENT, MOST_IN_DESCRIPTION, STATES, AcceptanceLeft, CommentLeft, ReportLeft, is_commit, is_description,
-    is_name_of_status,
+    LAST_CHANGE, MOST_IN_COMMENT, MOST_IN_DESCRIPTION, STATES, AcceptanceLeft, CommentLeft, FreezeLeft, ReportLeft, ThawLeft, is_commit,
+    is_description, is_name_of_status, is_reason,
 )
+from .core.orders import Json, Unread, table_in
 from .core.words import plain
 from .locks import is_locked
 from .troubles import complain
 from .faults import Trouble
 from .places import Places, asked_of_git, find_places, must_be_safe, name_of_user, person_here, pointed_to
 from .release import PROGRAM
-from .settings import read_reporters, read_settings
+from .settings import read_reporters, read_roles, read_settings
 from .setting_up import must_be_own, set_up
+from .showing.documents import json_of, log_document
+from .showing.logs import NoLog, entries_in
 from .spool import leave
+from .supposing.asking import suppose
 
 OUTPUT = re.compile(r"    output: ([0-9]+-[0-9]+-[A-Za-z0-9._-]+)")
 # A shorter beginning of the name of a commit says too little.
@@ -134,20 +139,39 @@ def add_jobs_of_people(jobs: "argparse._SubParsersAction[argparse.ArgumentParser
     job.add_argument("name", metavar="NAME", help="the name of the status, as bors.toml has it")
     job.add_argument("state", choices=STATES, help="how it stands")
     job.add_argument("--description", default="", metavar="TEXT", help="more about it, as the address of the build")
-    add("queue", "show the queue", "Shows the main branch, the batches that wait or run, and the open changes.")
+    job = add("queue", "show the queue", "Shows the main branch, the batches that wait or run, and the open changes.")
+    job.add_argument("--json", action="store_true", help="print one document of JSON")
     job = add("change", "show a change", "Shows a change as the bot has it.")
     job.add_argument("change", type=int, metavar="CHANGE")
+    job.add_argument("--json", action="store_true", help="print one document of JSON")
     job = add("log", "show what people were told of a change", (
         "Shows what was said of a change, and the output of the last check of it that has failed."))
     job.add_argument("change", type=int, metavar="CHANGE")
     job.add_argument("--all", action="store_true", help="show the outputs of all its checks")
+    job.add_argument("--json", action="store_true", help="print one document of JSON, which names the outputs and has none")
     job = add("explain", "say what stands between a change and the main branch", (
         "Says who could approve a change that isn't approved, what one that is approved waits for, and why it left the queue last: by the "
         "journal and the program of the bot, so for the owner of the repository, and for who asks by ssh."))
     job.add_argument("change", type=number_of_change, metavar="CHANGE")
     job.add_argument("--at", metavar="DELIVERY", help="say it for the moment after this delivery, by its identifier or number")
     job.add_argument("--json", action="store_true", help="print one document of JSON")
+    add_what_if(add("what-if", "say what other settings would have done", (
+        "Plays the journal once more with other settings in place of those that were taken, and says what would have differed: which "
+        "changes land earlier, later or not, and how many batches and checks that takes. By the journal and the program of the bot, so for "
+        "the owner of the repository, and for who asks by ssh.")))
+    job = add("freeze", "stop staging and landing for a while", (
+        "Freezes the queue: nothing new is staged and nothing lands until gate-host thaw. Approvals go on, and what is tested is tested to "
+        "its end. Reviewers may do this, and the owner of the repository; on GitHub the owner of the host's folder alone."))
+    job.add_argument("reason", metavar="REASON", help="why, in one line that everybody is shown")
+    add("thaw", "let a frozen queue go on", (
+        "Ends a freeze. What has succeeded meanwhile counts then, and the next batch is staged."))
     add("hook", "what git runs before a push", "Looks at a push, whose updates stand on standard input. Git runs this.")
+
+
+def add_what_if(job: argparse.ArgumentParser) -> None:
+    job.add_argument("--settings", required=True, metavar="FILE", help="a text as bors.toml; - reads it from standard input")
+    job.add_argument("--since", metavar="DATE", help="tell what lands from this date on, as 2026-11-30T12:00, or from this delivery on")
+    job.add_argument("--json", action="store_true", help="print one document of JSON")
 
 
 def number_of_change(word: str) -> int:
@@ -297,6 +321,40 @@ def report_status(arguments: argparse.Namespace) -> int:
         complain(f"the host has a command for {name}, so of what it stages this doesn't count")
     leave(places, ReportLeft(who, commit, name, arguments.state, more))
     print(f"{who} reports {name} of {commit}: {arguments.state}")
+    return tell_if_it_waits(places)
+
+
+def freeze(arguments: argparse.Namespace) -> int:
+    """Leaves word for the host that the queue is to be frozen."""
+    if not is_reason(arguments.reason):
+        raise Trouble(f"a reason is one line of at most {MOST_IN_DESCRIPTION} characters")
+    places = find_places(arguments.repository)
+    who = who_may_freeze(places)
+    leave(places, FreezeLeft(who, arguments.reason.strip()))
+    print(f"{who} freezes the queue of {places.repository}: {arguments.reason.strip()}")
+    return tell_if_it_waits(places)
+
+
+def thaw(arguments: argparse.Namespace) -> int:
+    places = find_places(arguments.repository)
+    who = who_may_freeze(places)
+    leave(places, ThawLeft(who))
+    print(f"{who} lets the queue of {places.repository} go on")
+    return tell_if_it_waits(places)
+
+
+def who_may_freeze(places: Places) -> str:
+    """Who freezes a queue or thaws it. The host decides by what it knows; what it would leave out is refused here."""
+    who, owner = person_here(places.owner), name_of_user(places.owner)
+    is_on_github = read_github(places.settings, places.owner) is not None
+    is_reviewer = not is_on_github and who is not None and read_roles(places.roles, places.owner).get(who) == "reviewer"
+    if who is None or not (is_reviewer or who == owner):
+        may = "the owner of the host" if is_on_github else "reviewers and the owner of the repository"
+        raise Trouble(f"{who or 'your user'} may not freeze this queue or thaw it; {may} may")
+    return who
+
+
+def tell_if_it_waits(places: Places) -> int:
     if not is_running(places):
         complain("no host runs at present, so this waits")
     return 0
@@ -365,13 +423,34 @@ def is_running(places: Places) -> bool:
 
 
 def show_queue(arguments: argparse.Namespace) -> int:
-    print(show(find_places(arguments.repository), "queue", "the host hasn't run yet"), end="")
+    places = find_places(arguments.repository)
+    if arguments.json:
+        return print_document(places, document_at(places, "queue.json", "the host hasn't run yet"))
+    print(show(places, "queue", "the host hasn't run yet"), end="")
     return 0
 
 
 def show_change(arguments: argparse.Namespace) -> int:
-    number = arguments.change
-    print(show(find_places(arguments.repository), f"change-{number}", f"there is no change {number}"), end="")
+    number, places = arguments.change, find_places(arguments.repository)
+    if arguments.json:
+        return print_document(places, document_at(places, f"change-{number}.json", f"there is no change {number}"))
+    print(show(places, f"change-{number}", f"there is no change {number}"), end="")
+    return 0
+
+
+def document_at(places: Places, name: str, missing: str) -> Dict[str, Json]:
+    """A document that the host has written."""
+    try:
+        return table_in(json.loads((places.reports / name).read_bytes()))
+    except FileNotFoundError:
+        raise Trouble(f"{missing}, or its host is of a version that writes no such document") from None
+    except (ValueError, Unread) as fault:
+        raise Trouble(f"{places.reports / name} can't be read: {fault}") from fault
+
+
+def print_document(places: Places, document: Mapping[str, Json]) -> int:
+    """Prints a document, which says whether a host keeps it up to date."""
+    print(json_of(dict(document, host_runs=is_running(places))), end="")
     return 0
 
 
@@ -385,6 +464,8 @@ def explain_change(arguments: argparse.Namespace) -> int:
 def show_log(arguments: argparse.Namespace) -> int:
     number = arguments.change
     places = find_places(arguments.repository)
+    if arguments.json:
+        return print_document(places, log_at(places, number))
     text = show(places, f"log-{number}", f"of change {number} nothing was said")
     print(text, end="")
     lines = text.splitlines()
@@ -398,6 +479,17 @@ def show_log(arguments: argparse.Namespace) -> int:
     return 0
 
 
+def log_at(places: Places, number: int) -> Dict[str, Json]:
+    """The document of a log, which is made of the log as it stands."""
+    path = places.reports / f"log-{number}"
+    try:
+        return log_document(number, entries_in(path.read_bytes().decode("utf-8")))
+    except FileNotFoundError:
+        raise Trouble(f"of change {number} nothing was said") from None
+    except (ValueError, NoLog) as fault:
+        raise Trouble(f"{path} can't be read: {fault}") from fault
+
+
 def plain_lines(text: str) -> str:
     return "".join(f"{plain(line)}\n" for line in text.split("\n"))
 
@@ -405,5 +497,5 @@ def plain_lines(text: str) -> str:
 JOBS = {
     "init": init, "run": run, "doctor": look_after, "say": say, "queue": show_queue, "change": show_change, "log": show_log,
     "hook": look_at_push, "ssh": serve_by_ssh, "status": report_status, "audit": audit,
-    "receive": receive, "explain": explain_change,
+    "receive": receive, "explain": explain_change, "what-if": suppose, "freeze": freeze, "thaw": thaw,
 }

@@ -10,7 +10,7 @@ from pathlib import Path
 from typing import Callable, Dict, Iterator, List, NamedTuple, Optional, Sequence, Tuple, Union
 
 from .core.deliveries import Delivery
-from .core.facts import Fact, NotTaken, PushTold, Reported, Said, fact_in, kind_of, written
+from .core.facts import Fact, Frozen, NotTaken, PushTold, Reported, Said, Thawed, fact_in, kind_of, written
 from .core.known import Known, Told
 from .core.orders import Answer, Order, Unread, answer_in, orders_of
 from .faults import Trouble
@@ -143,7 +143,7 @@ class Journal:
         before = len(known.waiting)
         told = known.learn(number, at, fact)
         self.database.execute("INSERT INTO facts VALUES (?, ?, ?, ?)", (number, at, kind_of(fact), written(fact)))
-        if isinstance(fact, (Said, NotTaken, PushTold, Reported)):
+        if isinstance(fact, (Said, NotTaken, PushTold, Reported, Frozen, Thawed)):
             self.database.execute("INSERT OR IGNORE INTO notes VALUES (?)", (fact.note,))
         for delivery in known.waiting[before:]:
             row = (number, delivery.id, delivery.line)

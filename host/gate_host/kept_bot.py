@@ -28,6 +28,7 @@ class KeptBot:
         self.program, self.is_ending = program, is_ending
         self.is_all_again = is_all_again
         self.bot: Optional[Bot] = None
+        self.starts = 0
         # What it reads in texts of settings, by the program and the text.
         self.readings: Dict[Tuple[str, str], Reading] = {}
         for left in places.records.glob(f"{FOLDER}*"):
@@ -67,12 +68,17 @@ class KeptBot:
             self.readings[(program, settings)] = read_settings(program, settings, self.places.records)
         return self.readings[(program, settings)]
 
+    def has_read(self, settings: str) -> Optional[Reading]:
+        """What it has read in a text of settings before, without a run."""
+        return self.readings.get((self.program(), settings))
+
     def start(self) -> Bot:
         """Starts the bot. If its file lacks answers of the journal, it gets all deliveries again, and has to give the same answers."""
         is_behind = lacks_answers(self.places, self.journal)
         if is_behind and self.journal.count_answered():
             complain(f"{self.places.bot} lacks answers that the journal has, so the bot gets all deliveries again")
         bot = Bot(self.program(), self.places.bot)
+        self.starts += 1
         if not is_behind and not self.is_all_again:
             return bot
         try:

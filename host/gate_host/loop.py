@@ -1,19 +1,20 @@
-"""The loop: it looks at what has happened, writes it down, hands it in, and does what the bot orders. docs/host.md says why so."""
+"""The loop: it looks at what has happened, writes it down, hands it in, and does what the bot orders. docs/host-inside.md says why so."""
 import signal
 import time
 from dataclasses import replace
 from typing import Dict, List, Mapping, Optional, Sequence, Tuple, Union
 
-from .core import watching, words
+from .core import broken, watching, words
 from .core.clock import ClockWatch
 from .core.deliveries import touched
 from .core.duties import Duty, Merge, Move, Point, open_duties
 from .core.facts import (
-    Delayed, Ended, Fact, Faulted, HeadDated, MainSeen, Merged, Moved, NotMoved, NotTaken, Opened, PushTold, Said, Staged, Ticked,
+    BaseEnded, Delayed, Doubted, Ended, Fact, Faulted, HeadDated, MainSeen, Merged, Moved, NotMoved, NotTaken, Opened, PushTold, Said,
+    Staged, Ticked,
 )
 from .core.known import Batch, Known, Test
 from .core.commands import command_lines
-from .core.notes import Acceptance, Comment, Note, Report, Strange, objection_to
+from .core.notes import Acceptance, Comment, Freezing, Note, Report, Strange, Thawing, objection_to
 from .core.orders import Land, is_done
 from .core.watching import Watch
 from .core.words import MOST_IN_SETTINGS, listed
@@ -98,6 +99,7 @@ class Host:
         """Leaves all in order. What isn't done is done at the next start."""
         self.ports.runner.close()
         self.ports.after.close()
+        self.ports.on_event.close()
         self.ports.board.close()
         self.ports.bot.close()
         self.ports.journal.close()
@@ -367,6 +369,8 @@ class Host:
             return self.take_comment(note)
         elif isinstance(note, Report):
             return self.take_report(note)
+        elif isinstance(note, (Freezing, Thawing)):
+            self.take_freeze(note)
         elif isinstance(note, Strange):
             complain(f"a note of {note.person} is no comment on a change")
         return True
@@ -399,6 +403,17 @@ class Host:
                 self.record(found)
         return True
 
+    def take_freeze(self, note: Union[Freezing, Thawing]) -> None:
+        """Freezes the queue or thaws it, if who wants that may. The time is told at once when it goes on."""
+        if self.ports.journal.has_taken(note.note):
+            return
+        found = watching.freeze_of(self.known, note, self.owner)
+        if isinstance(found, str):
+            complain(found)
+        else:
+            self.record(found)
+            self.next_tick = 0.0
+
     def is_readable(self, said: Said) -> bool:
         """Whether the head that a comment is about can be read whole. It is asked only if that matters."""
         head = self.known.changes[said.change].head
@@ -412,7 +427,8 @@ class Host:
         # Whoever ends the host may end its checks as well. They have no result then, and begin anew at the next start.
         if self.ending:
             return
-        for ended in self.ports.runner.ended(list(self.known.tests.values())):
+        of_base = broken.base_test(self.known)
+        for ended in self.ports.runner.ended([*self.known.tests.values(), *([of_base] if of_base else [])]):
             self.take_end(ended)
         for test in list(self.known.tests.values()):
             if not self.fails_at_once(test):
@@ -420,8 +436,22 @@ class Host:
                 # What is only pending elsewhere is no result: a command may have taken the place of that.
                 done = {name: state for name, state in results.items() if state != "pending"}
                 self.ports.runner.begin(test, self.ports.owner.settings, done)
+        self.check_base()
         self.show_faults()
         self.troubles.put("after landing", self.ports.after.go_on(self.ports.owner.settings, self.known.landings))
+        self.troubles.put("on_event", self.ports.on_event.go_on(self.ports.owner.settings, self.known.events))
+
+    def check_base(self) -> None:
+        """Runs on the base alone what a batch of one change has failed. A check that has no command any more comes to no verdict there."""
+        test, settings = broken.base_test(self.known), self.ports.owner.settings
+        if test is None:
+            return
+        gone = [name for name in broken.doubts_of(self.known, test.batch) if name not in settings.checks]
+        for name in gone:
+            self.record(BaseEnded(test.batch, name, "error", "there is no command for it any more", ""))
+        if not gone:
+            done = broken.done_on_base(self.known, test, settings.checks, settings.parallel)
+            self.ports.runner.begin(test, settings, done)
 
     def fails_at_once(self, test: Test) -> bool:
         """Whether a batch fails before it is tested, since with its settings nothing could land after it. People are told why by a check
@@ -464,33 +494,49 @@ class Host:
         """Writes down how a check has ended. People are told once of each that it has to be tried again."""
         batch = ended.test.batch
         if isinstance(ended, Result):
-            self.record(Ended(batch, ended.name, ended.state, ended.said, ended.output))
-        elif (batch, ended.name) not in self.known.faulted:
+            found = (batch, ended.name, ended.state, ended.said, ended.output)
+            if ended.test.branch == broken.MAIN:
+                self.record(BaseEnded(*found))
+            else:
+                self.record(Doubted(*found) if self.is_doubtful(ended) else Ended(*found))
+        elif ended.test.branch != broken.MAIN and (batch, ended.name) not in self.known.faulted:
             self.record(Faulted(batch, ended.name, ended.said))
+
+    def is_doubtful(self, ended: Result) -> bool:
+        """Whether the base is to be tested before this failure is told. If it can't be told what is required, it is told at once."""
+        batch = self.known.batch_of(ended.test.batch)
+        if not self.ports.owner.settings.retest_base or ended.state != "failure" or batch is None:
+            return False
+        try:
+            required = self.ports.bot.read(self.known.taken).required
+        except Unable:
+            return False
+        return broken.is_doubtful(self.known, batch, ended.name, required)
 
     def show_faults(self) -> None:
         """Has the faults that last stand in the report of the queue, and no others."""
-        lasting = {f"check {fault.name} of batch {fault.test.batch}": fault for fault in self.ports.runner.lasting()}
+        lasting = {f"check {fault.name} of batch {fault.test.batch} on {fault.test.branch}": fault for fault in self.ports.runner.lasting()}
         for about, fault in lasting.items():
             batch = self.known.batch_of(fault.test.batch)
             if batch:
-                text = words.faulted(batch.stage, fault.name, fault.said)
+                text = words.faulted(batch.stage, fault.name, fault.said, fault.test.branch == broken.MAIN)
                 self.troubles.say(about, f"t{text[1:]}")
         for about in [it for it in self.troubles.said if it.startswith("check ") and it not in lasting]:
             self.troubles.end(about)
 
     def tick(self) -> None:
         """Tells the time while something waits: every few seconds, and at once if a batch has ended. The main branch is looked at right
-        before."""
+        before. While the queue is frozen no time is told, so that nothing is staged."""
         if not self.ports.board.is_waiting:
             self.ended_before = self.known.ended
-        is_hurried = self.known.ended > self.ended_before and self.clock.jumped_to is None
+        is_frozen = self.known.freeze is not None
+        is_hurried = self.known.ended > self.ended_before and self.clock.jumped_to is None and not is_frozen
         if time.monotonic() < self.next_tick and not is_hurried:
             return
         if self.is_report_due:
             self.report()
         now = self.reading()
-        if now is not None and self.ports.board.is_waiting:
+        if now is not None and self.ports.board.is_waiting and not is_frozen:
             self.look()
             self.ended_before = self.known.ended
             self.record(Ticked(now))
@@ -517,7 +563,10 @@ class Host:
         """What the report of the queue says besides."""
         opened = self.known.open_changes()
         free, reporters = watching.free_number({*self.known.changes, *self.heads}), self.ports.owner.reporters
+        freeze, main = self.known.freeze, self.known.broken
         return [
+            *([words.frozen_since(freeze, time_of_day(freeze.at))] if freeze else []),
+            *([words.plain(words.broken(main.name, main.base, main.said, main.since))] if main else []),
             f"open: {listed(opened) if opened else 'no change'}; the next free number is {free}",
             f"checks: {', '.join(self.ports.owner.settings.checks) or 'none'}",
             *([f"reported: {', '.join(map(words.plain, reporters))}"] if reporters else []),

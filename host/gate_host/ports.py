@@ -3,6 +3,7 @@ from dataclasses import dataclass, field
 from typing import Dict, FrozenSet, Iterable, List, Mapping, Optional, Protocol, Sequence, Tuple, Union
 
 from .core.deliveries import Delivery
+from .core.events import Events
 from .core.facts import Conflicted, Fact, Merged
 from .core.known import Batch, Known, Landing, Test
 from .core.notes import Note
@@ -127,13 +128,15 @@ class Runner(Protocol):
 @dataclass(frozen=True)
 class Reading:
     """What the bot reads in a text of settings, unless it refuses the text: which statuses of what is staged it requires, which of heads of
-    changes, and how many reviews. And what its writer should know: why it is refused, and which keys mean nothing to the bot."""
+    changes, and how many reviews. And what its writer should know: why it is refused, and which keys mean nothing to the bot. Then after
+    how many seconds a batch fails, or 0."""
 
     required: Tuple[str, ...] = ()
     of_heads: Tuple[str, ...] = ()
     reviews: int = 0
     refusal: str = ""
     remarks: Tuple[str, ...] = ()
+    timeout: int = 0
 
 
 class Bot(Protocol):
@@ -209,6 +212,16 @@ class AfterLanding(Protocol):
         """Stops it. What it was about is due again."""
 
 
+class OnEvent(Protocol):
+    """What is told of notices, landings and failures, if the settings name it."""
+
+    def go_on(self, settings: Settings, events: Events) -> str:
+        """Has it told of what has happened since the last time. Gives why the last time failed, or nothing."""
+
+    def close(self) -> None:
+        """Stops it. What it was told then is due again."""
+
+
 class Owner(Protocol):
     """What the owner has written for the host."""
 
@@ -240,3 +253,4 @@ class Ports:
     board: Board
     owner: Owner
     after: AfterLanding
+    on_event: OnEvent

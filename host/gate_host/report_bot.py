@@ -51,9 +51,11 @@ class ReportBot:
     the host alone has the other end. So it ends with the host, however that ends. While it reads its file it doesn't look at its input.
     So the system ends it too."""
 
-    def __init__(self, program: str, folder: Path):
+    def __init__(self, program: str, folder: Path, has_file: bool = True):
+        """Starts it over the file of a folder, or else without records of before."""
         self.program = program
         self.folder = folder
+        self.records = ["--db", str(folder / "bot.db")] if has_file else []
         self.token = secrets.token_hex(32)
         write_for_owner(folder / "token", f"{self.token}\n")
         self.ports_left = PORTS
@@ -67,7 +69,7 @@ class ReportBot:
         self.port = free_port()
         self.line = b""
         command = [
-            self.program, "serve", "--db", str(self.folder / "bot.db"), "--port", str(self.port), "--count", str(CONNECTIONS),
+            self.program, "serve", *self.records, "--port", str(self.port), "--count", str(CONNECTIONS),
             "--token", str(self.folder / "token"), "--until-input-ends",
         ]
         host = os.getpid()

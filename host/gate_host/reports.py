@@ -9,17 +9,19 @@ import sqlite3
 import tempfile
 import time
 from pathlib import Path
-from typing import Callable, Collection, Dict, List, Optional, Sequence, Set, Tuple
+from typing import Callable, Collection, Dict, List, Optional, Sequence, Set
 
 from .bot_file import copy_up_to_date, has_file
 from .core.deliveries import Delivery
 from .core.head_status import Place
-from .core.queue import batches_in
+from .core.queue import QueuedBatch, batches_in
 from .core.words import plain
 from .faults import Trouble
 from .journal import Journal
 from .places import Places
 from .report_bot import NoReport, ReportBot
+from .showing.files import Pages, write
+from .showing.logs import log_text
 
 # The folders with a copy of the bot's file begin so.
 COPY = "reports-"
@@ -39,24 +41,6 @@ LINES_WITHOUT_BATCH = 3
 # The file that has the identifier of the delivery up to which all is written, and what names the start of the system by then.
 MARK = ".written-up-to"
 BOOT = Path("/proc/sys/kernel/random/boot_id")
-
-
-def log_text(told: Sequence[Tuple[int, str]]) -> str:
-    """What people were told of a change, each with its time."""
-    lines = []
-    for at, text in told:
-        first, *more = text.split("\n")
-        lines.append(f"{time.strftime('%Y-%m-%d %H:%M:%S %z', time.localtime(at))}  {first}")
-        lines += [f"    {line}" for line in more]
-    return "".join(f"{line}\n" for line in lines)
-
-
-def write(path: Path, text: str) -> None:
-    """Puts a text in place of a file at once, for everybody to read."""
-    part = path.with_name(f".{path.name}")
-    part.write_bytes(text.encode())
-    part.chmod(0o644)
-    os.replace(part, path)
 
 
 class Reports:
@@ -87,8 +71,11 @@ class Reports:
         self.written = self.written_up_to()
         self.is_behind_mark = self.has_begun = False
 
-        # What more is to be said of a change than the bot says.
+        # What more is to be said of a change than the bot says, and of the queue; and the pages beside the reports, if there are any.
         self.more_of: Callable[[int], str] = lambda change: ""
+        self.more_of_queue: Callable[[Sequence[QueuedBatch]], Sequence[str]] = lambda queue: ()
+        self.pages: Optional[Pages] = None
+        self.remarks: Sequence[str] = ()
 
     # What the loop asks and tells
 
@@ -105,6 +92,8 @@ class Reports:
             old = [change for change in changes if f"change-{change}" not in there]
         self.due = {**dict.fromkeys(old), **self.due}
         self.has_begun = True
+        if self.pages:
+            self.pages.begin(changes)
 
     def note(self, delivery: Delivery, changes: Sequence[int]) -> None:
         """Takes note of a delivery that was answered, and of the changes whose reports it may have altered."""
@@ -139,7 +128,7 @@ class Reports:
     @property
     def is_behind(self) -> bool:
         """Whether a refresh has something to do that was left by the last one."""
-        is_left = not self.is_known or self.lines or self.due or self.unwritten
+        is_left = not self.is_known or self.lines or self.due or self.unwritten or self.has_pages_due
         return bool(is_left) and time.monotonic() >= max(self.next_write, 0.0 if self.bot else self.next_start)
 
     def refresh(self, program: str, remarks: Sequence[str]) -> None:
@@ -150,8 +139,12 @@ class Reports:
         except (NoReport, OSError) as fault:
             self.lose(f"{fault}; it is started again, and the reports may be old until then")
         try:
-            self.write_files(texts, remarks)
+            self.remarks = [*remarks, *([f"trouble: {plain(self.lost)}"] if self.lost else [])]
+            self.write_files(texts)
             self.write_logs()
+            if self.pages:
+                self.pages.refresh(self.queue, self.remarks)
+            self.write_mark()
             self.unwritten = ""
         except (OSError, sqlite3.Error) as fault:
             self.next_write = time.monotonic() + PAUSE
@@ -161,6 +154,15 @@ class Reports:
             self.unwritten = why
 
     def close(self) -> None:
+        """Ends, which the page of the queue says then."""
+        self.end_bot()
+        try:
+            if self.pages:
+                self.pages.end(self.queue, self.remarks)
+        except (OSError, sqlite3.Error) as fault:
+            self.complain(f"the page doesn't say that the host has ended: {fault}")
+
+    def end_bot(self) -> None:
         """Ends the bot for reports."""
         self.is_known = False
         self.lines.clear()
@@ -218,28 +220,37 @@ class Reports:
         if is_up_to_date:
             self.bot = ReportBot(program, folder)
         else:
-            self.close()
+            self.end_bot()
 
     def lose(self, why: str) -> None:
         """Gives the bot for reports up. What it was told is lost without harm: the next one begins with a copy that has it."""
-        self.close()
+        self.end_bot()
         if why != self.lost:
             self.complain(why)
         self.lost = why
 
     # The files
 
-    def write_files(self, texts: Dict[int, str], remarks: Sequence[str]) -> None:
-        """Writes the queue and these changes. When none is left, the mark says so."""
+    @property
+    def has_pages_due(self) -> bool:
+        return self.pages is not None and bool(self.pages.due)
+
+    def write_files(self, texts: Dict[int, str]) -> None:
+        """Writes the queue and these changes."""
         if self.queue is not None:
-            below = [*remarks, *([f"trouble: {plain(self.lost)}"] if self.lost else [])]
+            below = [*self.more_of_queue(batches_in(self.queue)), *self.remarks]
             self.put("queue", self.queue + "".join(f"\n{remark}" for remark in below) + "\n" * bool(below))
         for change, text in texts.items():
             if text:
                 self.put(f"change-{change}", text + self.more_of(change))
+            if self.pages:
+                self.pages.note(change)
             self.due.pop(change, None)
+
+    def write_mark(self) -> None:
+        """Has the mark say that all is written, if that is so."""
         mark = f"{self.last} {self.boot}\n"
-        if self.is_known and not self.due and mark != self.marked:
+        if self.is_known and not self.due and not self.has_pages_due and mark != self.marked:
             write(self.places.reports / MARK, mark)
             self.marked = mark
 
@@ -267,6 +278,8 @@ class Reports:
             else:
                 write(path, log_text(self.journal.told(change)))
             self.whole_logs.add(change)
+            if self.pages:
+                self.pages.note(change)
         if last > written:
             with self.journal.step():
                 self.journal.set_mark("log written up to", str(last))

@@ -26,12 +26,13 @@ STATUS, PR_STATUS = 1, 3
 
 @dataclass(frozen=True)
 class Wanted:
-    """What a text of settings asks for: the statuses of a staging commit and those of the head of a change, each list in its order, and how
-    many reviews."""
+    """What a text of settings asks for: the statuses of a staging commit and those of the head of a change, each list in its order, how
+    many reviews, and after how many seconds a batch fails."""
 
     statuses: List[str]
     pr_statuses: List[str]
     approvals: int
+    timeout: int
 
 
 def required_statuses(program: str, text: str) -> Union[List[str], int]:
@@ -93,7 +94,8 @@ def wanted_in(file: Path) -> Wanted:
     try:
         with closing(sqlite3.connect(file)) as records:
             rows = records.execute("SELECT kind, word FROM wanted ORDER BY kind, place").fetchall()
-            approvals, = records.execute("SELECT required_approvals FROM desk").fetchone()
+            approvals, timeout = records.execute("SELECT required_approvals, timeout_sec FROM desk").fetchone()
     except sqlite3.Error as fault:
         raise Unable(f"the records that the program has left can't be read: {fault}") from fault
-    return Wanted([word for kind, word in rows if kind == STATUS], [word for kind, word in rows if kind == PR_STATUS], int(approvals))
+    statuses, of_heads = ([word for kind, word in rows if kind == wanted] for wanted in (STATUS, PR_STATUS))
+    return Wanted(statuses, of_heads, int(approvals), int(timeout))

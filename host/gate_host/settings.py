@@ -13,7 +13,8 @@ from .places import person, trusted_text
 ROLES = ("member", "reviewer", "nobody")
 KEYS = {
     "main", "program", "tick_seconds", "look_seconds", "check_seconds", "retry_seconds", "parallel", "may_push", "staging", "trying",
-    "sandbox", "sandbox_network", "sandbox_reads", "sandbox_writes", "after_landing", "delete_branches",
+    "sandbox", "sandbox_network", "sandbox_reads", "sandbox_writes", "after_landing", "delete_branches", "on_event",
+    "retest_base",
 }
 
 # Names that git takes for branches, without those that its commands read in another way.
@@ -73,6 +74,13 @@ sandbox_writes =
 # before, the one of now, and the name of the branch. It runs as the owner, outside of the sandbox. It may be the hook itself.
 #after_landing = hooks/post-receive
 
+# A command that is told on its standard input of notices, landings and failures, each as one line of JSON. It runs as the owner, outside of
+# the sandbox, beside the host. If it fails, it is told the same lines again later.
+#on_event = /usr/local/bin/tell-the-team
+
+# Whether a check that fails a batch of one change runs on the main branch alone, before the change is blamed: yes or no.
+retest_base = no
+
 # Whether the branch of a change is deleted when it has landed: yes or no.
 delete_branches = no
 
@@ -112,9 +120,12 @@ class Settings:
     sandbox_network: bool
     sandbox_reads: Tuple[str, ...]
     sandbox_writes: Tuple[str, ...]
-    # What runs after a landing, if anything does; and whether the branches of what has landed are deleted.
+    # What runs after a landing, and what is told of events, if anything is; and whether the branches of what has landed are deleted.
     after_landing: str
+    on_event: str
     delete_branches: bool
+    # Whether the base alone is tested before a change that failed alone is blamed.
+    retest_base: bool
     # The command of each check, by its name, in the order of the file.
     checks: Dict[str, str]
 
@@ -191,6 +202,7 @@ def settings_in(text: str) -> Settings:
         trying=trying, sandbox=word_in(host, "sandbox", ("auto", "required", "off")),
         sandbox_network=word_in(host, "sandbox_network", ("no", "yes")) == "yes", sandbox_reads=paths_in(host, "sandbox_reads"),
         sandbox_writes=paths_in(host, "sandbox_writes"), after_landing=host.get("after_landing", "").strip(),
+        on_event=host.get("on_event", "").strip(), retest_base=word_in(host, "retest_base", ("no", "yes")) == "yes",
         delete_branches=word_in(host, "delete_branches", ("no", "yes")) == "yes", checks=checks,
     )
 

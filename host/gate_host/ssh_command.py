@@ -19,7 +19,7 @@ from pathlib import Path
 from typing import Dict, FrozenSet, List, NoReturn, Optional, Sequence, Tuple, Union
 
 from . import places
-from .core.notes import MOST_IN_COMMENT, STATES
+from .core.notes import MOST_IN_COMMENT, STATES, is_reason
 from .faults import Trouble
 from .troubles import complain
 
@@ -27,18 +27,26 @@ MOST_ASKED = 16384
 SERVICES = ("receive-pack", "upload-pack", "upload-archive")
 # How each job of gate-host is asked for, and with which options.
 USES = {
-    "say": "say CHANGE [TEXT] [--head COMMIT]", "queue": "queue", "change": "change NUMBER", "log": "log NUMBER [--all]",
+    "say": "say CHANGE [TEXT] [--head COMMIT]", "queue": "queue [--json]", "change": "change NUMBER [--json]",
+    "log": "log NUMBER [--all] [--json]",
     "status": "status COMMIT NAME STATE [--description TEXT]", "explain": "explain NUMBER [--at DELIVERY] [--json]",
+    "what-if": "what-if --settings - [--since DATE] [--json]",
+    "freeze": "freeze REASON", "thaw": "thaw",
 }
 OPTIONS = {
-    "say": ("--repository", "--head"), "queue": ("--repository",), "change": ("--repository",), "log": ("--repository", "--all"),
+    "say": ("--repository", "--head"), "queue": ("--repository", "--json"), "change": ("--repository", "--json"),
+    "log": ("--repository", "--all", "--json"),
     "status": ("--repository", "--description"), "explain": ("--repository", "--at", "--json"),
+    "what-if": ("--repository", "--settings", "--since", "--json"),
+    "freeze": ("--repository",), "thaw": ("--repository",),
 }
 # Those that have no value.
 FLAGS = ("--all", "--json")
 NUMBER = re.compile(r"[1-9][0-9]{0,9}")
 COMMIT = re.compile(r"[0-9a-f]{40}")
-# A delivery is named by its identifier or its number.
+# The jobs that are about no change.
+WITHOUT_NUMBER = ("queue", "what-if", "thaw")
+# A delivery is named by its identifier or its number, and a date has no other characters.
 DELIVERY = re.compile(r"[!-~]{1,128}")
 PROTOCOL = re.compile(r"version=[012]")
 # What sshd says of the account and of the connection. It says so after what a client sends, which therefore doesn't count.
@@ -83,7 +91,7 @@ def serve(person: str, repositories: List[Path], asked: str) -> int:
 def greet(who: str, repositories: Sequence[Path]) -> int:
     """Answers a client that asks for nothing. It wants a shell and gets none, so it is told by the status that nothing was done: a script
     that writes commands to that shell must not take them for done."""
-    jobs = "gate-host say, queue, change, log, explain or status"
+    jobs = f"gate-host {', '.join(list(USES)[:-1])} or {list(USES)[-1]}"
     complain(f"you are {who} here. Clone, fetch and push {listed(repositories)}, or ask for {jobs}.")
     return 1
 
@@ -105,7 +113,8 @@ def request_in(asked: str, repositories: Sequence[Path]) -> Union[Service, Job]:
     if words[:1] == ["gate-host"]:
         del words[0]
     if not words or words[0] not in USES:
-        raise Trouble("this account runs git and gate-host say, queue, change, log, explain and status, and no other command")
+        jobs = f"{', '.join(list(USES)[:-1])} and {list(USES)[-1]}"
+        raise Trouble(f"this account runs git and gate-host {jobs}, and no other command")
     return job_in(words[0], words[1:], repositories)
 
 
@@ -132,9 +141,11 @@ def job_in(job: str, words: Sequence[str], repositories: Sequence[Path]) -> Job:
     options, others = options_in(job, words)
     if job == "status":
         return report_in(options, others, repositories)
+    if job == "freeze":
+        return freeze_in(options, others, repositories)
     texts = others[1:] if job == "say" else []
     numbers = others[:len(others) - len(texts)]
-    if len(numbers) != (0 if job == "queue" else 1) or not all(NUMBER.fullmatch(it) for it in numbers):
+    if len(numbers) != (0 if job in WITHOUT_NUMBER else 1) or not all(NUMBER.fullmatch(it) for it in numbers):
         raise misuse(job)
     if not COMMIT.fullmatch(options.get("--head", "0" * 40)):
         raise Trouble("--head takes a commit with its 40 digits")
@@ -142,11 +153,22 @@ def job_in(job: str, words: Sequence[str], repositories: Sequence[Path]) -> Job:
     if not DELIVERY.fullmatch(options.get("--at", "1")):
         raise Trouble("--at takes the identifier of a delivery or its number")
     more += [f"--at={options['--at']}"] if "--at" in options else []
+    if not DELIVERY.fullmatch(options.get("--since", "1")):
+        raise Trouble("--since takes a date, as in 2026-11-30T12:00, or the identifier of a delivery")
+    more += [f"--since={options['--since']}"] if "--since" in options else []
+    more += settings_in(options) if job == "what-if" else []
     more += [flag for flag in FLAGS if flag in options]
     # A text goes to the job on standard input, so no word of it can be taken for an option.
     more += [*numbers, "-"] if job == "say" else numbers
     text = " ".join(texts) if texts and texts != ["-"] else None
     return Job([job, "--repository", str(repository_in(options, repositories)), *more], text)
+
+
+def settings_in(options: Dict[str, str]) -> List[str]:
+    """Settings come on standard input. A file of this machine isn't the client's."""
+    if options.get("--settings", "-") != "-":
+        raise Trouble("by ssh settings come on standard input: ask for what-if --settings -, with the file behind <")
+    return ["--settings=-"]
 
 
 def report_in(options: Dict[str, str], words: Sequence[str], repositories: Sequence[Path]) -> Job:
@@ -155,6 +177,14 @@ def report_in(options: Dict[str, str], words: Sequence[str], repositories: Seque
         raise misuse("status")
     more = [f"--description={options['--description']}"] if "--description" in options else []
     return Job(["status", "--repository", str(repository_in(options, repositories)), *more, *words])
+
+
+def freeze_in(options: Dict[str, str], words: Sequence[str], repositories: Sequence[Path]) -> Job:
+    """That the queue is to be frozen. All words are the reason, and it can't be taken for an option."""
+    reason = " ".join(words)
+    if not is_reason(reason) or reason.startswith("-"):
+        raise misuse("freeze")
+    return Job(["freeze", "--repository", str(repository_in(options, repositories)), reason])
 
 
 def misuse(job: str) -> Trouble:
@@ -252,7 +282,7 @@ def run_job(wanted: Job, environment: Dict[str, str]) -> int:
         if isinstance(stream, io.TextIOWrapper):
             # A client may have sent the name of a language in which some text can't be written.
             stream.reconfigure(encoding="utf-8", errors="backslashreplace")
-    if wanted.words[0] in ("say", "status"):
+    if wanted.words[0] in ("say", "status", "freeze", "thaw"):
         places.must_be_safe(places.find_places(wanted.words[2]))
     if wanted.words[0] == "say":
         sys.stdin = io.StringIO(text_of(wanted))

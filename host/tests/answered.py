@@ -15,6 +15,7 @@ from gate_host.explaining.shown import lines_of, text_of
 
 SETTINGS = 'status = ["build", "test"]\nblock_labels = ["wip"]\n'
 ROOT = "0" * 40
+ESTIMATED = ("It will probably land ", "When it lands can't be estimated")
 
 
 def commit(digit):
@@ -81,8 +82,12 @@ class Story(Told):
             return explanation_of(change, moment_of(self.journal(), at), str(program), Path(room))
 
     def lines(self, change, at=None):
-        """What is said of a change below the heading."""
-        return text_of(self.explained(change, at)).splitlines()[1:]
+        """What is said of a change below the heading, but for when it lands."""
+        return [line for line in text_of(self.explained(change, at)).splitlines()[1:] if not line.startswith(ESTIMATED)]
+
+    def estimate(self, change, at=None):
+        """What is said of when a change lands."""
+        return [line for line in text_of(self.explained(change, at)).splitlines() if line.startswith(ESTIMATED)]
 
 
 def heading(found):

@@ -4,7 +4,7 @@
     dying_host.py MARKS ARGUMENT..
 
 MARKS is a folder with a mark for each death. Steps are those of the journal, by the function that makes them, a note that is removed from
-the spool, a check that has begun or ended, and a report that is written.
+the spool, a check that has begun or ended, and a report or a page that is written.
 """
 import os
 import signal
@@ -21,6 +21,7 @@ from gate_host import journal  # noqa: E402
 from gate_host import reports  # noqa: E402
 from gate_host import spool  # noqa: E402
 from gate_host.core.orders import orders_of  # noqa: E402
+from gate_host.showing import files  # noqa: E402
 
 MARKS = Path(sys.argv[1])
 
@@ -55,15 +56,15 @@ def steps_die(step):
     return lambda journal: dying(step(journal), name_of_step(sys._getframe(1)))
 
 
-def calls_die(cls, name):
+def calls_die(cls, name, of=""):
     """Has a method die before and after it does its work."""
     method = getattr(cls, name)
 
     def dies(*given):
-        die_first(f"{name}-before-call")
+        die_first(f"{of}{name}-before-call")
         result = method(*given)
         if result is not None or name != "result_of":
-            die_first(f"{name}-after-call")
+            die_first(f"{of}{name}-after-call")
         return result
 
     setattr(cls, name, dies)
@@ -73,6 +74,7 @@ def main():
     journal.Journal.step = steps_die(journal.Journal.step)
     for cls, name in ((spool.Spool, "remove"), (checks.Checks, "start"), (checks.Checks, "result_of"), (reports.Reports, "put")):
         calls_die(cls, name)
+    calls_die(files.Pages, "put", "page-")
     return commands.main(sys.argv[2:])
 
 

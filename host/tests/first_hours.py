@@ -10,6 +10,9 @@ class FirstHours(Story):
 
     may_push = ("ines", "rosa")
 
+    def causes(self):
+        return {3: ("Failed", "build"), 4: ("Failed", "build")}
+
     def make_repository(self):
         self.must_git("init", "--quiet", "--bare", "--initial-branch=main", str(self.repository), at=self.room)
         people = ["--reviewer", "rosa", "--may-push", "ines"]

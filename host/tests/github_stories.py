@@ -197,6 +197,17 @@ class WithHost(WithGitHub):
             said = self.texts(pull)
             self.assertEqual(len(set(said)), len(said), said)
 
+    def causes_are_explained(self, **causes):
+        """Of each change, by the name of its branch: why it left the queue last, as the story's author wrote it down, by the reason and the
+        status that the notice names; or nothing if it never did, or has landed since. None of them waits in the queue."""
+        pulls = {it.head_ref: it for it in self.project.pulls.values()}
+        said = {}
+        for name, pull in pulls.items():
+            found = json.loads(self.host_once("explain", pull.number, "--repository", self.folder, "--json"))
+            left = found["left"] and (found["left"]["why"], found["left"]["name"])
+            said[name] = (left, found["landed"] is not None, found["place"])
+        self.assertEqual(said, {name: (cause, pulls[name].merged, None) for name, cause in causes.items()})
+
     def main(self):
         return self.project.bare.sha("refs/heads/main")
 

@@ -285,6 +285,14 @@ echo >>beside && {git} add beside && {git} commit --quiet -m beside && {git} pus
         """The changes whose approval has ended, as they were told."""
         return {change for change in self.heads if "The approval or the try has ended" in self.report(f"log-{change}")}
 
+    def causes(self):
+        """Why changes aren't on the main branch that were approved once: the reason and the status that its notice names, by the change."""
+        loser = max(PAIR) if min(PAIR) in self.landed() else min(PAIR)
+        return {BREAKS: ("Failed", "build"), loser: ("Conflict", "")}
+
+    def head_that_landed(self, change):
+        return self.heads[change]
+
     def is_settled(self):
         return self.landed() | self.refused() == set(self.changes)
 
@@ -381,6 +389,13 @@ class Daily(Story):
 
     changes = ()
 
+    def causes(self):
+        return {24: ("Conflict", ""), 25: ("Failed", "build")}
+
+    def head_that_landed(self, change):
+        """One was pushed once more when it had landed."""
+        return self.landed_head if change == 22 else self.heads[change]
+
     def make_tools(self):
         """What lies under `at-look` runs once, right before the host looks at the branches."""
         script, git = shlex.quote(str(self.at_look())), shlex.quote(GIT)
@@ -453,7 +468,7 @@ exec {git} "$@"
         self.say("rosa", 22, "bors r+")
         self.until("it is staged", lambda: "staging staged" in self.report("queue"))
         self.explained(22, "It is open, and approved by rosa [", "), which is being tested.\n", "\n  the check build is open\n")
-        head = self.push("vera", 22, {"parts/b": "test 1 -gt 0\n"})
+        head = self.landed_head = self.push("vera", 22, {"parts/b": "test 1 -gt 0\n"})
         self.told(22, "(Pushed)")
         self.explained(22, "\nbors r+ would approve it now if rosa said so.\n", f"since it was pushed (Pushed), to {head[:7]}, by vera [")
         self.say("rosa", 22, "bors r+")

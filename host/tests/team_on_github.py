@@ -47,6 +47,8 @@ class Due(NamedTuple):
     told: tuple
     lands: bool = False
     is_of_fork: bool = False
+    # Why it left the queue last, in one of these ways: the reason and a status, or none if it never left or was never in it.
+    left: tuple = (None,)
 
 
 # Some of the host's own steps, which come in each story: facts that are written down, marks, and what it asks and posts.
@@ -67,13 +69,15 @@ CHANGES = {
     # Which of these two lands depends on what else comes to pass.
     "first": Due("otto", {"clash": "first\n"}, ()),
     "second": Due("ada", {"clash": "second\n"}, ()),
-    "broken": Due("eve", {"check": "bad\n"}, ("fails the check build",), False, True),
+    "broken": Due("eve", {"check": "bad\n"}, ("fails the check build",), False, True, (("Failed", "build"),)),
     "labeled": Due("ada", {"labeled": "1\n"}, LANDED, True),
     "unreviewed": Due("otto", {"unreviewed": "1\n"}, LANDED, True),
     "draft": Due("ada", {"draft": "1\n"}, LANDED, True),
-    "retargeted": Due("otto", {"retargeted": "1\n"}, ("(Closed)",)),
+    "retargeted": Due("otto", {"retargeted": "1\n"}, ("(Closed)",), left=(("Closed", ""),)),
     # Whether the push or the approval is seen first nobody can say.
-    "pushed": Due("eve", {"pushed": "1\n"}, ("(Pushed)", "Not taken: it was about"), False, True),
+    "pushed": Due(
+        "eve", {"pushed": "1\n"}, ("(Pushed)", "Not taken: it was about"), False, True, (("Pushed", ""), None),
+    ),
 }
 LANDING, PAIR = tuple(name for name, it in CHANGES.items() if it.lands), ("first", "second")
 BEFORE = ("README", "bors.toml", "check")
@@ -269,7 +273,17 @@ class Team(WithHost):
         self.what_landed_is_what_is_due()
         self.nobody_is_told_twice(*self.changes.values())
         self.the_audit_finds_nothing()
+        self.explanations_name_the_causes()
         self.no_secret_is_found()
+
+    def explanations_name_the_causes(self):
+        """Of each change, why it isn't on the main branch, if it isn't, as it stands above."""
+        landing = self.landing()
+        for name, pull in self.changes.items():
+            found = json.loads(self.host_once("explain", pull.number, "--repository", self.folder, "--json"))
+            due = ((None,) if name in landing else (("Conflict", ""),)) if name in PAIR else CHANGES[name].left
+            self.assertIn(found["left"] and (found["left"]["why"], found["left"]["name"]), due, name)
+            self.assertEqual((found["landed"] is not None, found["place"]), (name in landing, None), name)
 
     def heads_tell_how_they_stand(self):
         """By the status of the host's own. Of what never lands no head says that it has."""

@@ -19,7 +19,7 @@ def said_by_program(program, text, room):
     if "status =" not in text.replace("pr_status", ""):
         return 2
     is_bad = any(it in text for it in ('max_batch_size = "8"', "timeout_sec = 60.0", 'status = ["a", "a"]'))
-    return 3 if is_bad else Wanted(["build"], ["format"], 2)
+    return 3 if is_bad else Wanted(["build"], ["format"], 2, 60)
 
 
 class ReadingTests(unittest.TestCase):
@@ -32,7 +32,7 @@ class ReadingTests(unittest.TestCase):
         return read_settings("gate", text).refusal
 
     def test_a_text_that_is_taken(self):
-        self.assertEqual(read_settings("gate", 'status = ["build"]\n'), Reading(("build",), ("format",), 2))
+        self.assertEqual(read_settings("gate", 'status = ["build"]\n'), Reading(("build",), ("format",), 2, timeout=60))
 
     def test_a_refusal_names_the_key_with_its_value(self):
         size = 'max_batch_size = "8" isn\'t taken; it has to be a whole number from 1 to 1000'

@@ -5,7 +5,7 @@ from pathlib import Path
 
 CORE = Path(__file__).resolve().parent.parent / "gate_host/core"
 # What the core may import: what gives values of values.
-HARMLESS = {"json", "re", "dataclasses", "enum", "itertools", "typing"}
+HARMLESS = {"json", "collections", "re", "dataclasses", "enum", "itertools", "typing"}
 
 
 class ImportTests(unittest.TestCase):

@@ -10,7 +10,11 @@ from gate_host.core.facts import (
 from gate_host.core.known import Known
 
 # What may be forgotten: which batches have just ended, and which faults people were told of.
-FORGOTTEN = {"ended", "faulted"}
+FORGOTTEN = {
+    "ended", "faulted",
+    # And what no earlier host knew.
+    "at", "approved_at", "counts", "runs", "events", "freeze", "held", "doubts", "base_states", "broken",
+}
 
 
 class EarlierTests(unittest.TestCase):

@@ -1,4 +1,4 @@
-"""Explanations over journals with the answers of the built program. What is due is taken from docs/behaviour.md and from each story."""
+"""Explanations over journals with the answers of the built program. What is due is taken from docs/ and from each story."""
 import re
 import sys
 import unittest
@@ -6,11 +6,12 @@ from pathlib import Path
 
 sys.path.insert(0, str(Path(__file__).resolve().parent.parent))
 
-from answered import Story, clock, commit, mark  # noqa: E402
+from answered import Story, at, clock, commit, mark  # noqa: E402
+from gate_host.core.estimates import Estimate  # noqa: E402
 from gate_host.explaining.shown import REFUSALS  # noqa: E402
 from stand_in import is_built  # noqa: E402
 
-BEHAVIOUR = Path(__file__).resolve().parent.parent.parent / "docs/behaviour.md"
+COMMANDS = Path(__file__).resolve().parent.parent.parent / "docs/commands.md"
 LEVEL = (
     "the person lacks the level that the command needs (NotPermitted, ReviewerOrDelegate). "
     "Reviewers, and delegates of this change, have it."
@@ -102,8 +103,8 @@ class RuleTests(unittest.TestCase):
 
 class WordTests(unittest.TestCase):
     def test_the_words_are_those_of_the_page(self):
-        """Each rule that judges `r+`, by the tables of docs/behaviour.md."""
-        text = BEHAVIOUR.read_text(encoding="utf-8").replace("`", "")
+        """Each rule that judges `r+`, by the tables of docs/commands.md."""
+        text = COMMANDS.read_text(encoding="utf-8").replace("`", "")
         rows = re.findall(r"^\| ([0-9]+) \| ([A-Za-z]+) \| (.*?) \| .*\|$", text, re.MULTILINE)
         numbers = re.search(r"^\| r\+, r= \| ([0-9, ]+) \|$", text, re.MULTILINE)[1].split(", ")
         due = {name: why for number, name, why in rows if number in numbers and name not in ("NotApproved", "AlreadyTrying", "NotTrying")}
@@ -163,6 +164,19 @@ class QueueTests(unittest.TestCase):
         self.assertEqual(story.lines(11), [
             f"It has landed as {commit('d')}, with batch 1 (changes 11, 12) {mark(landed)}.", f"It was approved by rosa {mark(approved)}.",
         ])
+
+    def test_when_it_lands(self):
+        """A batch is ordered by fact 9 and lands by fact 13, so it took 4 seconds. With one batch the range is half of that to twice."""
+        story = Story()
+        story.approves(11)
+        self.assertEqual(story.estimate(11), ["When it lands can't be estimated yet: no batch has ended."])
+        landed = story.passes(1, "d", 1000)
+        self.assertEqual(story.estimate(11), [])
+        self.assertEqual((landed, story.approves(12)), ("base-13", "comment-14"))
+        due = f"between {at(16)} and {at(22)}, by how long one batch took, which says little."
+        self.assertEqual(story.estimate(12), [f"It will probably land {due}"])
+        self.assertEqual(story.explained(12).estimate, Estimate(116, 122, 1))
+        self.assertIsNone(story.explained(12, landed).estimate)
 
     def test_the_host_is_delayed(self):
         story = Story()

@@ -1,5 +1,5 @@
 """Why a change left the queue last, and what became of its batch: over journals with the answers of the built program. What is due is taken
-from docs/behaviour.md and from each story."""
+from docs/ and from each story."""
 import json
 import re
 import sys
@@ -52,7 +52,7 @@ def steps_of(story, change, when=None):
 
 @is_built
 class LeavingTests(unittest.TestCase):
-    """Each way by which an approval ends, in the order of the table in docs/behaviour.md."""
+    """Each way by which an approval ends, in the order of the table in docs/commands.md."""
 
     def test_by_people(self):
         reviews = 'status = ["build"]\nrequired_approvals = 1\n'

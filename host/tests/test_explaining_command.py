@@ -5,6 +5,7 @@ import shutil
 import sqlite3
 import stat
 import sys
+import time
 import unittest
 from contextlib import closing
 from pathlib import Path
@@ -14,10 +15,24 @@ sys.path.insert(0, str(Path(__file__).resolve().parent.parent))
 
 from answered import Story, mark  # noqa: E402
 from folders import InRepository  # noqa: E402
+from gate_host import journal_copy  # noqa: E402
 from gate_host.explaining import asking  # noqa: E402
 from gate_host.faults import Trouble  # noqa: E402
 from stand_in import PROGRAM, is_built  # noqa: E402
 from test_audit_files import write_journal  # noqa: E402
+
+
+def rooms():
+    """The rooms of copies that are there now."""
+    return set(Path("/dev/shm").glob(f"{journal_copy.PREFIX}*"))
+
+
+def rooms_that_stay(before):
+    """The rooms that have come since, and don't go away. Another test may have one for a while."""
+    new, late = rooms() - before, time.monotonic() + 60
+    while any(it.exists() for it in new) and time.monotonic() < late:
+        time.sleep(0.2)
+    return [it for it in new if it.exists()]
 
 
 class CommandTests(InRepository):
@@ -57,16 +72,16 @@ class CommandTests(InRepository):
     def test_who_may_not_read_the_journal_is_told(self):
         self.set_up()
         (self.places.records / "journal.db").touch()
-        no = mock.patch.object(asking, "read_journal", side_effect=PermissionError)
+        no = mock.patch.object(journal_copy, "read_journal", side_effect=PermissionError)
         with no, self.assertRaisesRegex(Trouble, "nobody but the owner"):
-            asking.journal_of(self.places, self.room)
+            journal_copy.journal_of(self.places, self.room)
 
     @is_built
     def test_a_question_and_nothing_written(self):
         self.set_up()
         shutil.copy(PROGRAM, self.program)
         story = Story()
-        approved = story.approves(11)
+        approved, there = story.approves(11), rooms()
         with closing(write_journal(self.places.records / "journal.db", story.journal())):
             self.assertGreater((self.places.records / "journal.db-wal").stat().st_size, 0)
             before = self.files()
@@ -83,7 +98,7 @@ class CommandTests(InRepository):
             self.assertEqual(self.explain("11").stderr, "")
             (self.places.reports / "process").unlink()
             self.assertEqual(self.files(), before)
-        self.assertEqual(list(Path("/dev/shm").glob(f"{asking.PREFIX}*")), [])
+        self.assertEqual(rooms_that_stay(there), [])
 
     @is_built
     def test_made_up_comments_act_nowhere(self):

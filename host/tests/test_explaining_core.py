@@ -7,18 +7,21 @@ from pathlib import Path
 sys.path.insert(0, str(Path(__file__).resolve().parent.parent))
 
 from gate_host.audit.entries import Journal  # noqa: E402
+from gate_host.audit.shown import time_of_day  # noqa: E402
+from gate_host.core.estimates import Estimate  # noqa: E402
 from gate_host.core.orders import Denied  # noqa: E402
 from gate_host.core.queue import QueuedBatch, batches_in  # noqa: E402
 from gate_host.explaining.courses import End, courses_of, texts_to_ask  # noqa: E402
 from gate_host.explaining.events import events_of, moment_of  # noqa: E402
-from gate_host.explaining.explained import groups_of  # noqa: E402
+from gate_host.explaining.explained import Explanation, Place, groups_of  # noqa: E402
+from gate_host.explaining.shown import line_of_estimate  # noqa: E402
 from gate_host.explaining.records import Asked, ChangeRow, Phase, Records, people_to_ask  # noqa: E402
 from gate_host.faults import Trouble  # noqa: E402
 from telling import BASE, HEAD, MERGED, NEXT, OTHER, Told, land, stage  # noqa: E402
 from test_audit_core import PACKAGE, imported_by  # noqa: E402
 
 DECIDING = ("events", "courses", "lives", "records", "explained", "shown")
-HARMLESS = {"dataclasses", "enum", "json", "typing"}
+HARMLESS = {"re", "dataclasses", "enum", "json", "typing"}
 # What of the audit is a function of values too, by its own test.
 OF_AUDIT = {"entries", "shown"}
 TWO = ((1, HEAD), (2, OTHER))
@@ -58,6 +61,21 @@ def tells(event, *orders, **fields):
 def ends_of(journal, running=(), required=("build",)):
     courses = courses_of(events_of(journal.rows, journal.facts), {"S": required}, set(running))
     return {number: (course.end, course.ended.mark.number if course.ended else None) for number, course in courses.all.items()}
+
+
+class EstimateTests(unittest.TestCase):
+    def test_why_there_is_none(self):
+        """Of the first hundred batches of a queue there is an estimate, once a batch has ended."""
+        none = "When it lands can't be estimated yet: no batch has ended."
+        for ahead, due in ((0, none), (99, none), (100, "When it lands can't be estimated: 100 batches come before it.")):
+            before = tuple(QueuedBatch(number, "staging", "waiting", 0, (number,)) for number in range(ahead))
+            found = Explanation(7, None, ChangeRow(Phase.OPEN), place=Place(200, (7,), "waiting", before, 1))
+            self.assertEqual(line_of_estimate(found), due)
+
+    def test_when_it_will_land(self):
+        found = Explanation(7, None, ChangeRow(Phase.OPEN), place=Place(9, (7,), "waiting", (), 9), estimate=Estimate(100, 160, 8))
+        due = f"between {time_of_day(100)} and {time_of_day(160)}, by how long the last 8 batches took."
+        self.assertEqual(line_of_estimate(found), f"It will probably land {due}")
 
 
 class CourseTests(unittest.TestCase):

@@ -3,9 +3,9 @@ import unittest
 
 from playing import A, B, C
 from gate_host.core.facts import (
-    Closed, Conflicted, Delayed, Ended, fact_in, Faulted, HeadDated, kind_of, KINDS, Labeled, MainSeen, Merged, Moved, MoverFound,
-    NotMoved, NotTaken, Opened, Pushed, PushesForgotten, PushTold, Queued, Reported, Reviewed, RoleGiven, Said, Staged, Ticked, Unlabeled,
-    Upgraded, written,
+    BaseEnded, Closed, Conflicted, Delayed, Doubted, Ended, fact_in, Faulted, Frozen, HeadDated, kind_of, KINDS, Labeled, MainSeen, Merged,
+    Moved, MoverFound, NotMoved, NotTaken, Opened, Pushed, PushesForgotten, PushTold, Queued, Reported, Reviewed, RoleGiven, Said, Staged,
+    Thawed, Ticked, Unlabeled, Upgraded, written,
 )
 from gate_host.core.orders import Unread
 
@@ -20,6 +20,8 @@ class FactTests(unittest.TestCase):
             Ended(1, "build", "error", "said", "1-0-build"), Faulted(1, "build", "said"), Moved("status-1.0", "main"),
             NotMoved("status-1.0"),
             Reported("n", "ci", C, "tests", "pending", "at 7"), Queued(7, 3),
+            Doubted(1, "build", "failure", "said", "1-0-build"), BaseEnded(1, "build", "success", "said", "1-0-build-on-main"),
+            Frozen("n", "rosa", "why"), Thawed("n", "rosa"),
             HeadDated(7, B, 5), Labeled(7, "wip"), Unlabeled(7, "wip"), Reviewed(7, "rosa", B, True), Ticked(5), Upgraded("{}"),
         ]
         self.assertEqual({kind_of(fact) for fact in facts}, set(KINDS))

@@ -15,9 +15,10 @@ LANES = 3
 # All stories take long.
 SECONDS = 7200 if os.environ.get("GATE_STORY_THOROUGH") else 1500
 MODULES = (
-    "test_github_acceptances", "test_github_api", "test_github_comments", "test_github_doctor", "test_github_doctor_rules",
-    "test_github_head_statuses", "test_github_pulls", "test_github_remote", "test_github_receiver", "test_github_settings",
-    "test_github_page", "test_github_host", "test_github_host_heads", "test_github_host_trouble", "test_github_team",
+    "test_github_api", "test_github_comments", "test_github_doctor", "test_github_doctor_rules", "test_github_head_statuses",
+    "test_github_notes_of_owner", "test_github_pulls", "test_github_remote", "test_github_receiver", "test_github_settings",
+    "test_github_served_page", "test_github_page", "test_github_host", "test_github_host_heads", "test_github_host_trouble",
+    "test_github_team",
 )
 
 

@@ -61,10 +61,10 @@ class HeadStatusTests(unittest.TestCase):
         self.addCleanup(self.journal.close)
         self.api, self.queue = Api(), Queue()
 
-    def begin(self, *steps, name="gate"):
+    def begin(self, *steps, name="gate", own=""):
         from gate_host.github.head_statuses import HeadStatuses
         self.known = Play(*steps).known
-        self.statuses = HeadStatuses(self.known, self.queue, self.journal, self.api, "/repos/o/r", "https://hub/o/r/commit/", name)
+        self.statuses = HeadStatuses(self.known, self.queue, self.journal, self.api, "/repos/o/r", "https://hub/o/r/commit/", name, own)
         return self.statuses
 
     def posted(self):
@@ -95,6 +95,13 @@ class HeadStatusTests(unittest.TestCase):
         self.queue.places = {}
         self.begin(*LANDED).post_some()
         self.assertEqual([state for _, state, _ in self.posted()], ["pending", "pending", "success"])
+
+    def test_each_leads_to_the_page_of_its_change_if_there_is_one(self):
+        self.queue.places = WAITS
+        self.begin(*BEFORE, own="https://queue.test").post_some()
+        self.queue.places = {}
+        self.begin(*LANDED, own="https://queue.test").post_some()
+        self.assertEqual([body["target_url"] for _, body in self.api.posted], ["https://queue.test/change-7.html"] * 2)
 
     def test_a_landing_of_which_a_host_that_died_has_said_nothing(self):
         self.begin(*BEFORE)

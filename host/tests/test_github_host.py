@@ -35,6 +35,7 @@ class HostTests(WithHost):
             self.assertRegex(self.statuses(pull)[-1][1], r"\Alanded as [0-9a-f]{7}, with batch [0-9]+\Z")
             self.assertEqual({state for state, _ in self.statuses(pull)[:-1]}, {"pending"})
         self.is_at_last(bad, "failure", "not landed: it fails the check build")
+        self.causes_are_explained(good=None, bad=("Failed", "build"), x=None)
 
 
 if __name__ == "__main__":

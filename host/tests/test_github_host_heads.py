@@ -41,8 +41,10 @@ class HeadTests(WithHost):
         self.assertLessEqual(self.errors.read_text(encoding="utf-8").count("is no comment on a change"), 2)
         files = self.project.bare.git("ls-tree", "--name-only", "refs/heads/main").split()
         self.assertEqual((set(files) & {"pushed", "missed"}, "other" in files), (set(), True))
+        self.causes_are_explained(pushed=("Pushed", ""), missed=None, other=None)
         self.approve(pushed, missed)
         self.landed(pushed, missed)
+        self.causes_are_explained(pushed=None, missed=None, other=None)
 
     def test_a_comment_on_a_head_that_no_look_has_seen(self):
         pull = self.people.propose(self.project, "otto", "back", {"back": "bad for all\n"})
@@ -59,9 +61,11 @@ class HeadTests(WithHost):
         self.start()
         self.told(pull, "the change is at " + first)
         self.assertEqual([it for it in self.comments(pull) if "approved" in it], [])
+        self.causes_are_explained(back=None)
         self.later(pull)
         self.people.comment(pull, "ines", "bors r+")
         self.landed(pull)
+        self.causes_are_explained(back=None)
 
     def polls(self, times):
         """Waits until comments were read so many times."""
@@ -97,6 +101,7 @@ class ConditionTests(WithHost):
         self.people.review(pull, "vera", "APPROVED")
         self.people.comment(pull, "ines", "bors r+")
         self.landed(pull)
+        self.causes_are_explained(x=None)
 
     def test_what_keeps_a_change_from_landing(self):
         self.people.push_files(self.project, "root", "next", {"next": "1\n"})
@@ -124,9 +129,11 @@ class ConditionTests(WithHost):
         self.people.retarget(pull, "otto", "main")
         self.until("it is a change again", lambda: not self.is_closed(pull))
         self.assertEqual((pull.merged, self.statuses(pull)), (False, []))
+        self.causes_are_explained(x=None)
         self.approve(pull)
         self.landed(pull)
         self.is_at_last(pull, "success", f"landed as {self.main()[:7]}, with batch 1")
+        self.causes_are_explained(x=None)
 
 
 if __name__ == "__main__":

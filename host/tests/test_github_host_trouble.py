@@ -39,6 +39,7 @@ class Trouble(WithHost):
         for pull in (self.good, self.bad):
             self.texts(pull)
         self.nobody_is_told_twice(self.good, self.bad)
+        self.causes_are_explained(good=None, bad=("Failed", "build"))
 
     def no_secret_is_found(self):
         """Each secret is in its own file alone, and in no address that was asked for."""
@@ -144,6 +145,7 @@ class PollingTests(Trouble):
         self.assertFalse(bare.is_ancestor(staged, self.main()))
         self.assertTrue(self.tested[self.main()])
         self.nobody_is_told_twice(self.good)
+        self.causes_are_explained(good=None, bad=None)
 
 
 @unittest.skipIf(httpx is None, "httpx isn't installed")

@@ -16,7 +16,7 @@ except ImportError:
 from with_github import SECONDS, WithGitHub
 
 TOP = Path(__file__).resolve().parent.parent.parent
-PAGE = TOP / "docs/github.md"
+PAGES = (TOP / "docs/github.md", TOP / "docs/github-running.md")
 PROGRAM = Path(os.environ.get("GATE_PROGRAM") or TOP / "crates/gate_bot/out/gate_bot")
 MARK = re.compile(r"\s*<!-- gate:[^>]*-->")
 # What differs from run to run: commits, readings of the clock, pages of GitHub's, how often the clock
@@ -71,7 +71,7 @@ class PageTests(WithGitHub):
         if not os.access(PROGRAM, os.X_OK):
             self.skipTest(f"there is no built program {PROGRAM}")
         super().setUp()
-        self.page = sections_of(PAGE.read_text(encoding="utf-8"))
+        self.page = sections_of("".join(page.read_text(encoding="utf-8") for page in PAGES))
         self.home, self.bin = self.room / "home", self.room / "bin"
         for folder in (self.home, self.bin):
             folder.mkdir()
@@ -203,6 +203,9 @@ class PageTests(WithGitHub):
         self.play("It runs", "The doctor")
         self.change = self.people.propose(self.project, "otto", "first", {"first": "1\n"}, "A first change")
         said, due, status = self.page["A first change"].all("text")
+        # A comment touches the change on GitHub. If that came before the host's first look, the head would be as new as the comment.
+        seen = self.room / f"project/gate/reports/change-{self.change.number}"
+        self.until("the host has seen the change", seen.exists)
         time.sleep(2.1)
         self.people.comment(self.change, "ines", said)
         due = list(filter(None, due.splitlines()))

@@ -134,7 +134,7 @@ class ProxyTests(WithReceiver):
             ("/etc/letsencrypt/live/gate.example.com/fullchain.pem", f"{self.room}/cert.pem"),
             ("/etc/letsencrypt/live/gate.example.com/privkey.pem", f"{self.room}/key.pem"),
         ):
-            self.assertEqual(site.count(before), 1, before)
+            self.assertIn(before, site)
             site = site.replace(before, after)
         temporary = "".join(f"{it}_temp_path {self.room}/{it};\n" for it in ("client_body", "proxy", "fastcgi", "uwsgi", "scgi"))
         text = f"daemon off;\npid {self.room}/pid;\nerror_log stderr;\nevents {{}}\nhttp {{\naccess_log off;\n{temporary}{site}}}\n"

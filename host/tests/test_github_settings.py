@@ -28,6 +28,9 @@ class SettingsTests(unittest.TestCase):
         found = github_in(f"{START}app = 12\nkey = /k\nweb = https://hub.test/\n")
         self.assertEqual((found.api, found.git, found.installation), ("https://hub.test/api/v3", "https://hub.test/o/r.x.git", ""))
         self.assertEqual([github_in(f"{START}token = /t\n{it}").status for it in ("", "status =\n", "status = q\n")], ["gate", "", "q"])
+        texts = ("", "serve_page = yes\npage = https://q.test/x/\n", "serve_page = no\npage =\n")
+        pages = [github_in(f"{START}token = /t\n{it}") for it in texts]
+        self.assertEqual([(it.serve_page, it.page) for it in pages], [(False, ""), (True, "https://q.test/x"), (False, "")])
         self.assertEqual([github_in(f"{START}token = /t\n{it}").poll_seconds for it in ("", "poll_seconds = 0.5\n")], [20, 0.5])
 
     def test_what_is_refused(self):
@@ -36,7 +39,9 @@ class SettingsTests(unittest.TestCase):
             f"{START}token = /t\ninstallation = 34\n", f"{START}key = /k\n", f"{START}token = /t\nstatus = {'x' * 256}\n",
             f"{START}{APP.replace('34', 'x')}", "[github]\nrepository = o\ntoken = /t\n", "[github]\nrepository = o/r/x\ntoken = /t\n",
             "[github]\nrepository = ../r\ntoken = /t\n", f"{START}token = /t\napi = ftp://x\n", f"{START}token = /t\nweb = https://a b\n",
-            f"{START}token = /t\n[github]\n", f"{START}token = /t\npoll_seconds = 0\n", f"{START}token = /t\npoll_seconds = soon\n",
+            f"{START}token = /t\nserve_page = true\n", f"{START}token = /t\npage = javascript:x\n", f"{START}token = /t\npage = //x\n",
+            f"{START}token = /t\npage = https://x/?a\n", f"{START}token = /t\n[github]\n", f"{START}token = /t\npoll_seconds = 0\n",
+            f"{START}token = /t\npoll_seconds = soon\n",
         ):
             with self.assertRaises(Trouble, msg=text):
                 github_in(text)

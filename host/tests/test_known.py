@@ -8,11 +8,15 @@ from gate_host.core import words
 from gate_host.core.commands import Command, Kind
 from gate_host.core.duties import open_duties
 from gate_host.core.facts import (
-    Closed, Conflicted, Delayed, Ended, Faulted, HeadDated, kind_of, KINDS, Labeled, MainSeen, Merged, Moved, MoverFound, NotMoved,
-    NotTaken, Opened, Pushed, PushesForgotten, PushTold, Queued, Reported, Reviewed, RoleGiven, Said, Staged, Ticked, Unlabeled,
+    BaseEnded, Closed, Conflicted, Delayed, Doubted, Ended, Faulted, Frozen, HeadDated, kind_of, KINDS, Labeled, MainSeen, Merged, Moved,
+    MoverFound, NotMoved, NotTaken, Opened, Pushed, PushesForgotten, PushTold, Queued, Reported, Reviewed, RoleGiven, Said, Staged, Thawed,
+    Ticked, Unlabeled,
 )
 from gate_host.core.known import MOST_CLAIMS, MOST_TOLD_MOVES, Change, Landing, Member, People, Test
 from gate_host.core.orders import Unread, answer_in
+
+HELD = [*STAGED, (Frozen("n3", "rosa", "why"),), (Ended(1, "build", "success", "it ended", "x"),)]
+DOUBTED = [*STAGED, (Doubted(1, "build", "failure", "it ended", "x"),)]
 
 
 class KnownTests(unittest.TestCase):
@@ -172,7 +176,7 @@ class KnownTests(unittest.TestCase):
             play = Play(*steps)
             before = Play(*steps).known
             before.made |= {D} if isinstance(fact, Merged) else set()
-            self.assertEqual((play.known.learn(99, 0, fact), play.known), ([], before), fact)
+            self.assertEqual((play.known.learn(99, play.known.at, fact), play.known), ([], before), fact)
 
     def test_an_order_to_land_what_is_not_staged_is_refused(self):
         play = Play(*STAGED)
@@ -200,6 +204,9 @@ class KnownTests(unittest.TestCase):
             (STAGED, Reported("n3", "ci", C, "lint", "success", ""), ["status-8"]),
             (STAGED, Reported("n3", "ci", D, "lint", "success", ""), []),
             (BEFORE, Reported("n3", "ci", B, "lint", "pending", ""), ["status-5"]),
+            (BEFORE, Frozen("n3", "rosa", "why"), []), (HELD, Thawed("n4", "rosa"), ["status-9"]),
+            (STAGED, Doubted(1, "build", "failure", "it ended", "x"), []),
+            (DOUBTED, BaseEnded(1, "build", "success", "it ended", "x"), ["status-9"]),
         ):
             kinds.add(kind_of(fact))
             play = Play(*steps)

@@ -282,7 +282,7 @@ class Owner:
     def __init__(self):
         self.settings = SimpleNamespace(
             look_seconds=0.0, tick_seconds=0.0, may_push=frozenset(), checks={"build": "b", "lint": "l"}, program="gate",
-            delete_branches=False,
+            delete_branches=False, retest_base=False, parallel=False,
         )
         self.roles, self.main, self.first, self.reporters, self.has_reviews = {"rosa": "reviewer"}, "main", "", {}, False
         self.own_status = "queue"
@@ -305,11 +305,26 @@ class AfterLanding:
         pass
 
 
+class OnEvent:
+    """Notes of what it was to tell, by kind."""
+
+    def __init__(self):
+        self.kinds = []
+
+    def go_on(self, settings, events):
+        self.kinds = [it.kind for it in events.last]
+        return ""
+
+    def close(self):
+        pass
+
+
 def host_in(world):
     journal = DyingJournal(world)
     given = ports.Ports(
         source=Source(world), repository=Repository(world), runner=Runner(world), bot=Bot(world), journal=journal, clock=Clock(world),
         board=Board(world), owner=Owner(), after=AfterLanding(),
+        on_event=OnEvent(),
     )
     given.owner.settings.delete_branches = world.drops
     return Host(given, journal.known(), "owner", 3, Troubles())

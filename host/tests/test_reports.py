@@ -108,6 +108,17 @@ class ReportsTests(WithStandIn):
         self.assertEqual((self.places.reports / "queue").stat().st_mode & 0o777, 0o644)
         self.assertEqual(self.complaints, [])
 
+    def test_what_is_said_of_the_queue_stands_right_below_it(self):
+        """It is told of the queue that is written with it."""
+        reports = self.begin()
+        reports.more_of_queue = lambda queue: [f"batch {it.number} {it.changes}" for it in queue]
+        self.answer(Ticked(7))
+        self.refresh("open: change 7")
+        self.put("queue", EMPTY + BATCH)
+        self.answer(Ticked(8))
+        self.refresh("open: change 7")
+        self.assertEqual((self.places.reports / "queue").read_text(encoding="utf-8"), f"{EMPTY}{BATCH}\nbatch 1 (7,)\nopen: change 7\n")
+
     def test_whether_something_waits(self):
         """It does if that isn't known: before the first report, after an answer, and if the bot for reports is lost."""
         self.begin()

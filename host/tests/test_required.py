@@ -24,7 +24,7 @@ class RequiredTests(InFolder):
         with closing(sqlite3.connect(records)) as database:
             database.execute("CREATE TABLE wanted (kind INTEGER, place INTEGER, word TEXT)")
             database.executemany("INSERT INTO wanted VALUES (?, ?, ?)", rows)
-            database.execute("CREATE TABLE desk AS SELECT 2 AS required_approvals")
+            database.execute("CREATE TABLE desk AS SELECT 2 AS required_approvals, 60 AS timeout_sec")
             database.commit()
         path = self.room / "program"
         path.write_text(f"#!/bin/sh\nread -r line\nprintf '%s\\n' '{answer}'\ncp {records} \"$3\"\n{ending}\n", encoding="utf-8")
@@ -34,7 +34,7 @@ class RequiredTests(InFolder):
     def test_the_lists_come_in_the_order_of_their_places(self):
         program = self.program(DONE, [(1, 1, "b"), (2, 0, "wip"), (1, 0, "z"), (3, 0, "format")])
         self.assertEqual(required_statuses(program, "x"), ["z", "b"])
-        self.assertEqual(wanted_of(program, "x", self.room), Wanted(["z", "b"], ["format"], 2))
+        self.assertEqual(wanted_of(program, "x", self.room), Wanted(["z", "b"], ["format"], 2, 60))
 
     def test_a_text_that_is_refused_has_the_number(self):
         refused = '[{"detail":2,"number":17,"rule":"BadSettings","verdict":"denied"}]'
@@ -67,7 +67,8 @@ class RequiredTests(InFolder):
         program = os.environ["GATE_PROGRAM"]
         text = '# \u00e4 "x"\nstatus = ["b", \'a\', "\u00e9"]\npr_status = ["z"]\nblock_labels = ["wip"]\n'
         self.assertEqual(required_statuses(program, text), ["b", "a", "\u00e9"])
-        self.assertEqual(wanted_of(program, f"{text}required_approvals = 3\n", self.room), Wanted(["b", "a", "\u00e9"], ["z"], 3))
+        found = wanted_of(program, f"{text}required_approvals = 3\ntimeout_sec = 90\n", self.room)
+        self.assertEqual(found, Wanted(["b", "a", "\u00e9"], ["z"], 3, 90))
         self.assertEqual([it.name for it in self.room.iterdir()], [])
         for number, text in ((1, "status = ["), (2, "timeout_sec = 60"), (3, "status = []")):
             self.assertEqual(required_statuses(program, text), number)

@@ -1,5 +1,5 @@
-"""Tests of what people may ask for over ssh: as tables, and with a real sshd and the commands of docs/host.md. `.ci/test_gate_host` runs
-them.
+"""Tests of what people may ask for over ssh: as tables, and with a real sshd and the commands of docs/trusting-the-host.md.
+`.ci/test_gate_host` runs them.
 
 with_sshd.py has the machine with the real sshd.
 """
@@ -25,14 +25,16 @@ from gate_host.places import Places  # noqa: E402
 from gate_host.setting_up import make_folders  # noqa: E402
 from with_sshd import ACCOUNT, SCP, SFTP, WithSshd, blocks_of_page  # noqa: E402
 
-NOTHING_ELSE = "this account runs git and gate-host say, queue, change, log, explain and status, and no other command"
+NOTHING_ELSE = (
+    "this account runs git and gate-host say, queue, change, log, status, explain, what-if, freeze and thaw, and no other command"
+)
 NO_REPOSITORY = "there is no such repository here, but "
 ONE_PATH = " takes the path of a repository here, and nothing else"
 OPEN_QUOTE = "a quote in it isn't closed"
 OF_SAY = "ask for it as gate-host say CHANGE [TEXT] [--head COMMIT], if need be with --repository NAME. A text in which a word"
-OF_QUEUE = "ask for it as gate-host queue, if need be with --repository NAME"
-OF_CHANGE = "ask for it as gate-host change NUMBER, if need be with --repository NAME"
-OF_LOG = "ask for it as gate-host log NUMBER [--all], if need be with --repository NAME"
+OF_QUEUE = "ask for it as gate-host queue [--json], if need be with --repository NAME"
+OF_CHANGE = "ask for it as gate-host change NUMBER [--json], if need be with --repository NAME"
+OF_LOG = "ask for it as gate-host log NUMBER [--all] [--json], if need be with --repository NAME"
 OF_STATUS = "ask for it as gate-host status COMMIT NAME STATE [--description TEXT], if need be with --repository NAME"
 HEAD = "0123456789" * 4
 
@@ -128,6 +130,19 @@ class AskedTests(unittest.TestCase):
         for asked in ("explain 7 --at ''", "explain 7 --at 'a b'", f"explain 7 --at={'x' * 129}"):
             self.refused(asked, "--at takes the identifier of a delivery or its number")
 
+    def test_other_settings_come_on_standard_input(self):
+        """No file of the account can be named."""
+        for asked, *due in (
+            ("what-if", "--settings=-"), ("gate-host what-if --settings -", "--settings=-"),
+            ("what-if --json --since 2026-11-30T12:00", "--since=2026-11-30T12:00", "--settings=-", "--json"),
+        ):
+            self.runs_job(asked, "what-if", *due)
+        for asked in ("what-if --settings /etc/passwd", "what-if --settings=bors.toml", "what-if --settings ''"):
+            self.refused(asked, "by ssh settings come on standard input: ask for what-if --settings -, with the file behind <")
+        for asked in ("what-if 7", "what-if - --at 3", "what-if --program /bin/sh"):
+            self.refused(asked, "ask for it as gate-host what-if --settings - [--since DATE] [--json], if need be with --repository NAME")
+        self.refused("what-if --since 'a b'", "--since takes a date, as in 2026-11-30T12:00, or the identifier of a delivery")
+
     # Git
 
     def test_services_of_git_are_run(self):
@@ -217,6 +232,9 @@ class AskedTests(unittest.TestCase):
         for before in ("", "gate-host "):
             self.runs_job(f"{before}queue", "queue")
             self.runs_job(f"{before}change 7", "change", "7")
+            self.runs_job(f"{before}queue --json", "queue", "--json")
+            self.runs_job(f"{before}change 7 --json", "change", "--json", "7")
+            self.runs_job(f"{before}log --json 7 --all", "log", "--all", "--json", "7")
             self.runs_job(f"{before}log 4294967295", "log", "4294967295")
             self.runs_job(f"{before}log --all 7", "log", "--all", "7")
             self.runs_job(f"{before}log 7 --repository=project.git --all", "log", "--all", "7")
@@ -272,7 +290,7 @@ class AskedTests(unittest.TestCase):
                 "say 1 x --program=sh", "say 1 x --all", f"say 1 x --head {HEAD} --head {HEAD}",
                 "say --repository project.git --repository project.git 1 x",
             ),
-            OF_QUEUE: ("queue 1", "queue --all", "queue --help", "queue -", "queue ''", "queue '- x'"),
+            OF_QUEUE: ("queue 1", "queue --json=x", "queue --all", "queue --help", "queue -", "queue ''", "queue '- x'"),
             OF_CHANGE: ("change", "change x", "change 1 2", "change -- 1", "change --all 1", "change 1 -", "change ../1", "change '1\n'"),
             OF_LOG: ("log", "log 1 2", "log --all", "log 1 --all=x", "log 1 --all --all", "log 1 --al", "log --outputs 1", "log ../../1"),
         }.items():

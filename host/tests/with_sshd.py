@@ -1,4 +1,5 @@
-"""A machine with a real sshd and a host at work, set up by the commands of docs/host.md, for the tests that people's machines reach by ssh.
+"""A machine with a real sshd and a host at work, set up by the commands of docs/trusting-the-host.md, for the tests that people's machines
+reach by ssh.
 
 The real sshd has its own keys and settings, and a free port of this machine. Its account is the user who runs the tests. It takes from
 clients the variables that it shouldn't, so that what keeps them out is the host alone. It needs sshd, ssh and the built program, which is
@@ -23,7 +24,7 @@ sys.path[:0] = [str(TESTS.parent), str(TESTS)]
 
 from stories import ENVIRONMENT  # noqa: E402
 
-PAGE = TOP / "docs/host.md"
+PAGES = (TOP / "docs/trusting-the-host.md", TOP / "docs/host.md")
 HEADING = "## All pushes through one account\n"
 PROGRAM = Path(os.environ.get("GATE_PROGRAM") or TOP / "crates/gate_bot/out/gate_bot")
 ACCOUNT = pwd.getpwuid(os.geteuid()).pw_name
@@ -82,10 +83,11 @@ def missing():
 
 
 def blocks_of_page(heading=HEADING):
-    """The commands below a heading of the page: those that set it up, and those that people type."""
-    _, found, rest = PAGE.read_text(encoding="utf-8").partition(heading)
-    if not found:
-        raise AssertionError(f"{PAGE} has no heading {heading}")
+    """The commands below a heading of one of the pages: those that set it up, and those that people type."""
+    texts = [page.read_text(encoding="utf-8").partition(heading)[2] for page in PAGES]
+    rest = next(filter(None, texts), None)
+    if rest is None:
+        raise AssertionError(f"no page has the heading {heading}")
     setting_up, typed = re.findall(r"```sh\n(.*?)```", re.split(r"\n##? ", rest)[0], re.DOTALL)
     return setting_up, typed
 

@@ -5,8 +5,8 @@ from typing import TYPE_CHECKING, Dict, List, Mapping, Optional, Sequence, Tuple
 
 from .commands import command_lines
 from .facts import (
-    Closed, Conflicted, Ended, Fact, Labeled, MainSeen, Moved, NotMoved, Opened, Pushed, Reported, Reviewed, RoleGiven, Said, Staged,
-    Ticked, Unlabeled,
+    BaseEnded, Closed, Conflicted, Ended, Fact, Labeled, MainSeen, Moved, NotMoved, Opened, Pushed, Reported, Reviewed, RoleGiven, Said,
+    Staged, Ticked, Unlabeled,
 )
 from .notes import objection_to
 from .orders import Json, Land, Order, Stage
@@ -44,7 +44,7 @@ def delivered(number: int, fact: Fact, known: "Known") -> List[Delivery]:
         return [delivered_of_people(number, fact)]
     if isinstance(fact, (Staged, Conflicted, Moved, NotMoved)):
         return delivered_of_outcome(fact, known)
-    if isinstance(fact, Ended):
+    if isinstance(fact, (Ended, BaseEnded)):
         return delivered_of_check(number, fact, known)
     if isinstance(fact, Reported):
         return delivered_of_report(number, fact, known)
@@ -96,12 +96,14 @@ def delivered_of_outcome(fact: Union[Staged, Conflicted, Moved, NotMoved], known
     return []
 
 
-def delivered_of_check(number: int, fact: Ended, known: "Known") -> List[Delivery]:
+def delivered_of_check(number: int, fact: Union[Ended, BaseEnded], known: "Known") -> List[Delivery]:
+    """How a check of a batch has ended, if the batch is still tested. What was doubted is told when the base was tested."""
     batch = known.batch_of(fact.batch)
     test = known.tests.get(batch.stage.branch) if batch else None
-    if batch is None or test is None or test.batch != fact.batch:
+    told = fact if isinstance(fact, Ended) else known.doubts.get((fact.batch, fact.name))
+    if batch is None or test is None or test.batch != fact.batch or told is None:
         return []
-    return [status_of(number, test.commit, fact.name, fact.state, batch.stage.changes)]
+    return [status_of(number, test.commit, told.name, told.state, batch.stage.changes)]
 
 
 def delivered_of_report(number: int, fact: Reported, known: "Known") -> List[Delivery]:

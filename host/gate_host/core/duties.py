@@ -35,11 +35,12 @@ Duty = Union[Merge, Point, Move]
 
 
 def open_duties(known: Known) -> List[Duty]:
-    """What has to be done, in the order in which it was ordered."""
+    """What has to be done, in the order in which it was ordered. While the queue is frozen nothing is staged, also if that was ordered
+    before."""
     duties: List[Duty] = []
     for name, order in known.orders.items():
         batch = known.batch_of(order.batch)
-        if batch and isinstance(order, Stage):
+        if batch and isinstance(order, Stage) and known.freeze is None:
             duties.append(Point(name, batch) if batch.commit else Merge(name, batch))
         elif batch and isinstance(order, Land):
             duties.append(Move(name, order, batch))

@@ -223,6 +223,45 @@ class NotMoved:
 
 
 @dataclass(frozen=True)
+class Doubted:
+    """A required check of a batch of one change has failed, in this way. Before the bot is told, the check runs on the base alone."""
+
+    batch: int
+    name: str
+    state: str
+    said: str
+    output: str
+
+
+@dataclass(frozen=True)
+class BaseEnded:
+    """A check of the base of a batch alone has ended: the state of its status, how, and the name of the file with its output."""
+
+    batch: int
+    name: str
+    state: str
+    said: str
+    output: str
+
+
+@dataclass(frozen=True)
+class Frozen:
+    """A person froze the queue by a note, for a reason in words. Nothing new is staged and nothing lands from then on."""
+
+    note: str
+    person: str
+    reason: str
+
+
+@dataclass(frozen=True)
+class Thawed:
+    """A person ended the freeze by a note."""
+
+    note: str
+    person: str
+
+
+@dataclass(frozen=True)
 class Ticked:
     """What the clock says, in whole seconds."""
 
@@ -238,7 +277,8 @@ class Upgraded:
 
 Fact = Union[
     RoleGiven, MainSeen, Opened, Pushed, Closed, HeadDated, Labeled, Unlabeled, Reviewed, Said, NotTaken, PushTold, MoverFound,
-    PushesForgotten, Merged, Conflicted, Delayed, Staged, Ended, Faulted, Reported, Queued, Moved, NotMoved, Ticked, Upgraded,
+    PushesForgotten, Merged, Conflicted, Delayed, Staged, Ended, Faulted, Reported, Queued, Moved, NotMoved, Doubted, BaseEnded, Frozen,
+    Thawed, Ticked, Upgraded,
 ]
 KINDS: Dict[str, Type[Fact]] = {kind.__name__: kind for kind in get_args(Fact)}
 

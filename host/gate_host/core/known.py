@@ -7,15 +7,21 @@ from dataclasses import dataclass, field, replace
 from typing import Dict, List, NamedTuple, Optional, Set, Tuple, Union
 
 from . import words
+from .broken import Broken, is_failure_of_main
 from .commands import REPEATED, Command, Kind, commands_in
+from .counts import Counts
 from .deliveries import Delivery, delivered
+from .durations import Runs
 from .earlier import restore
+from .events import Events
 from .facts import (
-    Closed, Conflicted, Delayed, Ended, Fact, Faulted, HeadDated, Labeled, MainSeen, Merged, Moved, MoverFound, NotMoved, NotTaken, Opened,
-    Pushed, PushesForgotten, PushTold, Queued, Reported, Reviewed, RoleGiven, Said, Staged, Ticked, Unlabeled,
+    BaseEnded, Closed, Conflicted, Delayed, Doubted, Ended, Fact, Faulted, Frozen, HeadDated, Labeled, MainSeen, Merged, Moved, MoverFound,
+    NotMoved, NotTaken, Opened, Pushed, PushesForgotten, PushTold, Queued, Reported, Reviewed, RoleGiven, Said, Staged, Thawed, Ticked,
+    Unlabeled,
 )
+from .freeze import Freeze, Held, passed_on, released
 from .notes import objection_to
-from .orders import Answer, Denied, Land, Notice, Order, Stage, Unread, is_done, orders_of
+from .orders import Answer, Denied, Json, Land, Notice, Order, Stage, Unread, is_done, orders_of
 
 
 # So much of what one person tells of pushes is kept.
@@ -66,33 +72,37 @@ class Member:
 @dataclass(frozen=True)
 class Batch:
     """A batch that was ordered to be staged: by which order, at which reading of the clock, and its merge, if that is made. And its changes
-    with their people, unless it is of a journal of an earlier version."""
+    with their people, unless it is of a journal of an earlier version; and at which reading of the clock it was staged, or 0."""
 
     order: str
     stage: Stage
     now: int
     commit: str = ""
     members: Tuple[Member, ...] = ()
+    staged: int = field(default=0, compare=False)
 
 
 @dataclass(frozen=True)
 class End:
     """Why a change that was approved isn't on its way any more: by the reason of a notice, with the name of a status if that names one, or
-    since the approval was taken back. And the merge of its last batch, if there is one."""
+    since the approval was taken back. And the merge of its last batch, if there is one; and whether the main branch itself fails the
+    status."""
 
     why: str
     name: str = ""
     commit: str = ""
+    is_of_main: bool = False
 
 
 @dataclass(frozen=True)
 class Landing:
-    """A batch that has landed: from which commit the main branch moved to which, and the changes."""
+    """A batch that has landed: from which commit the main branch moved to which, the changes, and when, or 0 if that isn't known."""
 
     batch: int
     base: str
     commit: str
     members: Tuple[Member, ...]
+    at: int = field(default=0, compare=False)
 
 
 @dataclass(frozen=True)
@@ -130,6 +140,8 @@ class Known:
     settings: Optional[str] = None
     taken: str = ""
     clock: int = 0
+    # When the last fact was written down.
+    at: int = field(default=0, compare=False)
     # The branch on which something landed last, by its name.
     landed_on: str = ""
     # How many batches have ended, each of which may let another one be staged.
@@ -145,8 +157,9 @@ class Known:
     reported: Dict[str, Dict[str, str]] = field(default_factory=dict)
     # In which batch each change was seen to wait last.
     queued: Dict[int, int] = field(default_factory=dict)
-    # The changes that are approved, and why others aren't any more at the heads that they have.
+    # The changes that are approved, when each was approved last, and why others aren't any more at the heads that they have.
     approved: Set[int] = field(default_factory=set)
+    approved_at: Dict[int, int] = field(default_factory=dict)
     ends: Dict[int, End] = field(default_factory=dict)
     # What has landed, by its commits, in their order; and by which commit each change has.
     landings: Dict[str, Landing] = field(default_factory=dict)
@@ -168,8 +181,22 @@ class Known:
     results: Dict[str, Dict[str, str]] = field(default_factory=dict)
     # Which faults of a check people were told of already.
     faulted: Set[Tuple[int, str]] = field(default_factory=set)
+    # Why nothing is staged and nothing lands at present, if somebody wants that, and what is held back meanwhile: what has succeeded, by
+    # the number of the batch and the name of the status.
+    freeze: Optional[Freeze] = None
+    held: Dict[Tuple[int, str], Held] = field(default_factory=dict)
+    # What has failed, by the number of the batch and the name of the check, and isn't told the bot before the base was tested; how checks
+    # ended on the base that the main branch has; and whether it is known to be broken.
+    doubts: Dict[Tuple[int, str], Doubted] = field(default_factory=dict)
+    base_states: Dict[str, Dict[str, str]] = field(default_factory=dict)
+    broken: Optional[Broken] = None
+    # How long the last batches took, and what a command of the owner's is told.
+    runs: Runs = field(default_factory=Runs)
+    events: Events = field(default_factory=Events)
     # What was told the bot and has no answer yet.
     waiting: List[Delivery] = field(default_factory=list)
+    # How often what has happened.
+    counts: Counts = field(default_factory=Counts, compare=False)
 
     # What is read of it
 
@@ -222,14 +249,16 @@ class Known:
 
     def learn(self, number: int, at: int, fact: Fact) -> List[Told]:
         """Takes in a fact, with its number and the time at which it was written down. What it tells the bot waits for its answer."""
-        self.waiting += delivered(number, fact, self)
+        self.at = at
+        self.waiting += passed_on(self, fact, delivered(number, fact, self))
+        self.counts.learn(number, at, fact, self.tests_of(fact.commit) if isinstance(fact, Reported) else [])
         if isinstance(fact, (Merged, Conflicted, Delayed, Staged, Moved, NotMoved)):
             return self.take_outcome(fact)
         if isinstance(fact, (Opened, Pushed, Closed)):
             return self.take_change(fact)
-        if isinstance(fact, (Ended, Faulted)):
+        if isinstance(fact, (Ended, Faulted, Doubted, BaseEnded)):
             return self.take_check(fact)
-        if isinstance(fact, (Said, NotTaken, Reported, Queued)):
+        if isinstance(fact, (Said, NotTaken, Reported, Queued, Frozen, Thawed)):
             return self.take_news(fact)
         if isinstance(fact, (Labeled, Unlabeled, Reviewed, HeadDated)):
             return self.take_opinion(fact)
@@ -245,12 +274,14 @@ class Known:
             restore(self, fact)
         return []
 
-    def take_news(self, fact: Union[Said, NotTaken, Reported, Queued]) -> List[Told]:
+    def take_news(self, fact: Union[Said, NotTaken, Reported, Queued, Frozen, Thawed]) -> List[Told]:
         if isinstance(fact, Reported):
             return self.take_report(fact)
+        if isinstance(fact, (Frozen, Thawed)):
+            return self.take_freeze(fact)
         if isinstance(fact, Queued):
             self.queued[fact.change] = fact.batch
-            return [Told(fact.change, words.queued(fact.batch))]
+            return [Told(fact.change, words.queued(fact.batch, self.freeze))]
         why = fact.why if isinstance(fact, NotTaken) else objection_to(self, fact)
         objection = [Told(fact.change, f"Not taken: {why}")] if why else []
         return [Told(fact.change, words.quoted(fact.person, fact.text)), *objection]
@@ -269,7 +300,8 @@ class Known:
     def take_main(self, number: int, at: int, fact: MainSeen) -> None:
         if self.base and fact.commit != self.base:
             self.moves[number] = Move(number, at, self.base, fact.commit)
-        self.base = self.settings_of = fact.commit
+        self.move_base(fact.commit)
+        self.settings_of = fact.commit
         self.settings = fact.settings
         if fact.settings is None:
             self.refusal = words.NO_SETTINGS
@@ -355,7 +387,8 @@ class Known:
         if isinstance(order, Land) and isinstance(fact, (Moved, NotMoved)):
             del self.orders[fact.order]
             if isinstance(fact, Moved):
-                self.base, self.landed_on = order.commit, fact.branch
+                self.move_base(order.commit)
+                self.landed_on = fact.branch
         batch = self.batch_of(order.batch) if isinstance(order, Stage) else None
         if batch is None:
             return []
@@ -364,25 +397,98 @@ class Known:
         elif isinstance(fact, Conflicted) or (isinstance(fact, Staged) and batch.commit):
             del self.orders[fact.order]
         if isinstance(fact, Conflicted):
+            self.note_event("conflict", batch=batch.stage.batch, changes=batch.stage.changes, change=fact.change, said=fact.why)
             return [Told(change, words.conflict(batch.stage, fact.change, fact.why)) for change in batch.stage.changes]
         if isinstance(fact, Delayed):
             return [Told(change, words.delayed(batch.stage, fact.why)) for change in batch.stage.changes]
         return []
 
-    def take_check(self, fact: Union[Ended, Faulted]) -> List[Told]:
+    def take_check(self, fact: Union[Ended, Faulted, Doubted, BaseEnded]) -> List[Told]:
         batch = self.batch_of(fact.batch)
         if batch is None:
             return []
+        if isinstance(fact, Doubted):
+            return self.take_doubt(batch, fact)
+        if isinstance(fact, BaseEnded):
+            return self.take_base_end(batch, fact)
         stage = batch.stage
         if isinstance(fact, Ended):
             self.results.setdefault(stage.branch, {})[fact.name] = fact.state
-            output = f"\noutput: {fact.output}" if fact.output else ""
-            text = f"{words.result(stage, fact.name, fact.state, fact.said)}{output}"
+            self.note_check(batch, fact.name, fact.state, fact.said)
+            text = f"{words.result(stage, fact.name, fact.state, fact.said)}{words.output_at(fact.output)}"
             return [Told(change, text) for change in stage.changes]
         if (fact.batch, fact.name) in self.faulted:
             return []
         self.faulted.add((fact.batch, fact.name))
         return [Told(change, words.faulted(stage, fact.name, fact.said)) for change in stage.changes]
+
+    def take_doubt(self, batch: Batch, fact: Doubted) -> List[Told]:
+        """Takes in that a check has failed, and that this is told the bot when the base was tested."""
+        stage = batch.stage
+        self.doubts = {key: it for key, it in self.doubts.items() if key[0] == fact.batch}
+        self.doubts[(fact.batch, fact.name)] = fact
+        self.results.setdefault(stage.branch, {})[fact.name] = fact.state
+        self.note_check(batch, fact.name, fact.state, fact.said)
+        text = f"{words.result(stage, fact.name, fact.state, fact.said)} {words.doubted(stage, fact.name)}{words.output_at(fact.output)}"
+        return [Told(change, text) for change in stage.changes]
+
+    def take_base_end(self, batch: Batch, fact: BaseEnded) -> List[Told]:
+        """Takes in how a check has ended on the base alone. People are told if the batch has failed it; and if the main branch is broken,
+        all whose changes are approved."""
+        stage = batch.stage
+        if stage.base == self.base:
+            self.base_states.setdefault(stage.base, {})[fact.name] = fact.state
+        if self.doubts.pop((fact.batch, fact.name), None) is None:
+            return []
+        told = {*self.approved, *stage.changes} if self.note_broken(stage, fact) else {*stage.changes}
+        text = words.on_base(stage, fact.name, fact.state, fact.said, self.since_of(stage.base)) + words.output_at(fact.output)
+        return [Told(change, text) for change in sorted(told)]
+
+    def note_broken(self, stage: Stage, fact: BaseEnded) -> bool:
+        """Notes whether the main branch is broken, by a check of its commit alone. The first such check stands for all."""
+        if fact.state != "failure" or stage.base != self.base:
+            return False
+        since = self.since_of(stage.base)
+        self.broken = self.broken or Broken(fact.name, stage.base, fact.said, fact.output, self.at, since)
+        self.note_event("broken", name=fact.name, base=stage.base, said=fact.said, since=since)
+        return True
+
+    def since_of(self, base: str) -> str:
+        """How the main branch came to a commit."""
+        landing = self.landings.get(base)
+        return words.since_landing(landing.batch, [it.change for it in landing.members]) if landing else words.SINCE_PUSH
+
+    def move_base(self, commit: str) -> None:
+        """Takes the main branch to a commit. Nothing is known of that by itself before a check has run there."""
+        if commit != self.base:
+            self.base, self.base_states, self.broken = commit, {}, None
+
+    def take_freeze(self, fact: Union[Frozen, Thawed]) -> List[Told]:
+        if isinstance(fact, Frozen):
+            self.freeze = Freeze(fact.person, fact.reason, self.freeze.at if self.freeze else self.at)
+            self.runs.freeze(self.at)
+            self.note_event("frozen", person=fact.person, reason=fact.reason)
+            text = words.frozen(self.freeze)
+        else:
+            self.waiting += released(self)
+            self.runs.thaw(self.at)
+            self.freeze = None
+            self.held.clear()
+            self.note_event("thawed", person=fact.person)
+            text = words.thawed(fact.person)
+        return [Told(change, text) for change in sorted(self.approved)]
+
+    def note_event(self, kind: str, **fields: Json) -> None:
+        self.events.add(self.at, kind, fields)
+
+    def note_check(self, batch: Batch, name: str, state: str, said: str) -> None:
+        """Notes that a check of a batch has failed, if it has."""
+        if state in ("failure", "error"):
+            stage = batch.stage
+            self.note_event(
+                "failure", batch=stage.batch, branch=stage.branch, changes=stage.changes, commit=batch.commit, name=name, state=state,
+                said=said,
+            )
 
     def take_report(self, fact: Reported) -> List[Told]:
         """Takes in what somebody reports of a commit. That a check has begun isn't told."""
@@ -394,6 +500,7 @@ class Known:
             batch = self.batch_of(test.batch)
             said = words.reported(fact.person, fact.description)
             if batch and fact.state != "pending":
+                self.note_check(batch, fact.name, fact.state, said)
                 text = words.result(batch.stage, fact.name, fact.state, said)
                 told += [Told(change, text) for change in batch.stage.changes]
         return told
@@ -401,6 +508,7 @@ class Known:
     def hear(self, answer: Answer) -> List[Told]:
         """Takes in the answer to the first delivery that has none."""
         delivery = self.waiting.pop(0)
+        self.counts.hear(self.at, delivery, answer)
         told: List[Told] = []
         if delivery.event == "comment":
             told += self.take_replies(delivery, answer)
@@ -414,6 +522,7 @@ class Known:
         for place, order in enumerate(orders_of(answer)):
             told += self.take_order(f"{delivery.id}.{place}", delivery, order)
         self.note_end(delivery, answer)
+        self.runs.take(self.at, delivery.line, answer)
         return told
 
     def take_replies(self, delivery: Delivery, answer: Answer) -> List[Told]:
@@ -439,6 +548,7 @@ class Known:
         """Notes whether a change is approved after a command that has acted."""
         if kind in (Kind.APPROVE, Kind.APPROVE_FOR):
             self.approved.add(change)
+            self.approved_at[change] = self.at
             self.ends.pop(change, None)
         elif kind is Kind.WITHDRAW:
             self.note_end_of_approval(change, End(words.WITHDRAWN))
@@ -453,6 +563,7 @@ class Known:
         batch = self.batch_of(stage.batch)
         if batch is None or not batch.commit:
             return []
+        self.batches[stage.branch] = replace(batch, staged=self.clock)
         self.tests[stage.branch] = Test(stage.branch, stage.batch, batch.commit)
         self.results[stage.branch] = {}
         return [Told(change, words.staged(stage, batch.commit)) for change in stage.changes]
@@ -466,19 +577,19 @@ class Known:
             self.changes[change] = Change("landed", head)
             self.landed_by[change] = land.commit
             self.approved.discard(change)
-        self.landings[land.commit] = Landing(land.batch, land.base, land.commit, batch.members)
+        self.landings[land.commit] = Landing(land.batch, land.base, land.commit, batch.members, self.at)
         approvals = {member.change: words.approval(member) for member in batch.members}
+        self.note_event(
+            "landing", batch=land.batch, changes=batch.stage.changes, base=land.base, commit=land.commit, branch=self.landed_on,
+            approvals={str(member.change): words.approval(member) for member in batch.members},
+        )
         text = words.landed(batch.stage, self.landed_on, land.commit)
         return [Told(change, f"{text}{words.approved_by(approvals.get(change, ''))}") for change in batch.stage.changes]
 
     def take_order(self, name: str, delivery: Delivery, order: Order) -> List[Told]:
         """Takes in an order. A batch on a branch replaces the one before it there, with its order and its test."""
         if isinstance(order, Notice):
-            if order.why not in words.TRIES:
-                batch = self.batches.get("staging")
-                commit = batch.commit if batch and order.change in batch.stage.changes else ""
-                self.note_end_of_approval(order.change, End(order.why, order.name, commit))
-            return [Told(order.change, words.notice(order))]
+            return [self.take_notice(order)]
         if isinstance(order, Land):
             if self.batch_of(order.batch) is None:
                 raise Unread(f"an order to land batch {order.batch}, which isn't the last one that was to be staged")
@@ -491,6 +602,16 @@ class Known:
         self.results.pop(order.branch, None)
         self.faulted = {(batch, it) for batch, it in self.faulted if self.batch_of(batch)}
         return []
+
+    def take_notice(self, order: Notice) -> Told:
+        batch, is_of_main = self.batches.get("staging"), False
+        if order.why not in words.TRIES:
+            own = batch if batch and order.change in batch.stage.changes else None
+            is_of_main = order.why == "Failed" and is_failure_of_main(self, own, order.name)
+            self.note_end_of_approval(order.change, End(order.why, order.name, own.commit if own else "", is_of_main))
+        text = words.notice_of_main(order) if is_of_main else words.notice(order)
+        self.note_event("notice", change=order.change, why=order.why, name=order.name, text=text)
+        return Told(order.change, text)
 
     def members_of(self, stage: Stage) -> Tuple[Member, ...]:
         """The changes of a batch with their people, as they are now."""

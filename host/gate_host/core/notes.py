@@ -46,6 +46,23 @@ class Acceptance:
 
 
 @dataclass(frozen=True)
+class Freezing:
+    """A person wants the queue frozen, for a reason in words."""
+
+    note: str
+    person: str
+    reason: str
+
+
+@dataclass(frozen=True)
+class Thawing:
+    """A person wants the freeze ended."""
+
+    note: str
+    person: str
+
+
+@dataclass(frozen=True)
 class Report:
     """A person reports the status of a commit under a name, with a description of it, which may be empty."""
 
@@ -65,7 +82,7 @@ class Strange:
     person: str
 
 
-Note = Union[Comment, PushTold, Acceptance, Report, Strange]
+Note = Union[Comment, PushTold, Acceptance, Report, Freezing, Thawing, Strange]
 
 
 @dataclass(frozen=True)
@@ -106,8 +123,25 @@ class ReportLeft:
     description: str
 
 
-Left = Union[CommentLeft, PushLeft, AcceptanceLeft, ReportLeft]
-KINDS = {CommentLeft: "comment", PushLeft: "push", AcceptanceLeft: "accept", ReportLeft: "status"}
+@dataclass(frozen=True)
+class FreezeLeft:
+    """That the queue is to be frozen, and why."""
+
+    person: Optional[str]
+    reason: str
+
+
+@dataclass(frozen=True)
+class ThawLeft:
+    """That the freeze is to be ended."""
+
+    person: Optional[str]
+
+
+Left = Union[CommentLeft, PushLeft, AcceptanceLeft, ReportLeft, FreezeLeft, ThawLeft]
+KINDS = {
+    CommentLeft: "comment", PushLeft: "push", AcceptanceLeft: "accept", ReportLeft: "status", FreezeLeft: "freeze", ThawLeft: "thaw",
+}
 
 
 def table_of(left: Left) -> Dict[str, Json]:
@@ -121,6 +155,8 @@ def note_in(name: str, person: str, body: Mapping[str, Json]) -> Note:
         return push_in(name, person, body)
     if body.get("kind") == "status":
         return report_in(name, person, body)
+    if body.get("kind") in ("freeze", "thaw"):
+        return freeze_in(name, person, body)
     if body.get("kind") != "accept":
         return comment_in(name, person, body)
     commit = body.get("commit")
@@ -152,6 +188,18 @@ def report_in(note: str, person: str, body: Mapping[str, Json]) -> Union[Report,
     if not isinstance(state, str) or state not in STATES or not isinstance(more, str) or not is_description(more):
         return Strange(note, person)
     return Report(note, person, commit, name, state, more.encode("utf-8", "replace").decode("utf-8"))
+
+
+def freeze_in(note: str, person: str, body: Mapping[str, Json]) -> Union[Freezing, Thawing, Strange]:
+    reason = body.get("reason")
+    if body.get("kind") == "thaw":
+        return Thawing(note, person)
+    return Freezing(note, person, reason) if isinstance(reason, str) and is_reason(reason) else Strange(note, person)
+
+
+def is_reason(text: str) -> bool:
+    """Whether this tells why the queue is frozen: a short text on one line, which everybody is shown."""
+    return bool(text.strip()) and text.isprintable() and is_description(text)
 
 
 def is_description(text: str) -> bool:

@@ -4,9 +4,11 @@ from dataclasses import dataclass, field
 from itertools import count
 from typing import Collection, Container, Dict, Iterable, List, Mapping, Optional, Set, Tuple, Union
 
-from .facts import Closed, Fact, Labeled, MoverFound, Pushed, PushesForgotten, Queued, Reported, Reviewed, RoleGiven, Unlabeled
+from .facts import (
+    Closed, Fact, Frozen, Labeled, MoverFound, Pushed, PushesForgotten, Queued, Reported, Reviewed, RoleGiven, Thawed, Unlabeled,
+)
 from .known import Known, Move
-from .notes import Report
+from .notes import Freezing, Report, Thawing
 
 # By so many seconds a code host may tell a push by force for later than the head to which it led.
 SECONDS_OF_FORCE = 5
@@ -171,6 +173,17 @@ def report_of(known: Known, report: Report, commands: Container[str], reporters:
     if not known.changes_at(report.commit):
         return f"{said}, which is neither tested now nor the head of an open change"
     return Reported(report.note, report.person, report.commit, report.name, report.state, report.description)
+
+
+def freeze_of(known: Known, asked: Union[Freezing, Thawing], owner: Optional[str]) -> Union[Frozen, Thawed, str]:
+    """The fact as which it is written down that somebody wants the queue frozen or thawed, or why that doesn't count. The owner may, and
+    each reviewer."""
+    wanted = "frozen" if isinstance(asked, Freezing) else "thawed"
+    if asked.person != owner and known.roles.get(asked.person) != "reviewer":
+        return f"{asked.person} wants the queue {wanted}, and is neither a reviewer nor the owner"
+    if isinstance(asked, Freezing):
+        return Frozen(asked.note, asked.person, asked.reason)
+    return Thawed(asked.note, asked.person) if known.freeze else f"{asked.person} wants the queue thawed, and it isn't frozen"
 
 
 def news_of_queue(known: Known, waiting: Mapping[int, int]) -> List[Queued]:

@@ -6,6 +6,7 @@ from .commands import Command, Kind
 from .orders import Answer, Denied, Notice, Reply, Stage
 
 if TYPE_CHECKING:
+    from .freeze import Freeze
     from .known import Batch, Landing, Member
 
 # The first digits of a commit, by which people know it, and how much of a title they are shown.
@@ -53,6 +54,14 @@ def notice(order: Notice) -> str:
     if order.why in TRIES:
         return f"{TRIES[order.why]} ({order.why})."
     return f"The approval or the try has ended ({order.why}): {NOTICES.get(order.why, 'it says no more').format(name=order.name)}."
+
+
+def notice_of_main(order: Notice) -> str:
+    """What a notice tells if the main branch alone fails the check as well. The bot ends the approval all the same."""
+    return (
+        f"The approval has ended ({order.why}), as always if a check of a batch of one change fails. But the main branch alone fails the "
+        f"check {plain(order.name)} as well, so this says nothing against the change. When main is mended, have it retried by bors retry."
+    )
 
 
 def why_ended(why: str, name: str) -> str:
@@ -104,8 +113,28 @@ def listed(changes: Sequence[int]) -> str:
     return ("change " if len(changes) == 1 else "changes ") + ", ".join(map(str, changes))
 
 
-def queued(batch: int) -> str:
-    return f"It waits in batch {batch}."
+def queued(batch: int, freeze: "Optional[Freeze]" = None) -> str:
+    return f"It waits in batch {batch}.{f' {frozen(freeze)}' if freeze else ''}"
+
+
+def frozen(freeze: "Freeze") -> str:
+    """That nothing is staged and nothing lands, as whom it wants so, and why."""
+    reason = plain(freeze.reason).strip().rstrip(".")
+    return f"The queue is frozen by {freeze.person}: {reason}. Nothing is staged and nothing lands until it is thawed; approvals go on."
+
+
+# How the lines begin by which the report of the queue says so.
+FROZEN_SINCE, MAIN_IS_BROKEN = "frozen since ", "the main branch is broken: "
+
+
+def frozen_since(freeze: "Freeze", at: str) -> str:
+    """That the queue is frozen, for the report of it."""
+    reason = plain(freeze.reason).strip().rstrip(".")
+    return f"{FROZEN_SINCE}{at} by {freeze.person}: {reason}. Nothing is staged and nothing lands until gate-host thaw"
+
+
+def thawed(person: str) -> str:
+    return f"The queue goes on: {person} has ended the freeze."
 
 
 def staged(stage: Stage, commit: str) -> str:
@@ -188,9 +217,42 @@ def result(stage: Stage, name: str, state: str, said: str) -> str:
     return f"The check {name} of batch {stage.batch} ({listed(stage.changes)}) {ENDS[state]}: {said}."
 
 
-def faulted(stage: Stage, name: str, said: str) -> str:
+def output_at(name: str) -> str:
+    """Where the output of a check is, as a line more, or nothing."""
+    return f"\noutput: {name}" if name else ""
+
+
+def doubted(stage: Stage, name: str) -> str:
+    return f"Before that counts, the check {name} is to run on the main branch alone, at {stage.base[:DIGITS]}."
+
+
+def on_base(stage: Stage, name: str, state: str, said: str, since: str) -> str:
+    """How a check has ended on the main branch alone, which a batch of one change has failed."""
+    ran = f"The check {name} of the main branch alone, at {stage.base[:DIGITS]},"
+    if state == "success":
+        return f"{ran} succeeded: {said}. So it isn't main alone that fails it."
+    if state == "failure":
+        return f"{ran} failed as well: {said}. So the main branch is broken, and {listed(stage.changes)} isn't blamed. {since}"
+    return f"{ran} came to no verdict: {said}. So it isn't known whether main alone fails it."
+
+
+SINCE_PUSH = "It wasn't a landing by which the main branch came to that commit."
+
+
+def since_landing(batch: int, changes: Sequence[int]) -> str:
+    """That the main branch has been at a commit since a landing. Then the check had succeeded."""
+    return f"It came to that commit by the landing of batch {batch} ({listed(changes)}), for which all that was required had succeeded."
+
+
+def broken(name: str, base: str, said: str, since: str) -> str:
+    """That the main branch is broken."""
+    return f"{MAIN_IS_BROKEN}the check {name} fails on {base[:DIGITS]} alone: {said}. {since}"
+
+
+def faulted(stage: Stage, name: str, said: str, is_of_main: bool = False) -> str:
+    of = "the main branch alone" if is_of_main else f"batch {stage.batch} ({listed(stage.changes)})"
     return (
-        f"The check {name} of batch {stage.batch} ({listed(stage.changes)}) has come to no verdict, by a fault of the host, and is tried "
+        f"The check {name} of {of} has come to no verdict, by a fault of the host, and is tried "
         f"again: {said}."
     )
 
@@ -209,3 +271,10 @@ def stray(at: str, before: str, target: str) -> str:
         f"the main branch was moved from {before} to {target}, as seen at {at}, and nobody who may said so. If that is right, "
         f"gate-host doctor --accept {target}"
     )
+
+
+def basis(batches: int) -> str:
+    """On how many batches an estimate rests."""
+    if batches <= 2:
+        return f"by how long {'two batches' if batches == 2 else 'one batch'} took, which says little"
+    return f"by how long the last {batches} batches took"

@@ -2,26 +2,22 @@
 the repository."""
 import argparse
 import json
-import os
 import shutil
 import sqlite3
 import subprocess
 import sys
-import tempfile
-from contextlib import closing, contextmanager
+from contextlib import closing
 from pathlib import Path
 from typing import Iterator, List, Mapping, Optional, Sequence, Tuple, Union
 
-from ..audit.entries import Journal
-from ..audit.journal_file import read_journal
 from ..audit.replay import answers_of, differences
 from ..client import Bot, BotEnded
 from ..core.orders import Denied, Unread, answer_in
 from ..core.queue import batches_in
 from ..faults import Trouble, Unable
-from ..places import Places, find_places
+from ..journal_copy import journal_of, program_of, room_for
+from ..places import find_places
 from ..required import STATUS, required_statuses
-from ..settings import read_settings
 from .courses import courses_of, texts_to_ask
 from .events import Moment, moment_of
 from .explained import Explanation, Story, changes_of_interest, explained
@@ -29,11 +25,8 @@ from .lives import lives_of
 from .records import Asked, BatchRow, ChangeRow, Phase, Records, people_to_ask
 from .shown import json_of, text_of
 
-PREFIX = "gate-explain-"
 # Each person whose `bors r+` would act is asked for over a copy of its own. So many are asked for.
 MOST_WHO_MAY = 50
-# In memory the many steps of the program's file needn't wait for a disk. The room has to hold so many times the journal.
-MEMORY, TIMES = Path("/dev/shm"), 6
 SECONDS = 6 * 3600
 # What stands in the records, by docs/formats.md.
 PHASES = {1: Phase.OPEN, 2: Phase.CLOSED, 3: Phase.LANDED}
@@ -53,40 +46,6 @@ def explain(arguments: argparse.Namespace) -> int:
     print(json_of(found) if arguments.json else text_of(found), end="")
     sys.stdout.flush()
     return 0
-
-
-def program_of(places: Places) -> str:
-    program = read_settings(places.settings, places.owner).program
-    if not os.access(program, os.X_OK):
-        raise Trouble(f"there is no program of the bot at {program}, and without it nothing can be explained")
-    return str(program)
-
-
-@contextmanager
-def room_for(places: Places) -> Iterator[Path]:
-    """A folder that nobody else may read, for as long as it is needed."""
-    path = journal_at(places)
-    try:
-        due = TIMES * sum(it.stat().st_size for it in path.parent.glob(f"{path.name}*"))
-    except PermissionError:
-        raise Trouble(f"nobody but the owner of {places.repository} can read its journal; ask them, or ask by ssh") from None
-    is_fit = MEMORY.is_dir() and os.access(MEMORY, os.W_OK) and os.statvfs(MEMORY).f_bavail * os.statvfs(MEMORY).f_frsize > due
-    with tempfile.TemporaryDirectory(prefix=PREFIX, dir=MEMORY if is_fit else None) as room:
-        yield Path(room)
-
-
-def journal_at(places: Places) -> Path:
-    return places.records / "journal.db"
-
-
-def journal_of(places: Places, room: Path) -> Journal:
-    path = journal_at(places)
-    try:
-        if not path.is_file():
-            raise Trouble(f"there is no journal {path}: no host has run yet")
-        return read_journal(path, room)
-    except PermissionError:
-        raise Trouble(f"nobody but the owner of {places.repository} can read its journal; ask them, or ask by ssh") from None
 
 
 def explanation_of(change: int, moment: Moment, program: str, room: Path) -> Explanation:

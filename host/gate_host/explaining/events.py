@@ -1,16 +1,21 @@
 """The deliveries of a journal up to a moment, each with its answer and with what the host wrote down beside it."""
 import json
+import re
 from dataclasses import dataclass
-from typing import Dict, List, Mapping, NamedTuple, Optional, Sequence, Tuple
+from typing import Dict, List, Mapping, NamedTuple, Optional, Sequence, Tuple, Union
 
 from ..audit.entries import Fact, Journal, Row, number_of, text_of
-from ..core.facts import Conflicted, Delayed, Ended, PushTold, Reported, fact_in
+from ..core.facts import BaseEnded, Conflicted, Delayed, Doubted, Ended, Frozen, PushTold, Reported, fact_in
+from ..core.freeze import Freeze
 from ..core.orders import Answer, Denied, Json, Order, Unread, answer_in, orders_of, table_in
 from ..core.words import reported
 from ..faults import Trouble
 
 # The facts of the host that say more than their deliveries do.
-TELLING = ("Conflicted", "Delayed", "Ended", "PushTold", "Reported")
+TELLING = ("BaseEnded", "Conflicted", "Delayed", "Ended", "PushTold", "Reported")
+# The identifier of a status that isn't the report of an order: it has the number of its fact.
+HELD = re.compile(r"status-([0-9]+)")
+OF_BASE = {"success": "succeeded", "failure": "failed as well"}
 
 
 class Mark(NamedTuple):
@@ -57,12 +62,15 @@ class Delay:
 
 @dataclass(frozen=True)
 class Moment:
-    """All up to a moment: the deliveries that have an answer by then, how many have none, and what delays the host."""
+    """All up to a moment: the deliveries that have an answer by then, how many have none, what delays the host, and whether the queue is
+    frozen; and the facts by which it was frozen or thawed."""
 
     rows: Sequence[Row]
     events: Sequence[Event]
     waiting: int
     delays: Sequence[Delay]
+    freeze: Optional[Freeze] = None
+    freezes: Sequence[Fact] = ()
 
     @property
     def last(self) -> Optional[Mark]:
@@ -78,7 +86,7 @@ def moment_of(journal: Journal, after: Optional[str]) -> Moment:
     up_to = max(up_to, given[-1].fact) if up_to is not None and given else up_to
     facts = [fact for fact in journal.facts if up_to is None or fact.number <= up_to]
     try:
-        return Moment(rows, events_of(rows, facts), len(given) - len(rows), delays_in(facts))
+        return Moment(rows, events_of(rows, facts), len(given) - len(rows), delays_in(facts), freeze_in(facts), freezes_in(facts))
     except (Unread, ValueError, TypeError) as fault:
         raise Trouble(f"the journal can't be read: {fault}") from fault
 
@@ -97,11 +105,20 @@ def place_of(rows: Sequence[Row], after: str) -> int:
 
 def events_of(rows: Sequence[Row], facts: Sequence[Fact]) -> List[Event]:
     by_number = {fact.number: fact for fact in facts}
-    pushers = pushers_in(facts)
-    return [event_of(row, by_number.get(row.fact), pushers) for row in rows]
+    own = [own_fact(row, by_number) for row in rows]
+    pushers, doubts = pushers_in(facts), doubts_in(facts)
+    return [event_of(row, fact, pushers, doubts) for row, fact in zip(rows, own)]
 
 
-def event_of(row: Row, fact: Optional[Fact], pushers: Mapping[Tuple[int, str], str]) -> Event:
+def own_fact(row: Row, by_number: Mapping[int, Fact]) -> Optional[Fact]:
+    """The fact that a delivery tells. What was held back while the queue was frozen was handed in with the end of that."""
+    fact, held = by_number.get(row.fact), HELD.fullmatch(row.id)
+    return by_number.get(int(held[1]), fact) if fact and fact.kind == "Thawed" and held else fact
+
+
+def event_of(
+    row: Row, fact: Optional[Fact], pushers: Mapping[Tuple[int, str], str], doubts: Mapping[Tuple[int, str], str],
+) -> Event:
     body = table_in(json.loads(row.line))
     change, head = number_of(body.get("change")), text_of(body.get("head"))
     kind = text_of(body.get("event"))
@@ -109,7 +126,7 @@ def event_of(row: Row, fact: Optional[Fact], pushers: Mapping[Tuple[int, str], s
     return Event(
         Mark(row.number, row.id, fact.at if fact else None), kind, answer_in(row.answer or "[]"), change, name_in(person),
         text_of(body.get("text")), head or text_of(body.get("commit")), text_of(body.get("name")) or text_of(body.get("label")),
-        state_in(body), number_of(body.get("batch")), said_of(fact),
+        state_in(body), number_of(body.get("batch")), said_of(fact, doubts),
     )
 
 
@@ -122,14 +139,42 @@ def state_in(body: Mapping[str, Json]) -> str:
     return text_of(body.get("state")) or text_of(body.get("role"))
 
 
-def said_of(fact: Optional[Fact]) -> str:
-    """What the host wrote down of a check that ended, of a report, or of a conflict."""
+def said_of(fact: Optional[Fact], doubts: Mapping[Tuple[int, str], str]) -> str:
+    """What the host wrote down of a check that ended, of a report, or of a conflict. A failure that was told when the base had been tested
+    has its own words, and how the base did."""
     found = fact_in(fact.kind, fact.body) if fact and fact.kind in TELLING else None
     if isinstance(found, Conflicted):
         return f"change {found.change} doesn't merge: {found.why}"
     if isinstance(found, Ended):
-        return f"{found.said}; output: {found.output}" if found.output else found.said
+        return said_of_check(found)
+    if isinstance(found, BaseEnded):
+        of_base = OF_BASE.get(found.state, "came to no verdict")
+        return f"{doubts.get((found.batch, found.name), found.said)}; the main branch alone {of_base}"
     return reported(found.person, found.description) if isinstance(found, Reported) else ""
+
+
+def said_of_check(found: Union[Ended, Doubted]) -> str:
+    return f"{found.said}; output: {found.output}" if found.output else found.said
+
+
+def doubts_in(facts: Sequence[Fact]) -> Dict[Tuple[int, str], str]:
+    """How checks failed that ran on the base alone before the bot was told, by the number of the batch and the name of the check."""
+    told = [fact_in(fact.kind, fact.body) for fact in facts if fact.kind == "Doubted"]
+    return {(it.batch, it.name): said_of_check(it) for it in told if isinstance(it, Doubted)}
+
+
+def freeze_in(facts: Sequence[Fact]) -> Optional[Freeze]:
+    """The freeze that lasts, if one does. Who froze it again has the last word, and not the time."""
+    freeze: Optional[Freeze] = None
+    for fact in freezes_in(facts):
+        found = fact_in(fact.kind, fact.body)
+        freeze = Freeze(found.person, found.reason, freeze.at if freeze else fact.at) if isinstance(found, Frozen) else None
+    return freeze
+
+
+def freezes_in(facts: Sequence[Fact]) -> List[Fact]:
+    """The facts by which the queue was frozen or thawed."""
+    return [fact for fact in facts if fact.kind in ("Frozen", "Thawed")]
 
 
 def pushers_in(facts: Sequence[Fact]) -> Dict[Tuple[int, str], str]:

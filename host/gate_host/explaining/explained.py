@@ -2,6 +2,9 @@
 from dataclasses import dataclass
 from typing import Dict, List, Mapping, Optional, Sequence, Set, Tuple
 
+from ..core.freeze import Freeze
+from ..core.durations import Runs
+from ..core.estimates import Estimate, estimates_at
 from ..core.orders import Denied
 from ..core.queue import QueuedBatch
 from .courses import HALVED, Course, Courses, End
@@ -129,6 +132,9 @@ class Explanation:
     left: Optional[Left] = None
     steps: Tuple[Step, ...] = ()
     has_more_steps: bool = False
+    freeze: Optional[Freeze] = None
+    # When it will probably land, by how long the last batches took.
+    estimate: Optional[Estimate] = None
 
 
 @dataclass(frozen=True)
@@ -155,7 +161,8 @@ def explained(number: int, story: Story, asked: Sequence[Asked]) -> Explanation:
         approved_by(life) if change.is_approved or not is_on_its_way else None,
         groups_of(asked, change), place, run_of(story) if place else None, trying,
         left if is_on_its_way and not change.is_approved else None,
-        tuple(steps[:MOST_STEPS]), len(steps) > MOST_STEPS,
+        tuple(steps[:MOST_STEPS]), len(steps) > MOST_STEPS, story.moment.freeze if is_on_its_way else None,
+        estimate_of(number, story) if place else None,
     )
 
 
@@ -226,6 +233,26 @@ def check_of(name: str, row: BatchRow, course: Optional[Course]) -> Check:
     state = "success" if name in row.succeeded else "pending" if name in row.pending else "open"
     told = course.statuses.get(name) if course else None
     return Check(name, state, told.mark if told and state != "open" else None)
+
+
+def estimate_of(number: int, story: Story) -> Optional[Estimate]:
+    """When a change of the queue will probably land, as it was to be told at that moment. While the queue is frozen nobody knows."""
+    runs, last = runs_of(story.moment), story.moment.last
+    if last is None or last.at is None or story.moment.freeze:
+        return None
+    return estimates_at(runs, story.records.queue, last.at).get(number)
+
+
+def runs_of(moment: Moment) -> Runs:
+    """How long the last batches took by that moment."""
+    runs, freezes = Runs(), list(moment.freezes)
+    for row, event in zip(moment.rows, moment.events):
+        while freezes and freezes[0].number <= row.fact:
+            fact = freezes.pop(0)
+            (runs.freeze if fact.kind == "Frozen" else runs.thaw)(fact.at)
+        if event.mark.at is not None:
+            runs.take(event.mark.at, row.line, event.answer)
+    return runs
 
 
 # What was before

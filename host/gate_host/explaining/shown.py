@@ -5,13 +5,15 @@ from enum import Enum
 from typing import Iterator, List, Optional, Sequence
 
 from ..audit.shown import plain, time_of_day
-from ..core.words import DIGITS, WITHDRAWN, listed, why_ended
+from ..core.estimates import MOST_BATCHES
+from ..core.freeze import Freeze
+from ..core.words import DIGITS, WITHDRAWN, basis, listed, why_ended
 from .courses import End
 from .events import Mark
 from .explained import Answered, Check, Explanation, Left, Run, Step
 from .records import Phase
 
-# What each rule that judges `r+` refuses, in the words of docs/behaviour.md, and what to do about it. `{detail}` is that of the answer.
+# What each rule that judges `r+` refuses, in the words of docs/commands.md, and what to do about it. `{detail}` is that of the answer.
 REFUSALS = {
     "UnknownChange": ("the change was never opened", "It has to be opened first."),
     "NotPermitted": ("the person lacks the level that the command needs", "Reviewers, and delegates of this change, have it."),
@@ -37,7 +39,11 @@ def lines_of(found: Explanation) -> Iterator[str]:
     yield from lines_of_phase(found)
     for answered in found.answered:
         yield line_of_answered(answered, found.change.head)
+    if found.freeze:
+        yield line_of_freeze(found.freeze)
     yield from lines_of_place(found)
+    if found.place and not found.freeze:
+        yield line_of_estimate(found)
     if found.trying:
         yield f"It is tried by batch {found.trying.number} on trying, which {RUNNING.get(found.trying.state, found.trying.state)}."
     if found.left:
@@ -90,6 +96,14 @@ def approvers_in_words(approvers: Sequence[str], said_by: str) -> str:
     return ", ".join(approvers) + ("" if tuple(approvers) == (said_by,) else f" (said by {said_by})")
 
 
+def line_of_freeze(freeze: Freeze) -> str:
+    since, reason = time_of_day(freeze.at), freeze.reason.strip().rstrip(".")
+    return (
+        f"The queue is frozen since {since} by {freeze.person}: {reason}. Until it is thawed nothing is staged and nothing lands; what "
+        f"succeeds meanwhile counts then."
+    )
+
+
 # Who could approve
 
 
@@ -128,6 +142,15 @@ def lines_of_place(found: Explanation) -> Iterator[str]:
         yield from lines_of_run(run)
     else:
         yield f"The queue waits for a reading of the clock, at which batch {place.first} is ordered."
+
+
+def line_of_estimate(found: Explanation) -> str:
+    it = found.estimate
+    if it is None and found.place and len(found.place.ahead) >= MOST_BATCHES:
+        return f"When it lands can't be estimated: {len(found.place.ahead)} batches come before it."
+    if it is None:
+        return "When it lands can't be estimated yet: no batch has ended."
+    return f"It will probably land between {time_of_day(it.earliest)} and {time_of_day(it.latest)}, {basis(it.batches)}."
 
 
 def lines_of_run(run: Run) -> Iterator[str]:

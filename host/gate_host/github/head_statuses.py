@@ -36,10 +36,11 @@ class Queue(Protocol):
 class HeadStatuses:
     """Sets the statuses, and remembers in the journal which it has set. One that is set twice does no harm."""
 
-    def __init__(self, known: Known, queue: Queue, journal: Journal, api: Api, path: str, pages: str, name: str):
+    def __init__(self, known: Known, queue: Queue, journal: Journal, api: Api, path: str, pages: str, name: str, own: str = ""):
         self.known, self.queue, self.journal, self.api, self.path = known, queue, journal, api, path
-        # Where the page of a commit is, without its name; and the name of the status, or none if none is wanted.
-        self.pages, self.status = pages, name
+        # Where the page of a commit is, without its name; and the name of the status, or none if none is wanted. And where the pages of the
+        # host's own are, if they are anywhere.
+        self.pages, self.status, self.own = pages, name, own
         self.name = f"the status {name} of heads"
         marks = {int(it[len(MARK):]): value for it, value in journal.marks(MARK)}
         self.shown: Dict[int, HeadStatus] = {change: status_in_mark(value) for change, value in marks.items()}
@@ -90,7 +91,7 @@ class HeadStatuses:
             is_due = False
         if now and is_due:
             if before and before.head != now.head and before.state == "pending":
-                self.send(HeadStatus(before.head, "failure", OTHER_HEAD))
+                self.send(change, HeadStatus(before.head, "failure", OTHER_HEAD))
             self.put(change, now)
         del self.due[change]
         return is_due
@@ -108,7 +109,7 @@ class HeadStatuses:
 
     def put(self, change: int, wanted: HeadStatus) -> None:
         self.keep(change, wanted, UNSURE)
-        self.send(wanted)
+        self.send(change, wanted)
         self.keep(change, wanted)
         self.moved.pop(change, None)
 
@@ -118,11 +119,18 @@ class HeadStatuses:
         self.shown[change] = wanted
         (self.unsure.add if unsure else self.unsure.discard)(change)
 
-    def send(self, wanted: HeadStatus) -> None:
+    def target_of(self, change: int, wanted: HeadStatus) -> str:
+        """Where more can be read: on the page of the change, or else on that of the commit, if there is one."""
+        if self.own:
+            return f"{self.own}/change-{change}.html"
+        return f"{self.pages}{wanted.commit}" if wanted.commit else ""
+
+    def send(self, change: int, wanted: HeadStatus) -> None:
         """Sets a status. A commit that GitHub doesn't have, or that has too many of them, goes without."""
         if self.api.now() < self.not_before:
             raise Later(f"it is tried again in {self.not_before - self.api.now():.0f} seconds")
-        more = {"target_url": f"{self.pages}{wanted.commit}"} if wanted.commit else {}
+        target = self.target_of(change, wanted)
+        more = {"target_url": target} if target else {}
         body = {"state": wanted.state, "context": self.status, "description": wanted.text, **more}
         try:
             self.api.post(f"{self.path}/statuses/{wanted.head}", body)

@@ -16,15 +16,18 @@ from ..faults import Trouble, Unable
 from ..guarded import Guarded
 from ..journal import Journal
 from ..kept_bot import KeptBot
+from ..landing_times import lines_of_estimates
 from ..locks import take_lock
 from ..loop import Host
+from ..on_event import OnEvents
 from ..places import Places, name_of_user
 from ..ports import Fault, Ports, Result
 from ..reports import Reports
 from ..settings import Settings
+from ..showing.files import Around, Pages
 from ..spool import ROUNDS_FOR_ALL, Spool
 from ..troubles import Troubles, complain
-from .acceptances import WithAcceptances
+from .notes_of_owner import WithNotesOfOwner
 from .api import ACCEPTED, SECONDS, USER_AGENT, VERSION, Api, words_of
 from .board import Board
 from .comments import Comments
@@ -129,10 +132,15 @@ def run_on_github(places: Places, given: GitHubSettings, is_all_again: bool) -> 
     reports = Reports(places, journal, complain)
     known = journal.known(lambda then, it: reports.note(it.delivery, touched(it.delivery, it.orders, then)))
     reports.more_of = lambda change: landing_of(known.landing_of(change), change)
-    reports.begin(known.changes)
+    reports.more_of_queue = lambda queue: lines_of_estimates(known, queue, SystemClock().now())
     files = OwnerOnGitHub(places, os.geteuid(), {}, given.status)
     bot = KeptBot(places, journal, lambda: files.settings.program, is_all_again, lambda: host.ending)
-    ports = ports_of(places, given, files, journal, known, api, reports, bot)
+    remote = RemoteRepository(places, given.git, api.credentials, files.main, files.settings.staging, files.settings.trying)
+    code = f"{given.web}/{given.repository}"
+    around = Around(given.repository, code, files, bot.has_read, lambda: bot.starts, remote.title_of, SystemClock().now)
+    reports.pages = Pages(places.reports, journal, known, around)
+    reports.begin(known.changes)
+    ports = ports_of(places, given, files, journal, known, api, reports, bot, remote)
     host = Host(ports, known, name_of_user(files.owner), ROUNDS_FOR_ALL, Troubles())
     try:
         host.begin()
@@ -150,15 +158,17 @@ def run_on_github(places: Places, given: GitHubSettings, is_all_again: bool) -> 
 
 def ports_of(
     places: Places, given: GitHubSettings, files: OwnerOnGitHub, journal: Journal, known: Known, api: Api, reports: Reports, bot: KeptBot,
+    remote: RemoteRepository,
 ) -> Ports:
     pulls = PullRequests(
         api, given.path, files.main, webhooks_of(places), journal, known, given.poll_seconds, own_status=given.status,
     )
     files.by_permission = pulls.roles.found
-    remote = RemoteRepository(places, given.git, api.credentials, files.main, files.settings.staging, files.settings.trying)
-    statuses = HeadStatuses(known, reports, journal, api, given.path, f"{given.web}/{given.repository}/commit/", given.status)
+    commits = f"{given.web}/{given.repository}/commit/"
+    statuses = HeadStatuses(known, reports, journal, api, given.path, commits, given.status, given.page)
     return Ports(
-        source=WithAcceptances(pulls, Spool(places, files.owner, complain)), repository=Guarded(remote), runner=NoChecks(), bot=bot,
+        source=WithNotesOfOwner(pulls, Spool(places, files.owner, complain), name_of_user(files.owner)),
+        repository=Guarded(remote), runner=NoChecks(), bot=bot,
         journal=journal, clock=SystemClock(), owner=files, after=AfterLandings(places, journal, files.main),
-        board=Board(reports, [Comments(journal, api, given.path), statuses]),
+        board=Board(reports, [Comments(journal, api, given.path), statuses]), on_event=OnEvents(places, journal),
     )

@@ -1,13 +1,15 @@
 """The receiver of webhooks: a process of its own, which knows the secret of the webhook and a folder, and neither the journal nor the bot
-nor a token. It looks at nothing before it has checked the signature, and answers when the webhook is on the disk."""
+nor a token. It looks at nothing before it has checked the signature, and answers when the webhook is on the disk. If the owner wants that,
+it serves the pages of the queue as well."""
 import hmac
 import importlib
 import json
 from hashlib import sha256
 from pathlib import Path
-from typing import Callable, Dict, Iterable, List, Mapping, Tuple
+from typing import Callable, Dict, Iterable, List, Mapping, Optional, Tuple
 
 from .hints import Full, leave
+from .served_page import Page
 
 # GitHub sends up to 25 MB. What the host needs of a webhook is short.
 MOST_BYTES = 1048576
@@ -21,10 +23,15 @@ Start = Callable[[str, List[Tuple[str, str]]], object]
 class Receiver:
     """The application, as WSGI has it."""
 
-    def __init__(self, secret: str, folder: Path):
-        self.secret, self.folder = secret.encode(), folder
+    def __init__(self, secret: str, folder: Path, page: Optional[Page] = None):
+        self.secret, self.folder, self.page = secret.encode(), folder, page
 
     def __call__(self, environment: Environment, start: Start) -> Iterable[bytes]:
+        place = environment.get("PATH_INFO")
+        if self.page and place != PLACE:
+            served = self.page.answer(str(environment.get("REQUEST_METHOD")), str(place), str(environment.get("HTTP_IF_NONE_MATCH", "")))
+            start(served.status, [*served.headers])
+            return [served.body]
         status, said = self.answer(environment)
         body = f"{said}\n".encode()
         start(status, [("Content-Type", "text/plain"), ("Content-Length", str(len(body)))])
@@ -71,13 +78,14 @@ def read(environment: Environment, length: int) -> bytes:
     return bytes(stream.read(length))  # type: ignore[attr-defined]
 
 
-def serve(secret: str, folder: Path, listen: str, told: Callable[[str], None]) -> None:
+def serve(secret: str, folder: Path, listen: str, told: Callable[[str], None], page: Optional[Page] = None) -> None:
     """Serves until a signal ends it, on an address of this machine. TLS is the affair of a proxy before it."""
     waitress = importlib.import_module("waitress")
     options: Dict[str, object] = {
         "listen": listen, "threads": THREADS, "channel_timeout": SECONDS_OF_SILENCE, "max_request_body_size": MOST_BYTES, "ident": "",
         "connection_limit": 200, "clear_untrusted_proxy_headers": True,
     }
-    server = waitress.create_server(Receiver(secret, folder), **options)
-    told(f"takes webhooks at http://{server.effective_host}:{server.effective_port}{PLACE}")
+    server = waitress.create_server(Receiver(secret, folder, page), **options)
+    address = f"http://{server.effective_host}:{server.effective_port}"
+    told(f"takes webhooks at {address}{PLACE}" + (f", and serves the page of the queue at {address}/" if page else ""))
     server.run()

@@ -8,10 +8,13 @@ from typing import Optional
 from ..core.notes import is_name_of_status
 from ..faults import Trouble
 from ..places import trusted_text
-from ..settings import FIRST_OF_ALL, seconds_in
+from ..settings import FIRST_OF_ALL, seconds_in, word_in
 
 SECTION = "github"
-KEYS = {"repository", "api", "web", "token", "app", "installation", "key", "webhook_secret", "listen", "poll_seconds", "status"}
+KEYS = {
+    "repository", "api", "web", "token", "app", "installation", "key", "webhook_secret", "listen", "poll_seconds", "status", "page",
+    "serve_page",
+}
 REPOSITORY = re.compile(r"[A-Za-z0-9-]{1,39}/[A-Za-z0-9_.-]{1,100}")
 ADDRESS = re.compile(r"https?://[A-Za-z0-9.:\[\]-]+(/[A-Za-z0-9./_-]*)?")
 
@@ -42,6 +45,11 @@ listen = 127.0.0.1:8097
 poll_seconds = 20
 # The status that the host sets on the heads of changes, which says how each stands. With nothing behind the = it sets none.
 status = gate
+# Whether `gate-host receive` serves the page of the queue beside the webhooks: yes or no. Whoever reaches it can read that, so a proxy has
+# to ask who it is if the repository is private.
+serve_page = no
+# Where people find that page. The status on a head leads to the page of its change then.
+#page = https://gate.example.com
 {places}"""
 BY_APP, BY_TOKEN = "app = {app}\nkey = {key}", "token = {token}"
 FIRST_ROLES = """\
@@ -69,6 +77,9 @@ class GitHubSettings:
     poll_seconds: float
     # The name of the status on heads, or none.
     status: str
+    # Where people find the pages of the queue, or nothing; and whether the receiver serves them.
+    page: str = ""
+    serve_page: bool = False
 
     @property
     def path(self) -> str:
@@ -97,6 +108,7 @@ def github_in(text: str) -> Optional[GitHubSettings]:
         table.get("repository", ""), table.get("api", api_of(web)).rstrip("/"), web, path_of(table.get("token")), table.get("app", ""),
         table.get("installation", ""), path_of(table.get("key")), path_of(table.get("webhook_secret")),
         table.get("listen", "127.0.0.1:8097"), seconds_in(table, "poll_seconds", "20"), table.get("status", "gate"),
+        table.get("page", "").rstrip("/"), word_in(table, "serve_page", ("no", "yes")) == "yes",
     )
     must_be_right(found)
     return found
@@ -110,7 +122,7 @@ def api_of(web: str) -> str:
 def must_be_right(found: GitHubSettings) -> None:
     if not REPOSITORY.fullmatch(found.repository):
         raise Trouble(f"settings: repository has to be OWNER/NAME, and not {found.repository!r}")
-    for address in (found.web, found.api):
+    for address in (found.web, found.api, *([found.page] if found.page else [])):
         if not ADDRESS.fullmatch(address):
             raise Trouble(f"settings: {address!r} is no address")
     if found.status and not is_name_of_status(found.status):

@@ -81,10 +81,12 @@ def receive(places: Places, given: GitHubSettings) -> None:
     must_have_libraries("waitress")
     from .credentials import secret_in
     from .receiver import serve
+    from .served_page import Page
     if given.webhook_secret is None:
         raise Trouble(f"there is no webhook_secret in {places.settings}")
     os.umask(0o077)
-    serve(secret_in(given.webhook_secret), webhooks_of(places), given.listen, complain)
+    page = Page(places.reports) if given.serve_page else None
+    serve(secret_in(given.webhook_secret), webhooks_of(places), given.listen, complain, page)
 
 
 def webhooks_of(places: Places) -> Path:
