@@ -20,7 +20,7 @@ from pages import Section, sections_of  # noqa: E402
 
 # What a machine of somebody else may say and this one doesn't: who it is, the time, names of commits and of deliveries.
 TIME = re.compile(r"\d{4}-\d\d-\d\d \d\d:\d\d:\d\d \+0000")
-COMMIT = re.compile(r"\b[0-9a-f]{40}\b|\b(?=[0-9a-f]*[0-9])[0-9a-f]{7}(?:[0-9a-f]{3})?\b")
+COMMIT = re.compile(r"\b(?:[0-9a-f]{40}|[0-9a-f]{10}|[0-9a-f]{7})\b")
 DELIVERY = re.compile(r"\b(delivery )\d+ \([a-z]+-[0-9.]+\)|\[[a-z]+-[0-9.]+ of TIME\]")
 SECONDS = re.compile(r"after \d+ seconds?")
 # Tools of the system that alter the machine. Each notes its words in the file `noted`, and does nothing.
