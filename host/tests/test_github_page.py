@@ -13,6 +13,7 @@ try:
 except ImportError:
     httpx = None
 
+from pages import sections_of, steps_of
 from with_github import SECONDS, WithGitHub
 
 TOP = Path(__file__).resolve().parent.parent.parent
@@ -28,33 +29,8 @@ RELEASE = re.compile(r"^(right|note): this is gate-host .*$", re.MULTILINE)
 COUNTS = re.compile(r"\d+ facts, \d+ answers to \d+ deliveries|every \d+ seconds")
 PATIENCE = float(os.environ.get("GATE_STORY_SECONDS", "120"))
 ACCESS = {"read": "read", "read and write": "write"}
-
-
-class Section:
-    """A part of the page under a heading."""
-
-    def __init__(self, text):
-        self.title = text.split("\n")[0]
-        self.text = text
-        self.blocks = re.findall(r"^```([a-z]*)\n(.*?)^```$", text, re.DOTALL | re.MULTILINE)
-
-    def all(self, kind):
-        return [text for its, text in self.blocks if its == kind]
-
-
-def sections_of(page):
-    return {it.title: it for it in map(Section, re.split(r"^#{2,3} ", page, flags=re.MULTILINE)[1:])}
-
-
-def steps_of(block):
-    """The commands of a block, each with what it prints."""
-    steps = []
-    for line in block.splitlines(keepends=True):
-        if line.startswith("$ "):
-            steps.append([line[2:].rstrip("\n"), ""])
-        else:
-            steps[-1][1] += line
-    return steps
+# The sections whose commands the test types, before a change comes and behind it.
+FIRST, LAST = ("The folder", "It runs", "The doctor"), ("A first change", "Looking after it", "Webhooks")
 
 
 def alike(text):
@@ -71,7 +47,7 @@ class PageTests(WithGitHub):
         if not os.access(PROGRAM, os.X_OK):
             self.skipTest(f"there is no built program {PROGRAM}")
         super().setUp()
-        self.page = sections_of("".join(page.read_text(encoding="utf-8") for page in PAGES))
+        self.page = {it.title: it for page in PAGES for it in sections_of(page.read_text(encoding="utf-8"))}
         self.home, self.bin = self.room / "home", self.room / "bin"
         for folder in (self.home, self.bin):
             folder.mkdir()
@@ -196,11 +172,12 @@ class PageTests(WithGitHub):
 
     def test_the_commands_of_the_page_land_a_change(self):
         self.make_app()
-        self.play("The folder")
+        of_folder, *others = FIRST
+        self.play(of_folder)
         self.hurry()
         self.commit_settings()
         self.restrict()
-        self.play("It runs", "The doctor")
+        self.play(*others)
         self.change = self.people.propose(self.project, "otto", "first", {"first": "1\n"}, "A first change")
         said, due, status = self.page["A first change"].all("text")
         # A comment touches the change on GitHub. If that came before the host's first look, the head would be as new as the comment.
@@ -213,7 +190,7 @@ class PageTests(WithGitHub):
         self.assertEqual([alike(it) for it in self.said()], [alike(it) for it in due])
         self.until("the page's status", lambda: [alike(it) for it in self.statuses()[-1:]] == [alike(status.strip())])
         self.assertTrue(self.change.merged)
-        self.play("A first change", "Looking after it", "Webhooks")
+        self.play(*LAST)
         self.send_webhooks()
         self.people.comment(self.change, "otto", "bors ping")
         self.until("an answer", lambda: self.comments()[-1] == "gate: pong")
