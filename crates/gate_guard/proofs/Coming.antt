@@ -1,0 +1,48 @@
+-- The orders of replies are among the events after their acts.
+use Rattle.std.proofs.Common.{List, [], ◌∷◌, Option, inl, inr, subst}
+use Rattle.std.proofs.lemmas.List.Elements.{Contains-append_cases}
+use Rattle.std.specs.List.{Contains, flat_map}
+use Rattle.gate_deliveries.specs.declared.delivery.Event.{Event as Telling}
+use Rattle.gate_queue.specs.History.{Entry, Event, events_of, gave, given, happened, orders_in}
+use Rattle.gate_queue.specs.Machine.{after, reply_to}
+use Rattle.gate_queue.specs.Vocabulary.{Act, Denied, Done, Order, Reply}
+use Rattle.gate_state.specs.declared.state.State.{State}
+use Rattle.gate_store.specs.Headline.{entry_for, history_after}
+use Rattle.gate_store.specs.Run.{replies_to}
+use Rattle.gate_guard.specs.Knowing.{acts_told, known_after, unless_full}
+use Rattle.gate_guard.specs.Moves.{LawOfStaying}
+use Rattle.gate_guard.proofs.Lists.{contains_cases, contains_first, contains_more, contains_none}
+use Rattle.gate_guard.proofs.Tracing.{given_more}
+
+given_each : (events : List Event) (orders : List Order) (order : Order) → Contains orders order → Contains (given events orders) (gave order)
+given_each events [] order among = absurd (contains_none order among)
+given_each events (first ∷ orders) order among = elim (contains_cases first order orders among) [
+  | inl same ↦ given_more (gave first ∷ events) orders (gave order) (subst (λ (this : Order). Contains (gave first ∷ events) (gave this)) same (contains_first (gave first) events))
+  | inr behind ↦ given_each (gave first ∷ events) orders order behind
+]
+
+happened_each : (events : List Event) (act : Act) (reply : Reply) (order : Order) → Contains (orders_in reply) order → Contains (happened events act reply) (gave order)
+happened_each events act (Done orders) order among = given_each _ orders order among
+happened_each events act (Denied rule) order among = absurd (contains_none order among)
+
+happened_more : (events : List Event) (act : Act) (reply : Reply) (event : Event) → Contains events event → Contains (happened events act reply) event
+happened_more events act (Done orders) event among = given_more _ orders event (contains_more _ event events among)
+happened_more events act (Denied rule) event among = among
+
+history_more : (history : List Entry) (s : State) (acts : List Act) (event : Event) → Contains (events_of history) event → Contains (events_of (history_after history s acts)) event
+history_more history s [] event among = among
+history_more history s (act ∷ acts) event among =
+    history_more (entry_for s act ∷ history) (after s act) acts event (happened_more (events_of history) act (reply_to s act) event among)
+
+pub orders_come : (history : List Entry) (s : State) (acts : List Act) (order : Order) → Contains (flat_map orders_in (replies_to s acts)) order → Contains (events_of (history_after history s acts)) (gave order)
+orders_come history s [] order among = absurd (contains_none order among)
+orders_come history s (act ∷ acts) order among = elim (Contains-append_cases (orders_in (reply_to s act)) (flat_map orders_in (replies_to (after s act) acts)) order among) [
+  | inl now ↦ history_more (entry_for s act ∷ history) (after s act) acts (gave order) (happened_each (events_of history) act (reply_to s act) order now)
+  | inr later ↦ orders_come (entry_for s act ∷ history) (after s act) acts order later
+]
+
+-- ONE INPUT MORE
+pub stays_law : {I : Type 0} (tells : List I → I → Option Telling) → LawOfStaying tells
+stays_law tells input inputs event among =
+    let known = known_after tells inputs in
+    history_more known.history known.state (unless_full known.state (acts_told (tells inputs input))) event among

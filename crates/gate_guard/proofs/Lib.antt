@@ -1,0 +1,6 @@
+mod Lists
+mod Tracing
+mod Learning
+mod Coming
+mod Moving
+mod Standing

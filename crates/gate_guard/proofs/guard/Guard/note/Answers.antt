@@ -1,0 +1,22 @@
+use Rattle.std.proofs.Common.{◌∙◌, ap, sym}
+use Rattle.std.specs.FinSet as set
+use Rattle.gate_guard.specs.Telling.{tells}
+use Rattle.gate_guard.proofs.Standing.{answered, come_next, stands_next}
+use Rattle.gate_guard.proofs.guard.Guard.note.Goals as goal
+
+pub returns-in_ok-answer-in-Some-clause-stands : goal.returns-in_ok-answer-in-Some-clause-stands
+returns-in_ok-answer-in-Some-clause-stands g c sound none inputs stands =
+    let said = c.in_ok-answer-in-Some.ensures in
+    stands_next g.B.Book.shows c.args.self.now inputs stands c.args.id c.in-Some.event c.args.input.now (ap (λ guard. tells (set.contains guard.merges) c.args.input.now) (sym c.self.view_is) ∙ sym c.in_ok-event.ensures ∙ c.in-Some.is) none (said.delivers.full sound) c.tell.new.self (said.delivers.book sound) said.merges
+
+pub returns-in_ok-answer-in-Some-clause-answer : goal.returns-in_ok-answer-in-Some-clause-answer
+returns-in_ok-answer-in-Some-clause-answer g c sound none inputs stands =
+    let said = c.in_ok-answer-in-Some.ensures in
+    answered g.B.Book.shows c.args.self.now inputs stands c.args.id c.in-Some.event c.args.input.now (ap (λ guard. tells (set.contains guard.merges) c.args.input.now) (sym c.self.view_is) ∙ sym c.in_ok-event.ensures ∙ c.in-Some.is) none c.in_ok-answer-in-Some.answer (said.answer sound)
+
+pub returns-in_ok-answer-in-Some-clause-orders : goal.returns-in_ok-answer-in-Some-clause-orders
+returns-in_ok-answer-in-Some-clause-orders g c sound none inputs stands =
+    let said = c.in_ok-answer-in-Some.ensures in
+    come_next g.B.Book.shows c.args.self.now inputs stands c.args.id c.in-Some.event c.args.input.now
+    (ap (λ guard. tells (set.contains guard.merges) c.args.input.now) (sym c.self.view_is) ∙ sym c.in_ok-event.ensures ∙ c.in-Some.is) none (said.delivers.full sound)
+    c.in_ok-answer-in-Some.answer (said.answer sound)
