@@ -7,7 +7,7 @@ use Rattle.std.specs.Option.{option_or}
 use Rattle.gate_deliveries.specs.declared.delivery.Event.{Event as Telling}
 use Rattle.gate_guard.specs.Knowing.{events_after, known_after}
 use Rattle.gate_guard.specs.Moves.{HasSucceeded, IsRightMove, LawOfMoves, MovesRightly}
-use Rattle.gate_guard.specs.World.{IsMergeFor, IsTrue, KeepsPremise, Merging, Step, commits_of, inputs_in, moved, noted, pushed}
+use Rattle.gate_guard.specs.World.{Checking, IsMergeFor, IsTrue, KeepsPremise, Merging, Step, commits_of, inputs_in, moved, noted, pushed}
 use Rattle.gate_queue.specs.History.{Event, IsReadyToLand, Legal, did, gave, heads_back, heads_said, is_order, is_stage_of, last_of, stages}
 use Rattle.gate_queue.specs.Machine.{empty_state}
 use Rattle.gate_queue.specs.Vocabulary.{Branch, Head, Land, Notice, Other, Stage, Staged, Staging, Status, Success}
@@ -42,22 +42,22 @@ heads_so number branch base heads (event ∷ events) once among = elim (contains
 
 -- THE PREMISE, of inputs alone
 module _ {I : Type 0} (tells : List I → I → Option Telling) where
-  abbrev TrueThen : Merging → I → List I → Type 0
-  TrueThen joins input earlier = IsTrue joins (events_after tells earlier) (tells earlier input)
+  abbrev TrueThen : Merging → Checking → I → List I → Type 0
+  TrueThen joins says input earlier = IsTrue tells joins says earlier (tells earlier input)
 
-  all_true : (joins : Merging) (first : List ℕ) (steps : List (Step I)) → KeepsPremise tells joins first steps → EachOf (TrueThen joins) (inputs_in steps)
-  all_true joins first [] keeps = tt
-  all_true joins first (noted input ∷ before) (this, rest) = (this, all_true joins first before rest)
-  all_true joins first (moved batch from to ∷ before) (this, rest) = all_true joins first before rest
-  all_true joins first (pushed to ∷ before) (this, rest) = all_true joins first before rest
+  all_true : (joins : Merging) (says : Checking) (first : List ℕ) (steps : List (Step I)) → KeepsPremise tells joins says first steps → EachOf (TrueThen joins says) (inputs_in steps)
+  all_true joins says first [] keeps = tt
+  all_true joins says first (noted input ∷ before) (this, rest) = (this, all_true joins says first before rest)
+  all_true joins says first (moved batch from to ∷ before) (this, rest) = all_true joins says first before rest
+  all_true joins says first (pushed to ∷ before) (this, rest) = all_true joins says first before rest
 
-module _ {I : Type 0} (tells : List I → I → Option Telling) (law : LawOfTelling) (tests : LawOfTests) (empty : Legal [] (empty_state 1)) (joins : Merging) where
-  all_traced : (inputs : List I) → EachOf (TrueThen tells joins) inputs → IsTraced tells inputs (known_after tells inputs)
+module _ {I : Type 0} (tells : List I → I → Option Telling) (law : LawOfTelling) (tests : LawOfTests) (empty : Legal [] (empty_state 1)) (joins : Merging) (says : Checking) where
+  all_traced : (inputs : List I) → EachOf (TrueThen tells joins says) inputs → IsTraced tells inputs (known_after tells inputs)
   all_traced [] all = record { legal = empty; traced = tt }
-  all_traced (input ∷ inputs) (this, rest) = traced_next tells law joins inputs input (all_traced inputs rest) this
+  all_traced (input ∷ inputs) (this, rest) = traced_next tells law joins says inputs input (all_traced inputs rest) this
 
   -- WHEN THE ORDER TO LAND CAME
-  module _ (until : List I) (all : EachOf (TrueThen tells joins) until) (batch : ℕ) (from to : List ℕ) (once : stages batch (events_after tells until) ≤ 1)
+  module _ (until : List I) (all : EachOf (TrueThen tells joins says) until) (batch : ℕ) (from to : List ℕ) (once : stages batch (events_after tells until) ≤ 1)
       (tested : WasTested (events_after tells until) batch from to) where
     abbrev events : List Event
     events = events_after tells until
@@ -85,8 +85,8 @@ module _ {I : Type 0} (tells : List I → I → Option Telling) (law : LawOfTell
     merge_true =
         let was = merge.was in
         subst (λ (then_events : List Event). IsMergeFor joins then_events batch to) merge.at
-        (subst (IsTrue joins (events_after tells was.earlier)) was.told
-        (each_at (TrueThen tells joins) was.later was.earlier was.input (subst (EachOf (TrueThen tells joins)) was.cut all)))
+        (subst (IsTrue tells joins says was.earlier) was.told
+        (each_at (TrueThen tells joins says) was.later was.earlier was.input (subst (EachOf (TrueThen tells joins says)) was.cut all)))
 
     pub merged : joins from (commits_of tested.heads) to ≡ true
     merged = merge_true Staging from tested.heads (contains_at tested.between ordered tested.before)
@@ -95,27 +95,29 @@ module _ {I : Type 0} (tells : List I → I → Option Telling) (law : LawOfTell
     heads_are = heads_so batch Staging from tested.heads events once (subst (λ (these : List Event). Contains these ordered) (sym tested.ordered) (contains_at tested.later ordered tested.before))
 
     -- A status behind the staging was told after it.
-    told_after : (name : List ℕ) (between : List Event) → CameOf tells until (Status to name Success) (between ++ staged ∷ older) → HasSucceeded tells until batch to name
+    told_after : (name : List ℕ) (between : List Event) → CameOf tells until (Status to name Success) (between ++ staged ∷ older) → HasSucceeded tells says until batch to name
     told_after name between came =
         let was = came.was in
-        let then_true = each_behind (TrueThen tells joins) (was.later ++ was.input ∷ []) was.earlier
-        (subst (EachOf (TrueThen tells joins)) (was.cut ∙ sym (append_assoc was.later (was.input ∷ []) was.earlier)) all) in
+        let then_true = each_behind (TrueThen tells joins says) (was.later ++ was.input ∷ []) was.earlier
+        (subst (EachOf (TrueThen tells joins says)) (was.cut ∙ sym (append_assoc was.later (was.input ∷ []) was.earlier)) all) in
         let made = each_at (Traced tells was.earlier) between older staged (subst (EachOf (Traced tells was.earlier)) came.at (all_traced was.earlier then_true).traced) in
-        record { success = was; staged = made.was }
+        let success = subst (IsTrue tells joins says was.earlier) was.told
+        (each_at (TrueThen tells joins says) was.later was.earlier was.input (subst (EachOf (TrueThen tells joins says)) was.cut all)) in
+        record { success = was; staged = made.was; said = success batch made.was }
 
-    pub checked : All (HasSucceeded tells until batch to) tested.settings.status
+    pub checked : All (HasSucceeded tells says until batch to) tested.settings.status
     checked k name below = said (tested.succeeded k name below) where
-      said : {status : List ℕ} → Succeeded tested.after to status → HasSucceeded tells until batch to status
+      said : {status : List ℕ} → Succeeded tested.after to status → HasSucceeded tells says until batch to status
       said {status} success =
           let reported = did (Other (Status to status Success)) in
           let at : tested.after ++ staged ∷ older ≡ success.later ++ reported ∷ (success.before ++ staged ∷ older) =
           ap (λ (part : List Event). part ++ staged ∷ older) success.success ∙ append_assoc success.later (reported ∷ success.before) (staged ∷ older) in
           told_after status success.before (each_at (Traced tells until) success.later (success.before ++ staged ∷ older) reported (subst (EachOf (Traced tells until)) at traced))
 
-  right_move : (inputs : List I) (batch : ℕ) (from to : List ℕ) → EachOf (TrueThen tells joins) inputs → Contains (events_after tells inputs) (gave (Land batch from to)) → IsRightMove tells joins inputs batch from to
+  right_move : (inputs : List I) (batch : ℕ) (from to : List ℕ) → EachOf (TrueThen tells joins says) inputs → Contains (events_after tells inputs) (gave (Land batch from to)) → IsRightMove tells joins says inputs batch from to
   right_move inputs batch from to all among =
       let (before, came) = each_found (Traced tells inputs) (events_after tells inputs) (gave (Land batch from to)) among (all_traced inputs all).traced in
-      let then_true = each_behind (TrueThen tells joins) came.later came.until (subst (EachOf (TrueThen tells joins)) came.cut all) in
+      let then_true = each_behind (TrueThen tells joins says) came.later came.until (subst (EachOf (TrueThen tells joins says)) came.cut all) in
       let tested = tests (events_after tells came.until) batch from to came.right.tested in
       record {
         later = came.later;
@@ -134,11 +136,11 @@ module _ {I : Type 0} (tells : List I → I → Option Telling) (law : LawOfTell
         checked = checked came.until then_true batch from to came.once tested;
       }
 
-  moves_so : (first : List ℕ) (steps : List (Step I)) → KeepsPremise tells joins first steps → MovesRightly tells joins first steps
+  moves_so : (first : List ℕ) (steps : List (Step I)) → KeepsPremise tells joins says first steps → MovesRightly tells joins says first steps
   moves_so first [] keeps = tt
   moves_so first (noted input ∷ before) (this, rest) = moves_so first before rest
-  moves_so first (moved batch from to ∷ before) ((among, at), rest) = (right_move (inputs_in before) batch from to (all_true tells joins first before rest) among, at, moves_so first before rest)
+  moves_so first (moved batch from to ∷ before) ((among, at), rest) = (right_move (inputs_in before) batch from to (all_true tells joins says first before rest) among, at, moves_so first before rest)
   moves_so first (pushed to ∷ before) (this, rest) = moves_so first before rest
 
 pub moves_law : {I : Type 0} (tells : List I → I → Option Telling) → LawOfTelling → LawOfTests → Legal [] (empty_state 1) → LawOfMoves tells
-moves_law tells law tests empty joins first steps keeps = moves_so tells law tests empty joins first steps keeps
+moves_law tells law tests empty joins says first steps keeps = moves_so tells law tests empty joins says first steps keeps

@@ -11,7 +11,7 @@ use Rattle.gate_deliveries.specs.Acts.{acts_of_event}
 use Rattle.gate_deliveries.specs.declared.delivery.Delivery.{Delivery}
 use Rattle.gate_deliveries.specs.declared.delivery.Event.{Event as Telling}
 use Rattle.gate_guard.specs.declared.input.Input.{Input}
-use Rattle.gate_guard.specs.Guarding.{Guarded, StandsAfter, answer_after}
+use Rattle.gate_guard.specs.Guarding.{Guarded, StandsAfter, answer_after, meets_full_after}
 use Rattle.gate_guard.specs.Knowing.{HaveCome, Known, acts_told, known_after, unless_full}
 use Rattle.gate_guard.specs.Moves.{LawOfDelivering, tells_itself}
 use Rattle.gate_guard.specs.Telling.{is_merged, tells, tells_input}
@@ -60,6 +60,12 @@ module _ {I : Type 0} (tells : List I → I → Option Telling) (records : Recor
   pub answer_is : answer_to records delivery ≡ replies_to known.state acts
   answer_is = none_or (kept_under records delivery.id) (replies_to records.state acts) unknown ∙ ap (λ (s : State). replies_to s acts) at
 
+  pub full_is : meets_full records delivery ≡ acts_meet_full known.state (acts_told (tells inputs input))
+  full_is =
+      ap (λ b. not b && acts_meet_full records.state acts) unknown
+      ∙ ap (λ (s : State). acts_meet_full s acts) at
+      ∙ ap (λ (told : Option Telling). acts_meet_full known.state (acts_told told)) (sym told)
+
   module _ (room : meets_full records delivery ≡ false) where
     taken : unless_full known.state (acts_told (tells inputs input)) ≡ acts
     taken =
@@ -93,6 +99,9 @@ module _ {B : Type 0} (shows : B → Records) (old : Guarded B) (inputs : List I
   answered answer is =
       ap Some (is ∙ answer_is tells_input (shows old.book) inputs stands.state delivered input told_then unknown)
       ∙ sym (ap (option_map (λ (event : Telling). replies_to (known_after tells_input inputs).state (acts_of_event event))) told_then)
+
+  pub full_then : meets_full (shows old.book) delivered ≡ meets_full_after inputs input
+  full_then = full_is tells_input (shows old.book) inputs stands.state delivered input told_then unknown
 
   module _ (room : meets_full (shows old.book) delivered ≡ false) where
     pub stands_next : (new : Guarded B) → shows new.book ≡ after_delivery (shows old.book) delivered

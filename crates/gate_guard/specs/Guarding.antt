@@ -1,5 +1,5 @@
 -- WHERE A GUARD STANDS after inputs: its book shows the state that is known after them, and it has their merges.
-use Rattle.std.specs.Prelude.{◌≡◌, ℕ, List, Option}
+use Rattle.std.specs.Prelude.{◌≡◌, ℕ, Bool, List, Option}
 use Rattle.std.specs.Cmp.Lexicographic.{slice_cmp}
 use Rattle.std.specs.FinSet as set
 use Rattle.std.specs.FinSet.{FinSet}
@@ -7,10 +7,10 @@ use Rattle.std.specs.Option.{option_map}
 use Rattle.std.specs.Ordering.{nat_cmp}
 use Rattle.gate_deliveries.specs.Acts.{acts_of_event}
 use Rattle.gate_guard.specs.declared.input.Input.{Input}
-use Rattle.gate_guard.specs.Knowing.{known_after}
+use Rattle.gate_guard.specs.Knowing.{acts_told, known_after}
 use Rattle.gate_guard.specs.Telling.{has_merged, tells_input}
 use Rattle.gate_state.specs.declared.reply.Reply.{Reply}
-use Rattle.gate_store.specs.Run.{Records, replies_to}
+use Rattle.gate_store.specs.Run.{Records, acts_meet_full, replies_to}
 
 pub record Guarded (B : Type 0) : Type 0 where
   pub book : B
@@ -19,6 +19,10 @@ pub record Guarded (B : Type 0) : Type 0 where
 pub record StandsAfter {B : Type 0} (shows : B → Records) (guard : Guarded B) (inputs : List Input) : Type 0 where
   pub state : (shows guard.book).state ≡ (known_after tells_input inputs).state
   pub merges : (commit : List ℕ) → set.contains guard.merges commit ≡ has_merged inputs commit
+
+-- whether what an input tells would meet a full gate
+abbrev pub meets_full_after : List Input → Input → Bool
+meets_full_after inputs input = acts_meet_full (known_after tells_input inputs).state (acts_told (tells_input inputs input))
 
 -- what the bot answers to what an input tells, if it tells anything
 abbrev pub answer_after : List Input → Input → Option (List Reply)

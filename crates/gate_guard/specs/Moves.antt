@@ -7,7 +7,7 @@ use Rattle.gate_deliveries.specs.declared.delivery.Event.{Event as Telling}
 use Rattle.gate_deliveries.specs.declared.delivery.Event.TheVariants as telling
 use Rattle.gate_guard.specs.Knowing.{HaveCome, WasTold, events_after, known_after}
 use Rattle.gate_guard.specs.Telling.{tells_input}
-use Rattle.gate_guard.specs.World.{KeepsPremise, Merging, Step, commits_of, inputs_in, main_after, moved, noted, pushed}
+use Rattle.gate_guard.specs.World.{Checking, KeepsPremise, Merging, Step, commits_of, inputs_in, main_after, moved, noted, pushed}
 use Rattle.gate_queue.specs.History.{Event, IsReadyToLand, gave, landings}
 use Rattle.gate_queue.specs.Vocabulary.{Land, Success}
 use Rattle.gate_queue.specs.Words.{WasTested}
@@ -15,13 +15,14 @@ use Rattle.gate_state.specs.declared.act.Fact.TheVariants.{Staged, Status}
 use Rattle.gate_store.specs.Run.{Records, after_delivery, answer_to, is_known, meets_full}
 
 module _ {I : Type 0} (tells : List I → I → Option Telling) where
-  -- The success of a status of a commit was told, after it was told that the batch is staged with this commit.
-  pub record HasSucceeded (inputs : List I) (batch : ℕ) (commit name : List ℕ) : Type 0 where
+  -- The success of a status of a commit was told, after it was told that the batch is staged with this commit, and a check has said so.
+  pub record HasSucceeded (says : Checking) (inputs : List I) (batch : ℕ) (commit name : List ℕ) : Type 0 where
     pub success : WasTold tells inputs (telling.Other (Status commit name Success))
     pub staged : WasTold tells success.earlier (telling.Other (Staged batch commit))
+    pub said : says commit name ≡ true
 
   -- A MOVE for a batch, after inputs.
-  pub record IsRightMove (joins : Merging) (inputs : List I) (batch : ℕ) (from to : List ℕ) : Type 0 where
+  pub record IsRightMove (joins : Merging) (says : Checking) (inputs : List I) (batch : ℕ) (from to : List ℕ) : Type 0 where
     -- The order to land came by the last of these inputs: by a success of the commit. All that follows is of that moment.
     pub later : List I
     pub until : List I
@@ -39,19 +40,19 @@ module _ {I : Type 0} (tells : List I → I → Option Telling) where
     pub merged : joins from (commits_of tested.heads) to ≡ true
     -- Each change was approved without a break, open and fit, at exactly that head.
     pub ready : All (IsReadyToLand (events_after tells until) batch) tested.heads
-    -- Each status that was required was told to have succeeded for the commit, after the commit was made.
-    pub checked : All (HasSucceeded until batch to) tested.settings.status
+    -- A check of the commit has said of each status that was required that it is good, and that was told after the commit.
+    pub checked : All (HasSucceeded says until batch to) tested.settings.status
 
   -- EACH MOVE that the host makes is right, and goes from the value that the branch has.
-  abbrev pub MovesRightly : Merging → List ℕ → List (Step I) → Type 0
-  MovesRightly joins first [] = ⊤
-  MovesRightly joins first (noted input ∷ before) = MovesRightly joins first before
-  MovesRightly joins first (moved batch from to ∷ before) = IsRightMove joins (inputs_in before) batch from to × (main_after first before ≡ from) × MovesRightly joins first before
-  MovesRightly joins first (pushed to ∷ before) = MovesRightly joins first before
+  abbrev pub MovesRightly : Merging → Checking → List ℕ → List (Step I) → Type 0
+  MovesRightly joins says first [] = ⊤
+  MovesRightly joins says first (noted input ∷ before) = MovesRightly joins says first before
+  MovesRightly joins says first (moved batch from to ∷ before) = IsRightMove joins says (inputs_in before) batch from to × (main_after first before ≡ from) × MovesRightly joins says first before
+  MovesRightly joins says first (pushed to ∷ before) = MovesRightly joins says first before
 
   -- EACH MOVE IS RIGHT, over every list of steps that keeps the premise.
   abbrev pub LawOfMoves : Type 0
-  LawOfMoves = (joins : Merging) (first : List ℕ) (steps : List (Step I)) → KeepsPremise tells joins first steps → MovesRightly joins first steps
+  LawOfMoves = (joins : Merging) (says : Checking) (first : List ℕ) (steps : List (Step I)) → KeepsPremise tells joins says first steps → MovesRightly joins says first steps
 
   -- What has happened stays so, whatever is noted later. So an order that has come can be carried out at any time after that.
   abbrev pub LawOfStaying : Type 0

@@ -3,10 +3,11 @@ use Rattle.std.specs.Prelude.{◌≡◌, ℕ, Bool, true, ⊤, List, [], ◌∷�
 use Rattle.std.specs.List.{Contains}
 use Rattle.gate_deliveries.specs.declared.delivery.Event.{Event as Telling}
 use Rattle.gate_deliveries.specs.declared.delivery.Event.TheVariants as telling
-use Rattle.gate_guard.specs.Knowing.{events_after}
+use Rattle.gate_guard.specs.Knowing.{WasTold, events_after}
 use Rattle.gate_queue.specs.History.{Event, gave}
 use Rattle.gate_queue.specs.Vocabulary.{Branch, Head, Land, Stage}
-use Rattle.gate_state.specs.declared.act.Fact.TheVariants.{Staged, Tick}
+use Rattle.gate_state.specs.declared.act.Fact.TheVariants.{Staged, Status, Tick}
+use Rattle.gate_state.specs.declared.act.StatusState.TheVariants.{Success}
 use Rattle.gate_state.specs.State.{IsMoment}
 
 pub data Step (I : Type 0) : Type 0 where
@@ -32,8 +33,8 @@ main_after first (moved batch from to ∷ steps) = to
 main_after first (pushed to ∷ steps) = to
 
 -- WHAT IS SUPPOSED. `joins base heads commit` says of a commit that it is the merge of a base with heads, in their order. For git that
--- never changes, as a commit's name is made of its parents and its content. If an order to stage a batch has come, a staging of it that is told is
--- of the merge that the order asked for.
+-- never changes, as a commit's name is made of its parents and its content. If an order to stage a batch has come, a staging of it that
+-- is told is of the merge that the order asked for.
 abbrev pub Merging : Type 0
 Merging = List ℕ → List (List ℕ) → List ℕ → Bool
 
@@ -44,16 +45,24 @@ abbrev pub IsMergeFor : Merging → List Event → ℕ → List ℕ → Type 0
 IsMergeFor joins events batch commit =
     (branch : Branch) (base : List ℕ) (heads : List Head) → Contains events (gave (Stage batch branch base heads)) → joins base (commits_of heads) commit ≡ true
 
--- A reading of the clock is within its limit, as each value of the type `Moment` is. Nothing else is supposed of what the bot is told.
-abbrev pub IsTrue : Merging → List Event → Option Telling → Type 0
-IsTrue joins events (Some (telling.Other (Staged batch commit))) = IsMergeFor joins events batch commit
-IsTrue joins events (Some (telling.Other (Tick now))) = IsMoment now
-IsTrue joins events told = ⊤
+-- `says commit name` says that a check of this name of the commit has said that it is good. Any relation will do. A success that is told of a
+-- commit that was told as a staging is one that a check has said.
+abbrev pub Checking : Type 0
+Checking = List ℕ → List ℕ → Bool
 
-module _ {I : Type 0} (tells : List I → I → Option Telling) (joins : Merging) (first : List ℕ) where
+module _ {I : Type 0} (tells : List I → I → Option Telling) (joins : Merging) (says : Checking) where
+  -- A reading of the clock is within its limit, as each value of the type `Moment` is. Nothing else is supposed of what the bot is told, by
+  -- inputs of before.
+  abbrev pub IsTrue : List I → Option Telling → Type 0
+  IsTrue earlier (Some (telling.Other (Staged batch commit))) = IsMergeFor joins (events_after tells earlier) batch commit
+  IsTrue earlier (Some (telling.Other (Status commit name Success))) = (batch : ℕ) → WasTold tells earlier (telling.Other (Staged batch commit)) → says commit name ≡ true
+  IsTrue earlier (Some (telling.Other (Tick now))) = IsMoment now
+  IsTrue earlier told = ⊤
+
+module _ {I : Type 0} (tells : List I → I → Option Telling) (joins : Merging) (says : Checking) (first : List ℕ) where
   -- The host moves the main branch only by an order to land that has come, from the commit that the order names, if the branch is there.
   abbrev pub MayCome : List (Step I) → Step I → Type 0
-  MayCome before (noted input) = IsTrue joins (events_after tells (inputs_in before)) (tells (inputs_in before) input)
+  MayCome before (noted input) = IsTrue tells joins says (inputs_in before) (tells (inputs_in before) input)
   MayCome before (moved batch from to) = Contains (events_after tells (inputs_in before)) (gave (Land batch from to)) × (main_after first before ≡ from)
   MayCome before (pushed to) = ⊤
 

@@ -1,11 +1,12 @@
 ghost use Rattle.std.specs.Prelude.{◌≡◌, ◌∷◌, ◌||◌, ℕ, List, [], None, false, IfErr, IfOk, OnErr, OnOk};
 ghost use Rattle.std.specs.FinSet as set;
-ghost use Rattle.gate_guard.specs.Guarding.{StandsAfter, answer_after};
+ghost use Rattle.gate_guard.specs.Guarding.{StandsAfter, answer_after, meets_full_after};
 ghost use Rattle.gate_guard.specs.Knowing.{HaveCome, nothing_known};
 ghost use Rattle.gate_guard.specs.Telling.{is_merged, tells, tells_input};
 ghost use Rattle.gate_guard.specs.declared.input.Input.{Input as InputOf};
 ghost use Rattle.gate_store.specs.Leading.{Delivers};
-ghost use Rattle.gate_store.specs.Run.{IsOfKeepers, answer_to, kept_under};
+ghost use Rattle.gate_store.specs.Outlasting.{Outlasts, RemainsSound};
+ghost use Rattle.gate_store.specs.Run.{AgreesOnFull, IsOfKeepers, StaysOpen, answer_to, kept_under};
 
 use crate::input::Input;
 use crate::merges::Merges;
@@ -71,6 +72,12 @@ impl<B: Book> Guard<B> {
         // Each of its orders has come then.
         ensures orders { B.is_sound self.new.book → kept_under (B.shows self.old.book) id ≡ None → (inputs : List InputOf)
             → StandsAfter B.shows self.old inputs → IfOk result (HaveCome tells_input (input.now ∷ inputs)) }
+
+        // The faults, and what they leave of the book's premise.
+        ensures full { B.is_sound self.new.book → kept_under (B.shows self.old.book) id ≡ None → (inputs : List InputOf)
+            → StandsAfter B.shows self.old inputs → AgreesOnFull result (meets_full_after inputs input.now) }
+        ensures outlasts { Outlasts B.Book self.old.book self.new.book }
+        ensures remains { RemainsSound B.Book self.old.book self.new.book (StaysOpen result) }
         ensures cause { IfErr result (IsOfKeepers B.may_answer) }
     {
         match told(alloc, &self.merges, input)? {

@@ -7,9 +7,9 @@ use gate_store::law_of_deliveries;
 /// The law of moves: over every list of what a host tells the bot and does, with pushes of others in between, each move of the main branch
 /// that the host makes goes from its value to the merge of that value with the heads of a batch. When the order to land came, each change
 /// of the batch was approved without a break, open and fit, at exactly that head, and of each status that the settings required then, a
-/// success of that commit was told, after it was told that the batch is staged with it. So it is in every run in which a staging that is
-/// told is of the merge that was ordered, and the host moves the branch only by an order to land that has come, and only from the value that
-/// the order names.
+/// success of that commit was told, after it was told that the batch is staged with it, and a check had said so. So it is in every run in
+/// which a staging that is told is of the merge that was ordered, a success that is told of a merge is one that a check has said, and the
+/// host moves the branch only by an order to land that has come, and only from the value that the order names.
 pub fn law_of_moves()
     // Of a host that hands in deliveries, and of one that notes inputs in a guard.
     ensures deliveries { LawOfDeliveries }
