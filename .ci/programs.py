@@ -28,7 +28,7 @@ BOOKS = TOP / "crates/gate_books/out/gate_books"
 
 # What a run, and a response, may take before its program counts as one that never ends; and what a run may that has more to do.
 SECONDS = 30
-MORE_SECONDS = 120
+MORE_SECONDS = 600
 
 # For a program that serves until it is killed.
 MANY_CONNECTIONS = 1_000_000
