@@ -10,7 +10,7 @@ use Rattle.gate_deliveries.specs.declared.delivery.Event.{Event as Telling}
 use Rattle.gate_deliveries.specs.declared.delivery.Event.TheVariants as telling
 use Rattle.gate_text.specs.Reading.{comment_says}
 use Rattle.gate_guard.specs.Knowing.{Known, acts_told, after_acts, events_after, known_after}
-use Rattle.gate_guard.specs.World.{Checking, IsTrue, Merging}
+use Rattle.gate_guard.specs.World.{Checking, TellsTruly, Merging}
 use Rattle.gate_queue.specs.History.{Entry, Event, IsRightLanding, Legal, events_of, gave, landings, stages}
 use Rattle.gate_queue.specs.Machine.{reply_to}
 use Rattle.gate_queue.specs.Vocabulary.{Fact, Happened, Land, Other}
@@ -37,7 +37,7 @@ module _ (law : LawOfTelling) where
       (each, still_legal history s (acts_of_event event) legal each)
 
 -- what a reading of the clock keeps
-keeps : {I : Type 0} (tells : List I → I → Option Telling) (joins : Merging) (says : Checking) (earlier : List I) (event : Telling) → IsTrue tells joins says earlier (Some event) → EventKeepsLimits event
+keeps : {I : Type 0} (tells : List I → I → Option Telling) (joins : Merging) (says : Checking) (earlier : List I) (event : Telling) → TellsTruly tells joins says earlier (Some event) → EventKeepsLimits event
 keeps tells joins says earlier (telling.Other (fact.Tick now)) so = so
 keeps tells joins says earlier (telling.Other fact) so = tt
 keeps tells joins says earlier (telling.On change changed) so = tt
@@ -110,11 +110,11 @@ module _ {I : Type 0} (tells : List I → I → Option Telling) (law : LawOfTell
               ordered = subst (λ (these : List Event). Contains these (gave (Land batch from to))) (sym here) among;
             }
 
-  by_told : (told : Option Telling) (full : Bool) → tells inputs input ≡ told → acts_meet_full known.state (acts_told told) ≡ full → IsTrue tells joins says inputs told
+  by_told : (told : Option Telling) (full : Bool) → tells inputs input ≡ told → acts_meet_full known.state (acts_told told) ≡ full → TellsTruly tells joins says inputs told
       → known_after tells now ≡ after_acts known (cond full [] (acts_told told)) → IsTraced tells now (after_acts known (cond full [] (acts_told told)))
   by_told told true is room true_so so = unchanged
   by_told None false is room true_so so = unchanged
   by_told (Some event) false is room true_so so = by_telling event is room (keeps tells joins says inputs event true_so) so
 
-  pub traced_next : IsTrue tells joins says inputs (tells inputs input) → IsTraced tells now (known_after tells now)
+  pub traced_next : TellsTruly tells joins says inputs (tells inputs input) → IsTraced tells now (known_after tells now)
   traced_next true_so = by_told (tells inputs input) (acts_meet_full known.state (acts_told (tells inputs input))) refl refl true_so refl

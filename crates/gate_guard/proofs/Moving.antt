@@ -7,7 +7,7 @@ use Rattle.std.specs.Option.{option_or}
 use Rattle.gate_deliveries.specs.declared.delivery.Event.{Event as Telling}
 use Rattle.gate_guard.specs.Knowing.{events_after, known_after}
 use Rattle.gate_guard.specs.Moves.{HasSucceeded, IsRightMove, LawOfMoves, MovesRightly}
-use Rattle.gate_guard.specs.World.{Checking, IsMergeFor, IsTrue, KeepsPremise, Merging, Step, commits_of, inputs_in, moved, noted, pushed}
+use Rattle.gate_guard.specs.World.{Checking, IsMergeFor, TellsTruly, KeepsPremise, Merging, Step, commits_of, inputs_in, moved, noted, pushed}
 use Rattle.gate_queue.specs.History.{Event, IsReadyToLand, Legal, did, gave, heads_back, heads_said, is_order, is_stage_of, last_of, stages}
 use Rattle.gate_queue.specs.Machine.{empty_state}
 use Rattle.gate_queue.specs.Vocabulary.{Branch, Head, Land, Notice, Other, Stage, Staged, Staging, Status, Success}
@@ -43,7 +43,7 @@ heads_so number branch base heads (event ∷ events) once among = elim (contains
 -- THE PREMISE, of inputs alone
 module _ {I : Type 0} (tells : List I → I → Option Telling) where
   abbrev TrueThen : Merging → Checking → I → List I → Type 0
-  TrueThen joins says input earlier = IsTrue tells joins says earlier (tells earlier input)
+  TrueThen joins says input earlier = TellsTruly tells joins says earlier (tells earlier input)
 
   all_true : (joins : Merging) (says : Checking) (first : List ℕ) (steps : List (Step I)) → KeepsPremise tells joins says first steps → EachOf (TrueThen joins says) (inputs_in steps)
   all_true joins says first [] keeps = tt
@@ -85,7 +85,7 @@ module _ {I : Type 0} (tells : List I → I → Option Telling) (law : LawOfTell
     merge_true =
         let was = merge.was in
         subst (λ (then_events : List Event). IsMergeFor joins then_events batch to) merge.at
-        (subst (IsTrue tells joins says was.earlier) was.told
+        (subst (TellsTruly tells joins says was.earlier) was.told
         (each_at (TrueThen tells joins says) was.later was.earlier was.input (subst (EachOf (TrueThen tells joins says)) was.cut all)))
 
     pub merged : joins from (commits_of tested.heads) to ≡ true
@@ -101,7 +101,7 @@ module _ {I : Type 0} (tells : List I → I → Option Telling) (law : LawOfTell
         let then_true = each_behind (TrueThen tells joins says) (was.later ++ was.input ∷ []) was.earlier
         (subst (EachOf (TrueThen tells joins says)) (was.cut ∙ sym (append_assoc was.later (was.input ∷ []) was.earlier)) all) in
         let made = each_at (Traced tells was.earlier) between older staged (subst (EachOf (Traced tells was.earlier)) came.at (all_traced was.earlier then_true).traced) in
-        let success = subst (IsTrue tells joins says was.earlier) was.told
+        let success = subst (TellsTruly tells joins says was.earlier) was.told
         (each_at (TrueThen tells joins says) was.later was.earlier was.input (subst (EachOf (TrueThen tells joins says)) was.cut all)) in
         record { success = was; staged = made.was; said = success batch made.was }
 

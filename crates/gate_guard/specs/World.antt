@@ -53,16 +53,16 @@ Checking = List ℕ → List ℕ → Bool
 module _ {I : Type 0} (tells : List I → I → Option Telling) (joins : Merging) (says : Checking) where
   -- A reading of the clock is within its limit, as each value of the type `Moment` is. Nothing else is supposed of what the bot is told, by
   -- inputs of before.
-  abbrev pub IsTrue : List I → Option Telling → Type 0
-  IsTrue earlier (Some (telling.Other (Staged batch commit))) = IsMergeFor joins (events_after tells earlier) batch commit
-  IsTrue earlier (Some (telling.Other (Status commit name Success))) = (batch : ℕ) → WasTold tells earlier (telling.Other (Staged batch commit)) → says commit name ≡ true
-  IsTrue earlier (Some (telling.Other (Tick now))) = IsMoment now
-  IsTrue earlier told = ⊤
+  abbrev pub TellsTruly : List I → Option Telling → Type 0
+  TellsTruly earlier (Some (telling.Other (Staged batch commit))) = IsMergeFor joins (events_after tells earlier) batch commit
+  TellsTruly earlier (Some (telling.Other (Status commit name Success))) = (batch : ℕ) → WasTold tells earlier (telling.Other (Staged batch commit)) → says commit name ≡ true
+  TellsTruly earlier (Some (telling.Other (Tick now))) = IsMoment now
+  TellsTruly earlier told = ⊤
 
 module _ {I : Type 0} (tells : List I → I → Option Telling) (joins : Merging) (says : Checking) (first : List ℕ) where
   -- The host moves the main branch only by an order to land that has come, from the commit that the order names, if the branch is there.
   abbrev pub MayCome : List (Step I) → Step I → Type 0
-  MayCome before (noted input) = IsTrue tells joins says (inputs_in before) (tells (inputs_in before) input)
+  MayCome before (noted input) = TellsTruly tells joins says (inputs_in before) (tells (inputs_in before) input)
   MayCome before (moved batch from to) = Contains (events_after tells (inputs_in before)) (gave (Land batch from to)) × (main_after first before ≡ from)
   MayCome before (pushed to) = ⊤
 
