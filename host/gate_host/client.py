@@ -1,4 +1,5 @@
-"""The bot, as a child of the host: `gate run --db FILE`, with deliveries on one pipe and answers on another."""
+"""The bot, as a child of the host, with deliveries on one pipe and answers on another: `gate guard --db FILE`, or `gate run` if what is to
+be done doesn't matter."""
 import os
 import select
 import subprocess
@@ -6,6 +7,8 @@ import tempfile
 import time
 from pathlib import Path
 from typing import IO, Optional
+
+from .core.duties import Answered, answered_in
 
 # The first answer comes when the bot has read its file, which takes time in its size.
 SECONDS_FOR_FIRST = 600
@@ -16,13 +19,13 @@ class BotEnded(Exception):
     """The bot has ended, or gives no answer, with what it said of it."""
 
 
-class Bot:
-    """A running bot. It ends with its input, and so with the host, however that ends."""
+class Child:
+    """A running program. It ends with its input, and so with the host, however that ends."""
 
-    def __init__(self, program: str, database: Optional[Path]):
+    def __init__(self, program: str, job: str, database: Optional[Path]):
         """Starts it over the records in a file, or without any."""
         self.said = tempfile.TemporaryFile()
-        command = [program, "run", *(["--db", str(database)] if database else [])]
+        command = [program, job, *(["--db", str(database)] if database else [])]
         try:
             self.process = subprocess.Popen(
                 command, stdin=subprocess.PIPE, stdout=subprocess.PIPE, stderr=self.said, bufsize=0, start_new_session=True,
@@ -34,8 +37,8 @@ class Bot:
         self.seconds = SECONDS_FOR_FIRST
         self.rest = b""
 
-    def hand_in(self, line: str) -> str:
-        """Hands a delivery in, and gives the answer."""
+    def line_after(self, line: str) -> str:
+        """Gives the program a line, and gives the one that it writes then."""
         left = line.encode() + b"\n"
         try:
             # A signal may come when only a part is written.
@@ -78,6 +81,28 @@ class Bot:
             self.process.wait()
         self.answers.close()
         self.said.close()
+
+
+class Bot(Child):
+    """A bot that answers, by `gate run`."""
+
+    def __init__(self, program: str, database: Optional[Path]):
+        super().__init__(program, "run", database)
+
+    def hand_in(self, line: str) -> str:
+        """Hands a delivery in, and gives the answer."""
+        return self.line_after(line)
+
+
+class Guard(Child):
+    """A bot that says with each answer what is to be done, by `gate guard`."""
+
+    def __init__(self, program: str, database: Optional[Path]):
+        super().__init__(program, "guard", database)
+
+    def hand_in(self, line: str) -> Answered:
+        """Hands a delivery in, and gives the answer with what is to be done after it. `Unread` if it says anything else."""
+        return answered_in(self.line_after(line))
 
 
 def piped(stream: Optional[IO[bytes]]) -> IO[bytes]:

@@ -173,6 +173,11 @@ class Journal:
         for line, answer in self.database.cursor().execute(query):
             yield line, answer
 
+    def answered_last(self) -> List[Tuple[str, str]]:
+        """The same of the last delivery that has an answer, if there is one."""
+        query = "SELECT line, answer FROM deliveries WHERE answer IS NOT NULL ORDER BY number DESC LIMIT 1"
+        return self.database.execute(query).fetchall()
+
     def count_answered(self) -> int:
         return self.number("SELECT count(*) FROM deliveries WHERE answer IS NOT NULL")
 

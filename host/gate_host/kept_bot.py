@@ -1,12 +1,14 @@
-"""The bot, kept running: it is started anew if it has ended, and gets what it lacks of the journal."""
+"""The bot, kept running: it is started anew if it has ended, gets what it lacks of the journal, and says what is to be done."""
 import os
 import shutil
 import time
-from typing import Callable, Dict, Optional, Tuple
+from typing import Callable, Dict, Iterable, Optional, Tuple, TypeVar
 
 from .bot_file import has_file, lacks_answers
 from .bot_settings import read_settings
-from .client import Bot, BotEnded
+from .client import BotEnded, Guard
+from .core.duties import Duties
+from .core.orders import Unread
 from .faults import Trouble
 from .journal import Journal
 from .places import Places
@@ -18,6 +20,8 @@ from .troubles import complain
 STARTS = 12
 MOST_READINGS = 20
 
+Given = TypeVar("Given")
+
 
 class KeptBot:
     """A bot that answers whenever it can be made to."""
@@ -27,7 +31,9 @@ class KeptBot:
         # Which program it is, as the settings say now; and whether the host is to end.
         self.program, self.is_ending = program, is_ending
         self.is_all_again = is_all_again
-        self.bot: Optional[Bot] = None
+        self.bot: Optional[Guard] = None
+        # What is to be done, as it has said last.
+        self.said: Optional[Duties] = None
         self.starts = 0
         # What it reads in texts of settings, by the program and the text.
         self.readings: Dict[Tuple[str, str], Reading] = {}
@@ -43,14 +49,21 @@ class KeptBot:
 
     def hand_in(self, line: str) -> str:
         """The answer of the bot, which is started anew if it has ended."""
+        return self.given(lambda bot: self.handed_in(bot, line))
+
+    def duties(self) -> Duties:
+        """What is to be done after all that was handed in. After a start of the host the bot has to be asked, if it ever had a delivery."""
+        if self.said is None and self.journal.count_answered():
+            self.given(lambda bot: None)
+        return self.said or Duties()
+
+    def given(self, by: Callable[[Guard], Given]) -> Given:
+        """What a bot gives that is there, however often it has to be started for that."""
         for attempt in range(STARTS):
             try:
                 if self.bot is None:
                     self.bot = self.start()
-                answer = self.bot.hand_in(line)
-                if not answer.startswith("["):
-                    raise Trouble(f"the bot takes this for no delivery, and says {answer}: {line}")
-                return answer
+                return by(self.bot)
             except BotEnded as fault:
                 complain(f"{fault}; the bot is started again")
                 self.close()
@@ -58,6 +71,15 @@ class KeptBot:
                     break
                 time.sleep(min(10.0, 0.1 * 2 ** attempt))
         raise Trouble("the bot gives no answer, however often it is started")
+
+    def handed_in(self, bot: Guard, line: str) -> str:
+        """The answer of a bot to a delivery. What is to be done after it is kept."""
+        try:
+            answered = bot.hand_in(line)
+        except Unread as fault:
+            raise Trouble(f"the bot takes this for no delivery, or isn't the one of this host: {fault}: {line}") from fault
+        self.said = answered.duties
+        return answered.text
 
     def read(self, settings: str) -> Reading:
         """What the bot reads in a text of settings, by a run of its program for that alone."""
@@ -72,18 +94,20 @@ class KeptBot:
         """What it has read in a text of settings before, without a run."""
         return self.readings.get((self.program(), settings))
 
-    def start(self) -> Bot:
-        """Starts the bot. If its file lacks answers of the journal, it gets all deliveries again, and has to give the same answers."""
+    def start(self) -> Guard:
+        """Starts the bot. If its file lacks answers of the journal, it gets all deliveries again, and else the last one alone, so that it
+        says what is to be done. It has to give the same answers."""
         is_behind = lacks_answers(self.places, self.journal)
         if is_behind and self.journal.count_answered():
             complain(f"{self.places.bot} lacks answers that the journal has, so the bot gets all deliveries again")
-        bot = Bot(self.program(), self.places.bot)
+        bot = Guard(self.program(), self.places.bot)
         self.starts += 1
-        if not is_behind and not self.is_all_again:
-            return bot
+        again: Iterable[Tuple[str, str]] = self.journal.answered_last()
+        if is_behind or self.is_all_again:
+            again = self.journal.answered()
         try:
-            for line, answer in self.journal.answered():
-                if bot.hand_in(line) != answer:
+            for line, answer in again:
+                if self.handed_in(bot, line) != answer:
                     raise Trouble(f"the bot answers another way than before to {line}")
         except (BotEnded, Trouble):
             bot.close()

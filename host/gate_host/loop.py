@@ -1,13 +1,13 @@
-"""The loop: it looks at what has happened, writes it down, hands it in, and does what the bot orders. docs/host-inside.md says why so."""
+"""The loop: it looks at what has happened, writes it down, hands it in, and does what the bot says. docs/host-inside.md says why so."""
 import signal
 import time
 from dataclasses import replace
-from typing import Dict, List, Mapping, Optional, Sequence, Tuple, Union
+from typing import Callable, Dict, List, Mapping, Optional, Sequence, Tuple, TypeVar, Union
 
 from .core import broken, watching, words
 from .core.clock import ClockWatch
 from .core.deliveries import touched
-from .core.duties import Duty, Merge, Move, Point, open_duties
+from .core.duties import BRANCHES, Duties, Merge, Move, Point, Step, ToMerge, steps_of, tests_of
 from .core.facts import (
     BaseEnded, Delayed, Doubted, Ended, Fact, Faulted, HeadDated, MainSeen, Merged, Moved, NotMoved, NotTaken, Opened, PushTold, Said,
     Staged, Ticked,
@@ -15,10 +15,10 @@ from .core.facts import (
 from .core.known import Batch, Known, Test
 from .core.commands import command_lines
 from .core.notes import Acceptance, Comment, Freezing, Note, Report, Strange, Thawing, objection_to
-from .core.orders import Land, is_done
+from .core.orders import Land, Unread, is_done
 from .core.watching import Watch
 from .core.words import MOST_IN_SETTINGS, listed
-from .faults import Unable
+from .faults import Trouble, Unable
 from .journal import Heard
 from .ports import Detail, Fault, Ports, Reading, Result
 from .troubles import Troubles, complain
@@ -35,6 +35,8 @@ SECONDS_OF_PUSH = 600
 SECONDS_TO_READ_AGAIN = 10
 # So many branches of landed changes are deleted in a look, and one that can't be is tried again after so long.
 MOST_DROPPED, SECONDS_TO_TIDY_AGAIN = 20, 300
+
+Due = TypeVar("Due")
 
 
 class Host:
@@ -133,13 +135,13 @@ class Host:
     # Handing in and doing
 
     def record(self, fact: Fact) -> None:
-        """Writes a fact down, hands in what it tells the bot, and does what is ordered by that."""
+        """Writes a fact down, hands in what it tells the bot, and does what the bot says then."""
         self.ports.journal.record(self.known, self.ports.clock.now(), fact)
         self.is_report_due = True
         self.settle()
 
     def settle(self) -> None:
-        """Hands in what has no answer, does what is ordered, and goes on so until nothing is left that can be done now."""
+        """Hands in what has no answer, does what is to be done, and goes on so until nothing is left that can be done now."""
         while self.hand_in() or self.do_first():
             pass
 
@@ -160,34 +162,45 @@ class Host:
             complain(f"{listed(delivery.changes)} landed as {delivery.order.commit}")
 
     def do_first(self) -> bool:
-        """Does the first thing that is ordered and needn't wait. False if there is none."""
-        return any(self.do(duty) for duty in open_duties(self.known))
+        """Does the first thing that the bot says is to be done and needn't wait. False if there is none."""
+        for branch in BRANCHES:
+            # What can't be staged for now may be over.
+            if not isinstance(self.ports.bot.duties().of(branch), ToMerge):
+                self.troubles.end(f"stage {branch}")
+        return any(self.do(step) for step in self.due(steps_of))
 
-    def do(self, duty: Duty) -> bool:
-        """Does what is ordered, and writes down what became of it. False if it has to wait, which an order to land never does."""
-        if isinstance(duty, Move):
-            self.land(duty)
+    def due(self, of: Callable[[Known, Duties], List[Due]]) -> List[Due]:
+        """What the bot says is to be done. If that doesn't fit what it has ordered before, nothing is done, and the host ends."""
+        try:
+            return of(self.known, self.ports.bot.duties())
+        except Unread as fault:
+            raise Trouble(f"what the bot says is to be done doesn't fit the journal: {fault}") from fault
+
+    def do(self, step: Step) -> bool:
+        """Does what is to be done, and writes down what became of it. False if it has to wait, which a landing never does."""
+        if isinstance(step, Move):
+            self.land(step)
             return True
-        branch = duty.batch.stage.branch
+        branch = step.batch.stage.branch
         if time.monotonic() < self.next_retry.get(branch, 0.0):
             return False
         try:
-            fact = self.stage(duty)
+            fact = self.stage(step)
         except Unable as fault:
             self.next_retry[branch] = time.monotonic() + RETRY_SECONDS
-            self.delay(duty.order, duty.batch, str(fault))
+            self.delay(step.order, step.batch, str(fault))
             return False
         if not isinstance(fact, Merged):
             self.troubles.end(f"stage {branch}")
         self.ports.journal.record(self.known, self.ports.clock.now(), fact)
         return True
 
-    def stage(self, duty: Union[Merge, Point]) -> Fact:
+    def stage(self, step: Union[Merge, Point]) -> Fact:
         """Merges a batch, or moves the branch on which it is tested to its merge."""
-        if isinstance(duty, Merge):
-            return self.ports.repository.merge(duty.order, duty.batch)
-        self.ports.repository.point(duty.batch, self.known)
-        return Staged(duty.order)
+        if isinstance(step, Merge):
+            return self.ports.repository.merge(step.order, step.batch)
+        self.ports.repository.point(step.batch, self.known)
+        return Staged(step.order)
 
     def delay(self, order: str, batch: Batch, why: str) -> None:
         """Tells once why a batch isn't staged, which is no fault of its changes. What happens meanwhile is handed in."""
@@ -197,14 +210,14 @@ class Host:
         text = words.delayed(batch.stage, why)
         self.troubles.say(about, f"b{text[1:]}")
 
-    def land(self, duty: Move) -> None:
+    def land(self, step: Move) -> None:
         """Moves the main branch, or writes down that it doesn't go. If that can't be done at present, that is no refusal: the order stays
         open, and holds up everything else."""
         try:
-            is_there = self.ports.repository.land(duty.land, duty.batch)
+            is_there = self.ports.repository.land(step.land, step.batch)
         except Unable as fault:
-            raise Unable(f"batch {duty.land.batch} can't be landed yet: {fault}") from fault
-        fact: Fact = Moved(duty.order, self.ports.owner.main) if is_there else NotMoved(duty.order)
+            raise Unable(f"batch {step.land.batch} can't be landed yet: {fault}") from fault
+        fact: Fact = Moved(step.order, self.ports.owner.main) if is_there else NotMoved(step.order)
         self.ports.journal.record(self.known, self.ports.clock.now(), fact)
 
     # What has happened
@@ -423,29 +436,33 @@ class Host:
     # Checks, the clock and reports
 
     def check(self) -> None:
-        """Writes down how checks have ended, and starts the next ones."""
+        """Writes down how checks have ended, and starts the next ones of what the bot says is tested."""
         # Whoever ends the host may end its checks as well. They have no result then, and begin anew at the next start.
         if self.ending:
             return
-        of_base = broken.base_test(self.known)
-        for ended in self.ports.runner.ended([*self.known.tests.values(), *([of_base] if of_base else [])]):
+        tests = self.due(tests_of)
+        for ended in self.ports.runner.ended([*tests, *self.base_tests(tests)]):
             self.take_end(ended)
-        for test in list(self.known.tests.values()):
+        for test in self.due(tests_of):
             if not self.fails_at_once(test):
                 results = self.known.results.get(test.branch, {})
                 # What is only pending elsewhere is no result: a command may have taken the place of that.
                 done = {name: state for name, state in results.items() if state != "pending"}
                 self.ports.runner.begin(test, self.ports.owner.settings, done)
-        self.check_base()
+        for test in self.base_tests(self.due(tests_of)):
+            self.check_base(test)
         self.show_faults()
         self.troubles.put("after landing", self.ports.after.go_on(self.ports.owner.settings, self.known.landings))
         self.troubles.put("on_event", self.ports.on_event.go_on(self.ports.owner.settings, self.known.events))
 
-    def check_base(self) -> None:
+    def base_tests(self, tests: Sequence[Test]) -> List[Test]:
+        """What has to be tested of the base, for a batch that is tested."""
+        found = broken.base_test(self.known)
+        return [found] if found and found.batch in [it.batch for it in tests] else []
+
+    def check_base(self, test: Test) -> None:
         """Runs on the base alone what a batch of one change has failed. A check that has no command any more comes to no verdict there."""
-        test, settings = broken.base_test(self.known), self.ports.owner.settings
-        if test is None:
-            return
+        settings = self.ports.owner.settings
         gone = [name for name in broken.doubts_of(self.known, test.batch) if name not in settings.checks]
         for name in gone:
             self.record(BaseEnded(test.batch, name, "error", "there is no command for it any more", ""))

@@ -3,6 +3,7 @@ from dataclasses import dataclass, field
 from typing import Dict, FrozenSet, Iterable, List, Mapping, Optional, Protocol, Sequence, Tuple, Union
 
 from .core.deliveries import Delivery
+from .core.duties import Duties
 from .core.events import Events
 from .core.facts import Conflicted, Fact, Merged
 from .core.known import Batch, Known, Landing, Test
@@ -140,13 +141,16 @@ class Reading:
 
 
 class Bot(Protocol):
-    """The bot, which answers each delivery."""
+    """The bot, which answers each delivery and says what is to be done then."""
 
     def read(self, settings: str) -> Reading:
         """What the bot reads in a text of settings. It isn't handed in by that."""
 
     def hand_in(self, line: str) -> str:
         """Hands a delivery in, and gives the answer."""
+
+    def duties(self) -> Duties:
+        """What is to be done for what runs, after all that was handed in."""
 
     def close(self) -> None:
         """Ends the bot."""

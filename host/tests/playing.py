@@ -5,9 +5,10 @@ from pathlib import Path
 
 sys.path.insert(0, str(Path(__file__).resolve().parent.parent))
 
+from gate_host.core.duties import BRANCHES, Duties, ToLand, ToMerge, ToTest  # noqa: E402
 from gate_host.core.facts import Ended, MainSeen, Merged, Moved, Opened, RoleGiven, Said, Staged, Ticked  # noqa: E402
 from gate_host.core.known import Known  # noqa: E402
-from gate_host.core.orders import answer_in  # noqa: E402
+from gate_host.core.orders import Land, answer_in  # noqa: E402
 
 A, B, C, D, E = (digit * 40 for digit in "abcde")
 DONE = '[{"orders":[],"verdict":"done"}]'
@@ -41,6 +42,24 @@ class Play:
         for answer in answers:
             self.lines.append(self.known.waiting[0].line)
             self.told += self.known.hear(answer_in(answer))
+
+
+def open_in(known):
+    """What is open by the orders and the facts that settle them, without what the bot says of it. A batch that it has put back or dropped
+    without a report counts here until the next order for its branch."""
+    return Duties(*(open_on(known, branch) for branch in BRANCHES))
+
+
+def open_on(known, branch):
+    batch, test = known.batches.get(branch), known.tests.get(branch)
+    if batch is None:
+        return None
+    land = next((it for it in known.orders.values() if isinstance(it, Land) and it.batch == batch.stage.batch), None)
+    if batch.order in known.orders:
+        return ToMerge(batch.stage.batch)
+    if land:
+        return ToLand(land.batch, land.base, land.commit)
+    return ToTest(test.batch, test.commit) if test and test.batch not in known.over else None
 
 
 def said_by(number, person, text, *replies):

@@ -4,8 +4,8 @@
     recorder.py ANSWERS MARKS PUSH PROGRAM ARGUMENT..
 
 ANSWERS gets a line for each answer, before the host has it. MARKS is a folder with a mark for each death, or `-` if nobody is to die. PUSH
-is a command that runs before the host has the first order to stage, or `-`. Of other jobs than `run` it takes no note, nor of a run over
-other records than the host's, by which it asks what a text of settings means.
+is a command that runs before the host has the first order to stage, or `-`. A host of this tree has its bot `guard`, and an older one has
+it `run`. Of other jobs it takes no note, nor of one over other records than the host's, by which it asks what a text of settings means.
 """
 import json
 import os
@@ -37,7 +37,7 @@ def end(bot):
 
 def main():
     answers, marks, push, *command = sys.argv[1:]
-    if command[1:2] != ["run"] or not command[-1].endswith("/records/bot.db"):
+    if command[1:2] not in (["guard"], ["run"]) or not command[-1].endswith("/records/bot.db"):
         os.execv(command[0], command)
     host = os.getppid()
     bot = subprocess.Popen(command, stdin=subprocess.PIPE, stdout=subprocess.PIPE, bufsize=0)
@@ -46,12 +46,13 @@ def main():
         if is_first(marks, f"bot-before-{delivery['event']}"):
             end(bot)
         bot.stdin.write(line)
-        answer = bot.stdout.readline()
-        if not answer:
+        said = bot.stdout.readline()
+        if not said:
             sys.exit(bot.wait())
+        answer = json.loads(said)["answer"] if command[1] == "guard" else json.loads(said)
         with open(answers, "a", encoding="utf-8") as file:
-            file.write(json.dumps({"delivery": delivery, "answer": json.loads(answer)}) + "\n")
-        kind = kind_of(delivery, json.loads(answer))
+            file.write(json.dumps({"delivery": delivery, "answer": answer}) + "\n")
+        kind = kind_of(delivery, answer)
         if push != "-" and "stage" in kind:
             subprocess.run([push], check=True, stdin=subprocess.DEVNULL, stdout=subprocess.DEVNULL)
             push = "-"
@@ -59,7 +60,7 @@ def main():
             end(bot)
         if is_first(marks, f"host-before-{kind}"):
             os.kill(host, signal.SIGKILL)
-        sys.stdout.buffer.write(answer)
+        sys.stdout.buffer.write(said)
         sys.stdout.buffer.flush()
         if is_first(marks, f"host-after-{kind}"):
             os.kill(host, signal.SIGKILL)

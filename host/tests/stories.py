@@ -573,6 +573,7 @@ exec {git} "$@"
         self.must_git("fetch", "--quiet", str(self.clone), "HEAD:refs/heads/change/28")
         self.say("rosa", 28, "bors r+")
         self.told(28, "Landed on main")
+        self.until("there is its report", lambda: self.report("change-28"))
         must("whether the owner is its author", f"author    {pwd.getpwuid(os.geteuid()).pw_name}\n" in self.report("change-28"))
 
     def strange_notes_end_nothing(self):

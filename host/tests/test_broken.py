@@ -201,7 +201,7 @@ class LoopTests(InWorld):
         known = Play(*STAGED, (FAILED,)).known
         host.known, host.record = known, lambda fact: known.learn(9, 0, fact)
         host.ports.owner.settings = SimpleNamespace(checks={}, parallel=False)
-        host.check_base()
+        host.check_base(base_test(known))
         self.assertEqual([json.loads(it.line)["state"] for it in known.waiting], ["failure"])
         self.assertIsNone(known.broken)
         host.ports.journal.close()

@@ -10,7 +10,9 @@ from unittest import mock
 sys.path.insert(0, str(Path(__file__).resolve().parent.parent))
 
 from folders import InFolder  # noqa: E402
-from gate_host.client import Bot, BotEnded  # noqa: E402
+from gate_host.client import Bot, BotEnded, Guard  # noqa: E402
+from gate_host.core.duties import Answered, Duties, ToMerge  # noqa: E402
+from gate_host.core.orders import Unread  # noqa: E402
 
 
 class ClientTests(InFolder):
@@ -25,6 +27,23 @@ class ClientTests(InFolder):
         self.assertEqual(bot.hand_in("one"), '["one"]')
         self.assertEqual(bot.hand_in("two"), "two")
         bot.close()
+
+    def test_a_guard_says_what_is_to_be_done(self):
+        said = '{"answer":[ "é" ],"staging":{"do":"merge","batch":3},"trying":null}'
+        guard = Guard(self.program(f"echo '{said}'; echo '{{\"error\":\"NotJson\"}}'; cat"), self.room / "file")
+        self.addCleanup(guard.close)
+        self.assertEqual(guard.hand_in("one"), Answered('[ "é" ]', Duties(ToMerge(3))))
+        with self.assertRaisesRegex(Unread, "NotJson"):
+            guard.hand_in("two")
+
+    def test_by_which_words_it_is_started(self):
+        file = self.room / "file"
+        for kind, database, due in (
+            (Bot, None, "run"), (Bot, file, f"run --db {file}"), (Guard, None, "guard"), (Guard, file, f"guard --db {file}"),
+        ):
+            bot = kind(self.program('read -r line; echo "$*"'), database)
+            self.assertEqual(bot.line_after("one"), due)
+            bot.close()
 
     def test_a_line_is_handed_in_whole(self):
         bot = Bot(self.program("exec cat"), self.room / "file")

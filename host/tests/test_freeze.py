@@ -3,12 +3,11 @@ import json
 import unittest
 
 from playing import (
-    A, B, BEFORE, C, D, DENIED, DONE, LAND, LANDING, MADE, NOTICE, ORDERED, STAGED, Play, stage, with_orders,
+    A, B, BEFORE, C, D, DENIED, DONE, LAND, NOTICE, ORDERED, STAGED, Play, stage, with_orders,
 )
 from test_loop import Died, InWorld, commit_of, host_in
 
 from gate_host.audit.entries import Fact, Row
-from gate_host.core.duties import Merge, Move, Point, open_duties
 from gate_host.core.durations import Runs
 from gate_host.core.facts import Ended, Frozen, Merged, Moved, Opened, Queued, Reported, RoleGiven, Staged, Thawed, Ticked
 from gate_host.core.freeze import Freeze
@@ -231,15 +230,6 @@ class KnownTests(unittest.TestCase):
         runs.thaw(560)
         runs.thaw(580)
         self.assertEqual((runs.time_of(560), runs.time_of(570)), (60, 70))
-
-    def test_what_was_ordered_to_be_staged_waits(self):
-        """Its merge and the move of the branch as well. An order to land isn't held back."""
-        for steps, due in ((ORDERED, [Merge]), (MADE, [Point]), (LANDING, [Move])):
-            self.assertEqual([type(it) for it in open_duties(Play(*steps).known)], due)
-            frozen = Play(*steps, (FROZEN,))
-            self.assertEqual([type(it) for it in open_duties(frozen.known)], due if due == [Move] else [])
-            frozen.known.learn(19, 0, Thawed("n8", "rosa"))
-            self.assertEqual([type(it) for it in open_duties(frozen.known)], due)
 
     def test_what_is_explained_knows_of_it(self):
         """By the facts up to a moment: who froze it last, and since when."""

@@ -8,7 +8,7 @@ from pathlib import Path
 
 sys.path.insert(0, str(Path(__file__).resolve().parent.parent))
 
-from gate_host.core.duties import Merge, Move, open_duties  # noqa: E402
+from gate_host.core.duties import Duties, Merge, Move, ToLand, ToMerge, steps_of  # noqa: E402
 from gate_host.core.facts import Moved, Ticked  # noqa: E402
 from gate_host.core.known import Change, Test  # noqa: E402
 from gate_host.core.orders import Land, Stage  # noqa: E402
@@ -102,7 +102,8 @@ class EarlierTests(InRoom):
         self.assertEqual((known.tests, known.results), ({"staging": Test("staging", 1, C)}, {"staging": {"build": "success"}}))
         batch, other = known.batches["staging"], known.batches["trying"]
         self.assertEqual((batch.order, batch.stage, batch.now, batch.commit), ("tick-2.0", Stage(1, "staging", A, ((7, B),)), 50, C))
-        self.assertEqual(open_duties(known), [Merge("tick-2.1", other), Move("status-4.0", Land(1, A, C), batch)])
+        steps = steps_of(known, Duties(ToLand(1, A, C), ToMerge(other.stage.batch)))
+        self.assertEqual(steps, [Move("status-4.0", Land(1, A, C), batch), Merge("tick-2.1", other)])
         # The notice that nobody was told yet is told by this.
         self.assertEqual(journal.told(7), [(77, "told before")])
         self.assertEqual([text[:34] for _, text in journal.told(9)], ["The approval or the try has ended "])

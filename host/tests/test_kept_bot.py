@@ -9,13 +9,14 @@ from unittest import mock
 sys.path.insert(0, str(Path(__file__).resolve().parent.parent))
 
 from gate_host import kept_bot  # noqa: E402
+from gate_host.core.duties import Duties, ToMerge  # noqa: E402
 from gate_host.core.facts import Ticked  # noqa: E402
 from gate_host.faults import Trouble  # noqa: E402
 from gate_host.journal import Journal  # noqa: E402
 from gate_host.kept_bot import KeptBot  # noqa: E402
 from gate_host.places import Places  # noqa: E402
 
-# Answers each line by how many it has had, writes down what it gets, and ends after so many as a file says.
+# Answers each line by how many it has had, with a duty of that number; writes down what it gets, and ends after so many as a file says.
 PROGRAM = """\
 #!{python}
 import pathlib, sys
@@ -27,6 +28,9 @@ for number, line in enumerate(sys.stdin, 1):
         sys.exit("no more")
     print((room / "answer").read_text().format(number), flush=True)
 """
+
+
+ANSWER = '[{"verdict":"done","orders":[],"n":%s}]'
 
 
 class KeptBotTests(unittest.TestCase):
@@ -42,7 +46,8 @@ class KeptBotTests(unittest.TestCase):
         self.program.write_text(PROGRAM.format(python=sys.executable, room=str(self.room)), encoding="utf-8")
         self.program.chmod(0o755)
         self.ending = False
-        for name, text in (("most", "99"), ("answer", '[{{"verdict":"done","orders":[],"n":{}}}]'), ("got", "")):
+        answer = '{{"answer":[{{"verdict":"done","orders":[],"n":{0}}}],"staging":{{"do":"merge","batch":{0}}},"trying":null}}'
+        for name, text in (("most", "99"), ("answer", answer), ("got", "")):
             (self.room / name).write_text(text, encoding="utf-8")
         for patched in (mock.patch.object(kept_bot, "complain"), mock.patch("time.sleep")):
             patched.start()
@@ -84,19 +89,59 @@ class KeptBotTests(unittest.TestCase):
 
     def test_what_is_no_answer_is_refused(self):
         (self.room / "answer").write_text('{{"error":"NotJson"}}', encoding="utf-8")
-        with self.assertRaisesRegex(Trouble, "takes this for no delivery, and says .*NotJson.*: a"):
+        with self.assertRaisesRegex(Trouble, "takes this for no delivery.*NotJson.*: a"):
+            self.bot().hand_in("a")
+
+    def test_an_answer_without_what_is_to_be_done_is_refused(self):
+        """As the job `run` gives it."""
+        (self.room / "answer").write_text("[]", encoding="utf-8")
+        with self.assertRaisesRegex(Trouble, "isn't the one of this host"):
             self.bot().hand_in("a")
 
     def test_it_gets_all_again_if_its_file_lacks_answers(self):
-        self.keep('[{"verdict":"done","orders":[],"n":1}]', '[{"verdict":"done","orders":[],"n":2}]')
+        self.keep(ANSWER % 1, ANSWER % 2)
         self.assertEqual(json.loads(self.bot().hand_in("a"))[0]["n"], 3)
         self.assertEqual([line[:12] for line in self.got()], ['{"id": "tick', '{"id": "tick', 'a'])
         kept_bot.complain.assert_called_once()
 
     def test_one_that_answers_another_way_than_before_is_refused(self):
-        self.keep('[{"verdict":"done","orders":[],"n":7}]')
+        self.keep(ANSWER % 7)
         with self.assertRaisesRegex(Trouble, "another way than before to"):
             self.bot().hand_in("a")
+
+    def test_it_says_what_is_to_be_done_after_each_answer(self):
+        bot = self.bot()
+        for number, line in enumerate(("a", "b"), 1):
+            self.assertEqual(bot.hand_in(line), ANSWER % number)
+            self.assertEqual(bot.duties(), Duties(ToMerge(number)))
+        self.assertEqual(self.got(), ["a", "b"])
+
+    def test_a_new_bot_says_what_is_to_be_done_when_it_gets_the_last_delivery_again(self):
+        """Its file has all answers, so it gets no other one."""
+        self.keep(ANSWER % 5, ANSWER % 1)
+        with mock.patch.object(kept_bot, "lacks_answers", lambda *_: False):
+            bot = self.bot()
+            self.assertEqual((bot.duties(), bot.duties()), (Duties(ToMerge(1)), Duties(ToMerge(1))))
+            self.assertEqual(([json.loads(line)["now"] for line in self.got()], bot.starts), ([1], 1))
+            # So it is if it has ended meanwhile, and there is a delivery for it.
+            bot.bot.process.kill()
+            self.assertEqual(json.loads(bot.hand_in("a"))[0]["n"], 2)
+        self.assertEqual((self.got()[2:], bot.duties(), bot.starts), (["a"], Duties(ToMerge(2)), 2))
+
+    def test_a_new_bot_that_answers_the_last_delivery_another_way_is_refused(self):
+        self.keep(ANSWER % 1, ANSWER % 7)
+        with mock.patch.object(kept_bot, "lacks_answers", lambda *_: False):
+            with self.assertRaisesRegex(Trouble, "another way than before to"):
+                self.bot().duties()
+
+    def test_all_again_says_what_is_to_be_done_at_the_end(self):
+        self.keep(ANSWER % 1, ANSWER % 2)
+        self.assertEqual(self.bot(is_all_again=True).duties(), Duties(ToMerge(2)))
+
+    def test_nothing_is_to_be_done_before_anything_was_handed_in(self):
+        """The bot isn't started for that, since with an empty journal it is to have no records."""
+        bot = self.bot()
+        self.assertEqual((bot.duties(), bot.starts, self.places.bot.exists()), (Duties(), 0, False))
 
     def test_a_program_that_is_not_there(self):
         self.program.unlink()

@@ -6,7 +6,6 @@ from playing import (
 )
 from gate_host.core import words
 from gate_host.core.commands import Command, Kind
-from gate_host.core.duties import open_duties
 from gate_host.core.facts import (
     BaseEnded, Closed, Conflicted, Delayed, Doubted, Ended, Faulted, Frozen, HeadDated, kind_of, KINDS, Labeled, MainSeen, Merged, Moved,
     MoverFound, NotMoved, NotTaken, Opened, Pushed, PushesForgotten, PushTold, Queued, Reported, Reviewed, RoleGiven, Said, Staged, Thawed,
@@ -107,6 +106,12 @@ class KnownTests(unittest.TestCase):
         self.assertEqual(len(play.told), len(Play(*STAGED).told) + 1)
         play = Play(*BEFORE, (Reported("n3", "ci", B, "format", "success", ""), DONE))
         self.assertEqual((play.known.results, len(play.told)), ({}, len(Play(*BEFORE).told)))
+
+    def test_what_was_reported_of_a_head_is_news_again_once_it_is_tested_as_a_merge(self):
+        # Somebody makes the merge a head before it is told that the batch is staged with it.
+        reported = [*MADE, (Opened(8, "vera", C), DONE), (Reported("n3", "ci", C, "build", "success", ""), DONE)]
+        self.assertEqual(Play(*reported).known.reported, {C: {"build": "success"}})
+        self.assertEqual(Play(*reported, (Staged("tick-5.0"), DONE)).known.reported, {})
 
     def test_what_is_reported_of_a_head_is_news_again_once_a_change_has_left_it(self):
         reported = [*BEFORE, (Reported("n3", "ci", B, "format", "success", ""), DONE)]
@@ -213,7 +218,7 @@ class KnownTests(unittest.TestCase):
             play.known.learn(play.number + 1, 0, fact)
             self.assertEqual([it.id for it in play.known.waiting], due)
             # An order that this settles isn't open while its report has no answer.
-            self.assertNotIn(getattr(fact, "order", "") if due else "", [duty.order for duty in open_duties(play.known)])
+            self.assertNotIn(getattr(fact, "order", "") if due else "", play.known.orders)
         self.assertEqual(kinds, set(KINDS))
 
 

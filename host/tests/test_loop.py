@@ -10,11 +10,14 @@ from unittest import mock
 
 sys.path.insert(0, str(Path(__file__).resolve().parent.parent))
 
+from playing import open_in  # noqa: E402
+
 from gate_host import loop, ports, troubles  # noqa: E402
+from gate_host.core.duties import BRANCHES, Duties, ToLand, ToMerge, ToTest, answered_in  # noqa: E402
 from gate_host.core.facts import Conflicted, Merged  # noqa: E402
 from gate_host.core.known import Landing, Member  # noqa: E402
 from gate_host.core.notes import note_in  # noqa: E402
-from gate_host.faults import Unable  # noqa: E402
+from gate_host.faults import Trouble, Unable  # noqa: E402
 from gate_host.journal import Journal  # noqa: E402
 from gate_host.loop import Host  # noqa: E402
 from gate_host.troubles import Troubles  # noqa: E402
@@ -56,6 +59,8 @@ class World:
         # Which orders git can't do for now, and how often each was tried.
         self.unable, self.tries = {}, []
         self.touches, self.last = 0, None
+        # What is to be done, as the bot has said last.
+        self.duties = Duties()
 
     def touch(self, name):
         """A place at which the host may die."""
@@ -93,7 +98,13 @@ class Bot:
         if delivery["id"] not in self.world.answers:
             self.world.answers[delivery["id"]] = self.new_answer(delivery)
             self.world.said.append(delivery)
+            self.world.duties = answered_in(self.line(self.world.answers[delivery["id"]])).duties
         return self.world.answers[delivery["id"]]
+
+    def line(self, answer):
+        """What the program would write: its answer, with what is to be done by what was told it alone."""
+        staging, trying = (json.dumps(self.duty(branch), separators=(",", ":")) for branch in BRANCHES)
+        return f'{{"answer":{answer},"staging":{staging},"trying":{trying}}}'
 
     def new_answer(self, delivery):
         event = delivery["event"]
@@ -101,11 +112,31 @@ class Bot:
             return with_orders(*self.staged())
         if event == "conflict":
             return with_orders({"order": "notice", "change": 3, "why": "Conflict"})
-        if event == "status" and delivery["name"] == "lint" and delivery["commit"] == commit_of([4]):
+        if event != "status" or delivery["name"] != "lint" or delivery["state"] != "success":
+            return DONE
+        if delivery["commit"] == commit_of([4]):
             return with_orders({"order": "notice", "change": 4, "why": "TryPassed"})
-        if event == "status" and delivery["name"] == "lint":
-            return with_orders({"order": "land", "batch": self.last_batch("staging"), "base": self.base(), "commit": delivery["commit"]})
-        return DONE
+        return with_orders({"order": "land", "batch": self.last_batch("staging"), "base": self.base(), "commit": delivery["commit"]})
+
+    def duties(self):
+        return self.world.duties
+
+    def duty(self, branch):
+        batch = self.last_batch(branch)
+        told = {it["event"]: it for it in self.world.said if it.get("batch") == batch}
+        land = next((it for it in self.orders() if it["order"] == "land" and it["batch"] == batch), None)
+        if not batch or {"conflict", "refused"} & set(told) or self.is_ended(batch) or (land and self.base() == land["commit"]):
+            return None
+        if "staged" not in told:
+            return {"do": "merge", "batch": batch}
+        if land:
+            return {"do": "land", "batch": batch, "base": land["base"], "commit": land["commit"]}
+        return {"do": "test", "batch": batch, "commit": told["staged"]["commit"]}
+
+    def is_ended(self, batch):
+        """Whether a batch has ended by a notice."""
+        changes = [change for it in self.orders() if it["order"] == "stage" and it["batch"] == batch for change, _ in it["heads"]]
+        return any(it["order"] == "notice" and it["why"] in ("Failed", "TryPassed") and it["change"] in changes for it in self.orders())
 
     def orders(self):
         return [order for answer in self.world.answers.values() for reply in json.loads(answer) for order in reply["orders"]]
@@ -319,6 +350,14 @@ class OnEvent:
         pass
 
 
+class AgreeingHost(Host):
+    """A host that looks, whenever it is about to do something, whether the facts and the orders alone say the same as the bot."""
+
+    def do_first(self):
+        assert self.ports.bot.duties() == open_in(self.known), (self.ports.bot.duties(), open_in(self.known))
+        return super().do_first()
+
+
 def host_in(world):
     journal = DyingJournal(world)
     given = ports.Ports(
@@ -327,7 +366,7 @@ def host_in(world):
         on_event=OnEvent(),
     )
     given.owner.settings.delete_branches = world.drops
-    return Host(given, journal.known(), "owner", 3, Troubles())
+    return AgreeingHost(given, journal.known(), "owner", 3, Troubles())
 
 
 class InWorld(unittest.TestCase):
@@ -459,6 +498,87 @@ class OrderTests(InWorld):
         events = [(it["event"], it.get("commit")) for it in world.said if it["event"] in ("refused", "base")]
         self.assertEqual(events, [("base", A), ("refused", None), ("base", D)])
         self.assertEqual(world.moves, [])
+        host.ports.journal.close()
+
+
+class DutyTests(InWorld):
+    """A host does what the bot says is to be done, and nothing else."""
+
+    def host_before(self, world, what):
+        """A host, right before it does something the first time, and what its bot says is to be done then."""
+        host = host_in(world)
+        before = mock.Mock(side_effect=Died)
+        with mock.patch.object(type(host.ports.repository) if what != "begin" else type(host.ports.runner), what, before):
+            for _ in range(60):
+                world.time += 10
+                try:
+                    host.round()
+                except Died:
+                    duties = host.ports.bot.duties()
+                    host.do_first = lambda: Host.do_first(host)
+                    return host, duties
+        raise AssertionError(f"it doesn't come to {what}")
+
+    def round_with(self, host, duties):
+        with mock.patch.object(host.ports.bot, "duties", lambda: duties):
+            host.round()
+
+    def test_what_does_not_fit_what_was_ordered_ends_the_host(self):
+        for what, wrong in (
+            ("merge", (ToMerge(9), ToTest(1, C), ToLand(1, A, C))), ("point", (ToMerge(9), ToTest(3, commit_of([1, 2])))),
+            ("land", (ToMerge(3), ToLand(3, A, D), ToLand(3, D, commit_of([1, 2])), ToLand(9, A, commit_of([1, 2])))),
+            ("begin", (ToMerge(2), ToTest(9, commit_of([4])), ToTest(2, D))),
+        ):
+            world = self.world(what)
+            host, _ = self.host_before(world, what)
+            before = world.main, dict(world.branches), len(world.said)
+            for duty in wrong:
+                duties = Duties(trying=duty) if what == "begin" else Duties(duty)
+                with mock.patch.object(host.ports.runner, "begin") as began, self.assertRaisesRegex(Trouble, "doesn't fit the journal"):
+                    self.round_with(host, duties)
+                began.assert_not_called()
+                self.assertEqual((world.main, world.branches, len(world.said)), before, (what, duty))
+            host.ports.journal.close()
+
+    def test_what_is_not_to_be_done_any_more_is_not_done(self):
+        """The bot may have put a batch back or dropped it, although no later order for its branch has come."""
+        for what, is_done in (
+            ("merge", lambda world: "merge" in world.tries), ("point", lambda world: world.branches), ("land", lambda world: world.moves),
+        ):
+            world = self.world(what)
+            host, _ = self.host_before(world, what)
+            world.tries, world.branches = [], {}
+            host.ports.board.is_waiting = False
+            self.round_with(host, Duties())
+            self.assertFalse(is_done(world), what)
+            host.round()
+            self.assertTrue(is_done(world), what)
+            host.ports.journal.close()
+
+    def test_only_what_is_tested_has_its_checks_run(self):
+        world = self.world("checks")
+        host, duties = self.host_before(world, "begin")
+        began, wanted = [], []
+        host.ports.board.is_waiting = False
+        host.ports.runner.ended = lambda tests: wanted.append([it.batch for it in tests]) or []
+        host.ports.runner.begin = lambda test, settings, done: began.append(test.batch)
+        for now in (Duties(), duties, Duties()):
+            self.round_with(host, now)
+        self.assertEqual((duties, wanted, began), (Duties(None, ToTest(2, commit_of([4]))), [[], [2], []], [2]))
+        host.ports.journal.close()
+
+    def test_what_can_not_be_staged_is_no_trouble_any_more_when_it_is_over(self):
+        world = self.world("over")
+        world.unable = {"merge": 1}
+        host = host_in(world)
+        host.do_first = lambda: Host.do_first(host)
+        while not host.troubles.said:
+            world.time += 10
+            host.round()
+        self.assertEqual(list(host.troubles.said), ["stage staging"])
+        host.ports.board.is_waiting = False
+        self.round_with(host, Duties(None, host.ports.bot.duties().trying))
+        self.assertEqual((host.troubles.said, world.tries.count("merge")), ({}, 2))
         host.ports.journal.close()
 
 

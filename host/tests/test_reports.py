@@ -13,16 +13,18 @@ HOST = Path(__file__).resolve().parent.parent
 sys.path.insert(0, str(HOST))
 
 from gate_host import reports  # noqa: E402
-from gate_host.client import Bot  # noqa: E402
+from gate_host.client import Guard  # noqa: E402
 from gate_host.core.deliveries import touched  # noqa: E402
-from gate_host.core.duties import Move, Point, open_duties  # noqa: E402
+from gate_host.core.duties import BRANCHES, Duties, Move, Point, ToLand, ToMerge, ToTest, steps_of, tests_of  # noqa: E402
 from gate_host.core.facts import (  # noqa: E402
     Closed, Conflicted, Ended, MainSeen, Merged, Moved, NotMoved, Opened, Pushed, RoleGiven, Said, Staged, Ticked,
 )
+from gate_host.core.queue import batches_in  # noqa: E402
 from gate_host.journal import Journal  # noqa: E402
 from gate_host.report_bot import NoReport  # noqa: E402
 from gate_host.reports import MARK, Reports, log_text  # noqa: E402
 
+from playing import open_in  # noqa: E402
 from stand_in import BATCH, EMPTY, PROGRAM, SECONDS, WALK, WithStandIn, is_built, is_there  # noqa: E402
 
 
@@ -335,6 +337,8 @@ TEXTS_OF_SETTINGS = (
 )
 # What is due to come about.
 DUE = {"Stage", "Land", "Conflict", "Failed", "TimedOut", "Pushed", "Closed", "Settings", "TryPassed", "TryFailed"}
+# What is to be done for a batch by its state in the report of the queue.
+BY_STATE = {"ordered": ToMerge, "staged": ToTest, "landing": ToLand}
 
 
 @is_built
@@ -345,7 +349,7 @@ class WithProgramTests(WithStandIn):
         super().setUp()
         self.journal = Journal(self.places.records / "journal.db")
         self.addCleanup(self.journal.close)
-        self.bot = Bot(str(PROGRAM), self.places.bot)
+        self.bot, self.duties = Guard(str(PROGRAM), self.places.bot), Duties()
         self.addCleanup(self.bot.close)
         self.reports = begun(self.places, self.journal, self.fail)
         self.addCleanup(self.reports.close)
@@ -361,7 +365,9 @@ class WithProgramTests(WithStandIn):
         """Writes a fact down, and hands in what it tells the bot."""
         self.journal.record(self.known, 0, fact)
         while self.known.waiting:
-            heard = self.journal.keep_answer(self.known, 0, self.bot.hand_in(self.known.waiting[0].line))
+            answered = self.bot.hand_in(self.known.waiting[0].line)
+            self.duties = answered.duties
+            heard = self.journal.keep_answer(self.known, 0, answered.text)
             self.reports.note(heard.delivery, touched(heard.delivery, heard.orders, self.known))
             self.came |= {getattr(order, "why", type(order).__name__) for order in heard.orders}
 
@@ -391,16 +397,24 @@ class WithProgramTests(WithStandIn):
         self.say(Moved(next(iter(self.known.orders)), "main"))
 
     def do_duty(self, chance):
-        duties, goes_well = open_duties(self.known), chance.random() < 0.8
-        if not duties:
+        steps, goes_well = steps_of(self.known, self.duties), chance.random() < 0.8
+        if not steps:
             return
-        duty = duties[0]
-        if isinstance(duty, Move):
-            self.say(Moved(duty.order, "main") if goes_well else NotMoved(duty.order))
-        elif isinstance(duty, Point):
-            self.say(Staged(duty.order))
+        step = steps[0]
+        if isinstance(step, Move):
+            self.say(Moved(step.order, "main") if goes_well else NotMoved(step.order))
+        elif isinstance(step, Point):
+            self.say(Staged(step.order))
         else:
-            self.say(Merged(duty.order, self.commit()) if goes_well else Conflicted(duty.order, duty.batch.stage.changes[0], "by chance"))
+            self.say(Merged(step.order, self.commit()) if goes_well else Conflicted(step.order, step.batch.stage.changes[0], "by chance"))
+
+    def what_is_to_be_done_agrees(self):
+        """With the report of the queue, and with what is open by the orders. The bot may have put back or dropped what is open by those."""
+        running = {it.branch: (BY_STATE[it.state], it.number) for it in batches_in(self.text("queue")) if it.state != "waiting"}
+        said = {branch: self.duties.of(branch) for branch in BRANCHES if self.duties.of(branch)}
+        self.assertEqual({branch: (type(duty), duty.batch) for branch, duty in said.items()}, running)
+        self.assertEqual(said, {branch: open_in(self.known).of(branch) for branch in said})
+        self.assertEqual(len(steps_of(self.known, self.duties) + tests_of(self.known, self.duties)), len(said))
 
     def check(self, branch, state):
         if branch in self.known.tests:
@@ -455,6 +469,7 @@ class WithProgramTests(WithStandIn):
             self.step(chance)
             asked += len(self.reports.due)
             self.refresh()
+            self.what_is_to_be_done_agrees()
             first = self.commits // 20
             for change in [90, 97, 98, *range(max(1, first - 3), first + 6)] if number % 3 == 2 else []:
                 self.assertEqual(self.text(f"change-{change}"), self.reports.bot.change(change), f"change {change} at step {number}")

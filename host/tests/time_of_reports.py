@@ -40,15 +40,15 @@ from test_reports import begun  # noqa: E402
 STOPWATCH = """\
 import json, os, subprocess, sys, time
 answers, *command = sys.argv[1:]
-if command[1:2] != ["run"]:
+if command[1:2] != ["guard"]:
     os.execv(command[0], command)
 bot = subprocess.Popen(command, stdin=subprocess.PIPE, stdout=subprocess.PIPE, bufsize=0)
 with open(answers, "a", encoding="utf-8", buffering=1) as file:
     for line in sys.stdin.buffer:
         bot.stdin.write(line)
-        answer = bot.stdout.readline()
-        file.write(json.dumps([time.time(), line.decode(), answer.decode()]) + "\\n")
-        sys.stdout.buffer.write(answer)
+        said = bot.stdout.readline()
+        file.write(json.dumps([time.time(), line.decode(), json.dumps(json.loads(said)["answer"])]) + "\\n")
+        sys.stdout.buffer.write(said)
         sys.stdout.buffer.flush()
 bot.stdin.close()
 sys.exit(bot.wait())

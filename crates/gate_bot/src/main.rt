@@ -1,6 +1,7 @@
 //! The program `gate`: the merge bot, from the words that it is started with to its exit status.
 #![tactic(auto)]
 
+mod guarding;
 mod records;
 mod reporting;
 mod running;
@@ -11,8 +12,10 @@ use crate::serving::{Service, routes_of, serve, serve_in_file, token_in};
 use gate_jobs::{
     Ending, Job, JobFault, WordsFault, complaint, ended, explain, no_text, read_words, status,
 };
+use gate_queue::Fault;
 use sqlite::{Start, Unknown};
 use std::fs::File;
+use std::io::BufReader;
 use std::process::ExitCode;
 use std::{env, io};
 
@@ -51,6 +54,8 @@ fn done<S: Start>(rt: &HostRuntime, job: &Job, start: S) -> Result<(), JobFault>
     match job {
         Job::Run { db: None } => run(rt),
         Job::Run { db: Some(db) } => run_in_file(rt, db.as_str(), start),
+        Job::Guard { db: None } => guard(rt),
+        Job::Guard { db: Some(db) } => guard_in_file(rt, db.as_str(), start),
         Job::Serve {
             port,
             count,
@@ -93,6 +98,27 @@ fn run_in_file<S: Start>(rt: &HostRuntime, file: &str, start: S) -> Result<(), J
     )?;
     close(book);
     served?;
+    Ok(())
+}
+
+// Standard input is read in pieces, and then line by line.
+fn guard(rt: &HostRuntime) -> Result<(), JobFault> {
+    let mut reader = match BufReader::new(rt.alloc(), rt.reader()) {
+        Ok(reader) => reader,
+        Err(_) => return Err(JobFault::from(Fault::Memory)),
+    };
+    guarding::guard(rt.alloc(), &mut reader, &mut io::writer(rt))?;
+    Ok(())
+}
+
+fn guard_in_file<S: Start>(rt: &HostRuntime, file: &str, start: S) -> Result<(), JobFault> {
+    let mut reader = match BufReader::new(rt.alloc(), rt.reader()) {
+        Ok(reader) => reader,
+        Err(_) => return Err(JobFault::from(Fault::Memory)),
+    };
+    let (told, book) = guarding::guard_in_file(rt, file, start, &mut reader, &mut io::writer(rt))?;
+    close(book);
+    told?;
     Ok(())
 }
 

@@ -1,15 +1,15 @@
 -- The orders of replies are among the events after their acts.
-use Rattle.std.proofs.Common.{List, [], ◌∷◌, Option, inl, inr, subst}
+use Rattle.std.proofs.Common.{List, [], ◌∷◌, inl, inr, subst}
 use Rattle.std.proofs.lemmas.List.Elements.{Contains-append_cases}
 use Rattle.std.specs.List.{Contains, flat_map}
-use Rattle.gate_deliveries.specs.declared.delivery.Event.{Event as Telling}
+use Rattle.gate_deliveries.specs.Acts.{acts_of_event}
 use Rattle.gate_queue.specs.History.{Entry, Event, events_of, gave, given, happened, orders_in}
 use Rattle.gate_queue.specs.Machine.{after, reply_to}
 use Rattle.gate_queue.specs.Vocabulary.{Act, Denied, Done, Order, Reply}
 use Rattle.gate_state.specs.declared.state.State.{State}
 use Rattle.gate_store.specs.Headline.{entry_for, history_after}
 use Rattle.gate_store.specs.Run.{replies_to}
-use Rattle.gate_guard.specs.Knowing.{acts_told, known_after, unless_full}
+use Rattle.gate_guard.specs.Knowing.{known_after, unless_full}
 use Rattle.gate_guard.specs.Moves.{LawOfStaying}
 use Rattle.gate_guard.proofs.Lists.{contains_cases, contains_first, contains_more, contains_none}
 use Rattle.gate_guard.proofs.Tracing.{given_more}
@@ -41,8 +41,8 @@ orders_come history s (act ∷ acts) order among = elim (Contains-append_cases (
   | inr later ↦ orders_come (entry_for s act ∷ history) (after s act) acts order later
 ]
 
--- ONE INPUT MORE
-pub stays_law : {I : Type 0} (tells : List I → I → Option Telling) → LawOfStaying tells
-stays_law tells input inputs event among =
-    let known = known_after tells inputs in
-    history_more known.history known.state (unless_full known.state (acts_told (tells inputs input))) event among
+-- ONE THING MORE
+pub stays_law : LawOfStaying
+stays_law telling all event among =
+    let known = known_after all in
+    history_more known.history known.state (unless_full known.state (acts_of_event telling)) event among

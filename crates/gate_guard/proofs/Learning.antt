@@ -1,5 +1,5 @@
--- What is known after one input more: it is legal, and each event comes of an input.
-use Rattle.std.proofs.Common.{◌≡◌, ℕ, ◌+◌, ◌≤◌, Bool, true, false, not, ◌&&◌, cond, is_some, List, [], ◌∷◌, Option, None, Some, refl, sym, ◌∙◌, ap, subst, append-nil, nat_cmp, arith}
+-- What is known after one thing more was told: it is legal, and each event comes of what was told.
+use Rattle.std.proofs.Common.{◌≡◌, ℕ, ◌+◌, ◌≤◌, Bool, true, false, not, ◌&&◌, cond, is_some, List, [], ◌∷◌, refl, sym, ◌∙◌, ap, subst, append-nil, nat_cmp, arith}
 use Rattle.std.proofs.lemmas.List.Elements.{All-cons, All-nil}
 use Rattle.std.specs.Cmp.Lexicographic.{slice_cmp}
 use Rattle.std.specs.FinMap as finite
@@ -9,7 +9,7 @@ use Rattle.gate_deliveries.specs.declared.delivery.Delivery.{Delivery}
 use Rattle.gate_deliveries.specs.declared.delivery.Event.{Event as Telling}
 use Rattle.gate_deliveries.specs.declared.delivery.Event.TheVariants as telling
 use Rattle.gate_text.specs.Reading.{comment_says}
-use Rattle.gate_guard.specs.Knowing.{Known, acts_told, after_acts, events_after, known_after}
+use Rattle.gate_guard.specs.Knowing.{Known, after_acts, events_after, known_after}
 use Rattle.gate_guard.specs.World.{Checking, TellsTruly, Merging}
 use Rattle.gate_queue.specs.History.{Entry, Event, IsRightLanding, Legal, events_of, gave, landings, stages}
 use Rattle.gate_queue.specs.Machine.{reply_to}
@@ -37,63 +37,63 @@ module _ (law : LawOfTelling) where
       (each, still_legal history s (acts_of_event event) legal each)
 
 -- what a reading of the clock keeps
-keeps : {I : Type 0} (tells : List I → I → Option Telling) (joins : Merging) (says : Checking) (earlier : List I) (event : Telling) → TellsTruly tells joins says earlier (Some event) → EventKeepsLimits event
-keeps tells joins says earlier (telling.Other (fact.Tick now)) so = so
-keeps tells joins says earlier (telling.Other fact) so = tt
-keeps tells joins says earlier (telling.On change changed) so = tt
-keeps tells joins says earlier (telling.Comment change person text) so = tt
+keeps : (joins : Merging) (says : Checking) (earlier : List Telling) (event : Telling) → TellsTruly joins says earlier event → EventKeepsLimits event
+keeps joins says earlier (telling.Other (fact.Tick now)) so = so
+keeps joins says earlier (telling.Other fact) so = tt
+keeps joins says earlier (telling.On change changed) so = tt
+keeps joins says earlier (telling.Comment change person text) so = tt
 
--- ALL THAT IS KNOWN: the history is legal, and each of its events comes of one of the inputs.
-pub record IsTraced {I : Type 0} (tells : List I → I → Option Telling) (inputs : List I) (known : Known) : Type 0 where
+-- ALL THAT IS KNOWN: the history is legal, and each of its events comes of what was told.
+pub record IsTraced (told : List Telling) (known : Known) : Type 0 where
   pub legal : Legal known.history known.state
-  pub traced : EachOf (Traced tells inputs) (events_of known.history)
+  pub traced : EachOf (Traced told) (events_of known.history)
 
-module _ {I : Type 0} (tells : List I → I → Option Telling) (law : LawOfTelling) (joins : Merging) (says : Checking) (inputs : List I) (input : I) (was : IsTraced tells inputs (known_after tells inputs)) where
+module _ (law : LawOfTelling) (joins : Merging) (says : Checking) (told : List Telling) (event : Telling) (was : IsTraced told (known_after told)) where
   abbrev known : Known
-  known = known_after tells inputs
+  known = known_after told
 
   abbrev events : List Event
-  events = events_after tells inputs
+  events = events_after told
 
-  abbrev now : List I
-  now = input ∷ inputs
+  abbrev now : List Telling
+  now = event ∷ told
 
-  -- what was known comes of these inputs too
-  before : EachOf (Traced tells now) events
-  before = each_so (Traced tells inputs) (Traced tells now) (still_traced tells input inputs) events was.traced
+  -- what was known comes of all this too
+  before : EachOf (Traced now) events
+  before = each_so (Traced told) (Traced now) (still_traced event told) events was.traced
 
-  unchanged : IsTraced tells now known
+  unchanged : IsTraced now known
   unchanged = record { legal = was.legal; traced = before }
 
-  by_telling : (event : Telling) → tells inputs input ≡ Some event → acts_meet_full known.state (acts_of_event event) ≡ false → EventKeepsLimits event
-      → known_after tells now ≡ after_acts known (acts_of_event event) → IsTraced tells now (after_acts known (acts_of_event event))
+  by_telling : (this : Telling) → event ≡ this → acts_meet_full known.state (acts_of_event this) ≡ false → EventKeepsLimits this
+      → known_after now ≡ after_acts known (acts_of_event this) → IsTraced now (after_acts known (acts_of_event this))
   by_telling (telling.Comment change person text) is room limits so =
-      let told = told_so law known.history known.state (telling.Comment change person text) was.legal limits room in
-      record { legal = told.1; traced = deeds_traced tells now known.history known.state change person (comment_says text) told.0 before }
+      let tells = told_so law known.history known.state (telling.Comment change person text) was.legal limits room in
+      record { legal = tells.1; traced = deeds_traced now known.history known.state change person (comment_says text) tells.0 before }
   by_telling (telling.On change changed) is room limits so =
-      let told = told_so law known.history known.state (telling.On change changed) was.legal limits room in
-      record { legal = told.1; traced = deed_entry tells now known.history known.state change (Happened changed) told.0.0 before }
+      let tells = told_so law known.history known.state (telling.On change changed) was.legal limits room in
+      record { legal = tells.1; traced = deed_entry now known.history known.state change (Happened changed) tells.0.0 before }
   by_telling (telling.Other fact) is room limits so =
-      let told = told_so law known.history known.state (telling.Other fact) was.legal limits room in
+      let tells = told_so law known.history known.state (telling.Other fact) was.legal limits room in
       record {
-        legal = told.1;
+        legal = tells.1;
         traced =
-            reply_traced tells now all events (Other fact) (lands told.0.0.staged_once told.0.0.landed_once) events (reply_to known.state (Other fact)) refl (λ number. omega arith) told.0.0.ordered_rightly came before;
+            reply_traced now all events (Other fact) (lands tells.0.0.staged_once tells.0.0.landed_once) events (reply_to known.state (Other fact)) refl (λ number. omega arith) tells.0.0.ordered_rightly came before;
       } where
         all : List Event
         all = events_of (entry_for known.state (Other fact) ∷ known.history)
 
-        came : CameOf tells now fact events
-        came = record { was = record { later = []; input = input; earlier = inputs; cut = refl; told = is }; at = refl }
+        came : CameOf now fact events
+        came = record { was = record { later = []; earlier = told; cut = ap (λ (this : Telling). this ∷ told) is }; at = refl }
 
         same_fact : {other : Fact} → Other fact ≡ Other other → fact ≡ other
         same_fact same = cc same
 
         lands : ((number : ℕ) → stages number all ≤ 1) → ((number : ℕ) → landings number all ≤ 1) → (batch : ℕ) (from to : List ℕ) → IsRightLanding all (Other fact) batch from to → Contains all (gave (Land batch from to))
-            → 1 + landings batch events ≤ landings batch all → CameRightly tells now batch from to
+            → 1 + landings batch events ≤ landings batch all → CameRightly now batch from to
         lands once landed batch from to right among more =
             let few = landed batch in
-            let here : events_after tells now ≡ all = ap (λ (k : Known). events_of k.history) so in
+            let here : events_after now ≡ all = ap (λ (k : Known). events_of k.history) so in
             record {
               later = [];
               until = now;
@@ -101,20 +101,17 @@ module _ {I : Type 0} (tells : List I → I → Option Telling) (law : LawOfTell
               act = Other fact;
               right = subst (λ (these : List Event). IsRightLanding these (Other fact) batch from to) (sym here) right;
               name = right.name;
-              input = input;
-              earlier = inputs;
-              last = refl;
-              told = is ∙ ap (λ (this : Fact). Some (telling.Other this)) (same_fact right.success);
+              earlier = told;
+              last = ap (λ (this : Telling). this ∷ told) is ∙ ap (λ (this : Fact). telling.Other this ∷ told) (same_fact right.success);
               new = omega arith;
               once = subst (λ (these : List Event). stages batch these ≤ 1) (sym here) (once batch);
               ordered = subst (λ (these : List Event). Contains these (gave (Land batch from to))) (sym here) among;
             }
 
-  by_told : (told : Option Telling) (full : Bool) → tells inputs input ≡ told → acts_meet_full known.state (acts_told told) ≡ full → TellsTruly tells joins says inputs told
-      → known_after tells now ≡ after_acts known (cond full [] (acts_told told)) → IsTraced tells now (after_acts known (cond full [] (acts_told told)))
-  by_told told true is room true_so so = unchanged
-  by_told None false is room true_so so = unchanged
-  by_told (Some event) false is room true_so so = by_telling event is room (keeps tells joins says inputs event true_so) so
+  by_room : (full : Bool) → acts_meet_full known.state (acts_of_event event) ≡ full → TellsTruly joins says told event
+      → known_after now ≡ after_acts known (cond full [] (acts_of_event event)) → IsTraced now (after_acts known (cond full [] (acts_of_event event)))
+  by_room true room true_so so = unchanged
+  by_room false room true_so so = by_telling event refl room (keeps joins says told event true_so) so
 
-  pub traced_next : TellsTruly tells joins says inputs (tells inputs input) → IsTraced tells now (known_after tells now)
-  traced_next true_so = by_told (tells inputs input) (acts_meet_full known.state (acts_told (tells inputs input))) refl refl true_so refl
+  pub traced_next : TellsTruly joins says told event → IsTraced now (known_after now)
+  traced_next true_so = by_room (acts_meet_full known.state (acts_of_event event)) refl true_so refl

@@ -1,12 +1,12 @@
--- Each fact of the history comes of an input that told it, and each order to land was right when it came.
-use Rattle.std.proofs.Common.{◌≡◌, ℕ, ◌+◌, ◌≤◌, Bool, List, [], ◌∷◌, ◌++◌, Option, Some, map as list_map, refl, sym, ap, subst, arith}
+-- Each fact of the history was told, and each order to land was right when it came.
+use Rattle.std.proofs.Common.{◌≡◌, ◌≢◌, ◌∙◌, ℕ, ◌+◌, ◌≤◌, Bool, List, [], ◌∷◌, ◌++◌, Some, map as list_map, refl, sym, ap, subst, arith}
 use Rattle.std.proofs.lemmas.List.Elements.{All-head, All-tail}
 use Rattle.std.proofs.lemmas.Bool.Decides.{Decides-eqb}
 use Rattle.std.specs.List.{All, Contains, count_by}
 use Rattle.gate_deliveries.specs.declared.delivery.Event.{Event as Telling}
 use Rattle.gate_deliveries.specs.declared.delivery.Event.TheVariants as telling
 use Rattle.gate_guard.specs.Knowing.{WasTold, events_after}
-use Rattle.gate_queue.specs.History.{Entry, Event, IsRightLanding, IsRightOrder, did, events_of, gave, given, happened, is_land_of, is_order, landings, look_back, orders_in, stages}
+use Rattle.gate_queue.specs.History.{Entry, Event, base_back, IsRightLanding, IsRightOrder, did, events_of, gave, given, happened, is_land_of, is_order, landings, look_back, orders_in, stages}
 use Rattle.gate_queue.specs.Machine.{meaning, reply_to}
 use Rattle.gate_queue.specs.Vocabulary.{Act, Deed, Denied, Done, Fact, Happened, Known as Meant, Land, Look, Notice, On, Order, Other, Reply, Said, SpokenOf, Stage, StatusState, Success, Unknown}
 use Rattle.gate_state.specs.declared.act.Fact.TheVariants as fact
@@ -16,55 +16,56 @@ use Rattle.gate_store.specs.Headline.{Each, Tells, entry_for, history_after}
 use Rattle.gate_guard.proofs.Lists.{EachOf, contains_first, contains_more, count_one, count_rest}
 
 -- WHERE AN EVENT COMES FROM
-module _ {I : Type 0} (tells : List I → I → Option Telling) where
-  -- a fact: an input that told it when this had happened
-  pub record CameOf (inputs : List I) (fact : Fact) (before : List Event) : Type 0 where
-    pub was : WasTold tells inputs (telling.Other fact)
-    pub at : events_after tells was.earlier ≡ before
+-- a fact: it was told when this had happened
+pub record CameOf (all : List Telling) (fact : Fact) (before : List Event) : Type 0 where
+  pub was : WasTold all (telling.Other fact)
+  pub at : events_after was.earlier ≡ before
 
-  -- an order to land: it was right when it came
-  pub record CameRightly (inputs : List I) (batch : ℕ) (from to : List ℕ) : Type 0 where
-    pub later : List I
-    pub until : List I
-    pub cut : inputs ≡ later ++ until
-    pub act : Act
-    pub right : IsRightLanding (events_after tells until) act batch from to
-    pub name : List ℕ
-    pub input : I
-    pub earlier : List I
-    pub last : until ≡ input ∷ earlier
-    pub told : tells earlier input ≡ Some (telling.Other (Status to name Success))
-    pub new : landings batch (events_after tells earlier) ≡ 0
-    pub once : stages batch (events_after tells until) ≤ 1
-    pub ordered : Contains (events_after tells until) (gave (Land batch from to))
+-- an order to land: it was right when it came
+pub record CameRightly (all : List Telling) (batch : ℕ) (from to : List ℕ) : Type 0 where
+  pub later : List Telling
+  pub until : List Telling
+  pub cut : all ≡ later ++ until
+  pub act : Act
+  pub right : IsRightLanding (events_after until) act batch from to
+  pub name : List ℕ
+  pub earlier : List Telling
+  pub last : until ≡ telling.Other (Status to name Success) ∷ earlier
+  pub new : landings batch (events_after earlier) ≡ 0
+  pub once : stages batch (events_after until) ≤ 1
+  pub ordered : Contains (events_after until) (gave (Land batch from to))
 
-  abbrev pub Traced : List I → Event → List Event → Type 0
-  Traced inputs (did (Other fact)) before = CameOf inputs fact before
-  Traced inputs (gave (Land batch from to)) before = CameRightly inputs batch from to
-  Traced inputs event before = Unit
+-- It is told with what had happened before it.
+abbrev pub Traced : List Telling → Event → List Event → Type 0
+Traced all (did (Other fact)) before = CameOf all fact before
+Traced all (gave (Land batch from to)) before = CameRightly all batch from to × (base_back before ≡ Some from)
+Traced all (gave (Stage batch branch base heads)) before = heads ≢ []
+Traced all event before = Unit
 
-  -- One more input takes nothing away.
-  pub still_traced : (input : I) (inputs : List I) (event : Event) (before : List Event) → Traced inputs event before → Traced (input ∷ inputs) event before
-  still_traced input inputs (did (Other fact)) before came = record {
-    was = record { later = input ∷ came.was.later; input = came.was.input; earlier = came.was.earlier; cut = ap (λ (rest : List I). input ∷ rest) came.was.cut; told = came.was.told };
-    at = came.at;
-  }
-  still_traced input inputs (gave (Land batch from to)) before came = record {
-    later = input ∷ came.later;
+-- What is told later takes nothing away.
+pub still_traced : (telling : Telling) (all : List Telling) (event : Event) (before : List Event) → Traced all event before → Traced (telling ∷ all) event before
+still_traced telling all (did (Other fact)) before came = record {
+  was = record { later = telling ∷ came.was.later; earlier = came.was.earlier; cut = ap (λ (rest : List Telling). telling ∷ rest) came.was.cut };
+  at = came.at;
+}
+still_traced telling all (gave (Land batch from to)) before (came, based) = (
+  record {
+    later = telling ∷ came.later;
     until = came.until;
-    cut = ap (λ (rest : List I). input ∷ rest) came.cut;
+    cut = ap (λ (rest : List Telling). telling ∷ rest) came.cut;
     act = came.act;
     right = came.right;
     name = came.name;
-    input = came.input;
     earlier = came.earlier;
     last = came.last;
-    told = came.told;
     new = came.new;
     once = came.once;
     ordered = came.ordered;
-  }
-  still_traced input inputs event before came = tt
+  },
+  based,
+)
+still_traced telling all (gave (Stage batch branch base heads)) before came = came
+still_traced telling all event before came = tt
 
 -- ONE ENTRY MORE
 pub given_more : (events : List Event) (orders : List Order) (event : Event) → Contains events event → Contains (given events orders) event
@@ -76,20 +77,25 @@ given_fewer : (p : Event → Bool) (events : List Event) (orders : List Order) (
 given_fewer p events [] n few = few
 given_fewer p events (order ∷ orders) n few = count_rest p (gave order) events n (given_fewer p (gave order ∷ events) orders n few)
 
-module _ {I : Type 0} (tells : List I → I → Option Telling) (inputs : List I) (all old : List Event) (act : Act)
-    (lands : (batch : ℕ) (from to : List ℕ) → IsRightLanding all act batch from to → Contains all (gave (Land batch from to)) → 1 + landings batch old ≤ landings batch all → CameRightly tells inputs batch from to) where
+-- orders set no base
+given_base : (events : List Event) (orders : List Order) → base_back (given events orders) ≡ base_back events
+given_base events [] = refl
+given_base events (order ∷ orders) = given_base (gave order ∷ events) orders
+
+module _ (told : List Telling) (all old : List Event) (act : Act)
+    (lands : (batch : ℕ) (from to : List ℕ) → IsRightLanding all act batch from to → Contains all (gave (Land batch from to)) → 1 + landings batch old ≤ landings batch all → CameRightly told batch from to) where
   abbrev Fewer : List Event → Type 0
   Fewer events = (number : ℕ) → landings number old ≤ landings number events
 
-  order_traced : (order : Order) (orders : List Order) (before : List Event) → given (gave order ∷ before) orders ≡ all → Fewer before → IsRightOrder all act order → Contains all (gave order) → Traced tells inputs (gave order) before
+  order_traced : (order : Order) (orders : List Order) (before : List Event) → given (gave order ∷ before) orders ≡ all → Fewer before → IsRightOrder all act order → Contains all (gave order) → Traced told (gave order) before
   order_traced (Land batch from to) orders before is fewer right among =
       let p : Event → Bool = is_order (is_land_of batch) in
       let land : Event = gave (Land batch from to) in
       let one : landings batch (land ∷ before) ≡ 1 + landings batch before = count_one p land before ((Decides-eqb batch batch).1 refl) in
       let here : landings batch (land ∷ before) ≤ landings batch all = given_fewer p (land ∷ before) orders (landings batch all) (subst (λ (whole : List Event). landings batch whole ≤ landings batch all) (sym is) (omega arith)) in
       let less = fewer batch in
-      lands batch from to right among (omega arith)
-  order_traced (Stage batch branch base heads) orders before is fewer right among = tt
+      (lands batch from to right among (omega arith), sym (given_base (land ∷ before) orders) ∙ ap base_back is ∙ right.tested.present)
+  order_traced (Stage batch branch base heads) orders before is fewer right among = right.1
   order_traced (Notice change why) orders before is fewer right among = tt
 
   fewer_next : (event : Event) (events : List Event) → Fewer events → Fewer (event ∷ events)
@@ -98,7 +104,7 @@ module _ {I : Type 0} (tells : List I → I → Option Telling) (inputs : List I
       let more : landings number events ≤ landings number (event ∷ events) = count_rest (is_order (is_land_of number)) event events (landings number (event ∷ events)) (omega arith) in
       omega arith
 
-  orders_traced : (orders : List Order) (events : List Event) → given events orders ≡ all → Fewer events → All (IsRightOrder all act) orders → EachOf (Traced tells inputs) events → EachOf (Traced tells inputs) (given events orders)
+  orders_traced : (orders : List Order) (events : List Event) → given events orders ≡ all → Fewer events → All (IsRightOrder all act) orders → EachOf (Traced told) events → EachOf (Traced told) (given events orders)
   orders_traced [] events is fewer right each = each
   orders_traced (order ∷ orders) events is fewer right each =
       let among = subst (λ (whole : List Event). Contains whole (gave order)) is (given_more (gave order ∷ events) orders (gave order) (contains_first (gave order) events)) in
@@ -106,28 +112,28 @@ module _ {I : Type 0} (tells : List I → I → Option Telling) (inputs : List I
       orders_traced orders (gave order ∷ events) is (fewer_next (gave order) events fewer) (All-tail (IsRightOrder all act) order orders right) (this, each)
 
   pub reply_traced : (events : List Event) (reply : Reply) → happened events act reply ≡ all → Fewer events → All (IsRightOrder all act) (orders_in reply)
-      → Traced tells inputs (did (meaning (look_back events) act)) events → EachOf (Traced tells inputs) events → EachOf (Traced tells inputs) (happened events act reply)
+      → Traced told (did (meaning (look_back events) act)) events → EachOf (Traced told) events → EachOf (Traced told) (happened events act reply)
   reply_traced events (Done orders) is fewer right this each =
       orders_traced orders (did (meaning (look_back events) act) ∷ events) is (fewer_next (did (meaning (look_back events) act)) events fewer) right (this, each)
   reply_traced events (Denied rule) is fewer right this each = each
 
 -- a deed on a change, whatever it means
-deed_traced : {I : Type 0} (tells : List I → I → Option Telling) (inputs : List I) (look : Look) (change : ℕ) (deed : Deed) (before : List Event) → Traced tells inputs (did (meaning look (On change deed))) before
-deed_traced tells inputs look change (Said person (Meant command)) before = tt
-deed_traced tells inputs look change (Said person Unknown) before = tt
-deed_traced tells inputs look change (Happened fact) before = tt
+deed_traced : (told : List Telling) (look : Look) (change : ℕ) (deed : Deed) (before : List Event) → Traced told (did (meaning look (On change deed))) before
+deed_traced told look change (Said person (Meant command)) before = tt
+deed_traced told look change (Said person Unknown) before = tt
+deed_traced told look change (Happened fact) before = tt
 
-module _ {I : Type 0} (tells : List I → I → Option Telling) (inputs : List I) where
-  pub deed_entry : (history : List Entry) (s : State) (change : ℕ) (deed : Deed) → Tells history s (On change deed) → EachOf (Traced tells inputs) (events_of history)
-      → EachOf (Traced tells inputs) (events_of (entry_for s (On change deed) ∷ history))
-  deed_entry history s change deed told each =
-      reply_traced tells inputs (events_of (entry_for s (On change deed) ∷ history)) (events_of history) (On change deed) (λ batch from to right among more. absurd (by_status right.success))
-      (events_of history) (reply_to s (On change deed)) refl (λ number. omega arith) told.ordered_rightly (deed_traced tells inputs (look_back (events_of history)) change deed (events_of history)) each where
+module _ (told : List Telling) where
+  pub deed_entry : (history : List Entry) (s : State) (change : ℕ) (deed : Deed) → Tells history s (On change deed) → EachOf (Traced told) (events_of history)
+      → EachOf (Traced told) (events_of (entry_for s (On change deed) ∷ history))
+  deed_entry history s change deed now each =
+      reply_traced told (events_of (entry_for s (On change deed) ∷ history)) (events_of history) (On change deed) (λ batch from to right among more. absurd (by_status right.success))
+      (events_of history) (reply_to s (On change deed)) refl (λ number. omega arith) now.ordered_rightly (deed_traced told (look_back (events_of history)) change deed (events_of history)) each where
         by_status : {commit name : List ℕ} {state : StatusState} → On change deed ≡ Other (fact.Status commit name state) → ⊥
         by_status is = cc is
 
   pub deeds_traced : (history : List Entry) (s : State) (change : ℕ) (person : List ℕ) (spoken : List SpokenOf) → Each Tells history s (list_map (λ said. On change (Said person said)) spoken)
-      → EachOf (Traced tells inputs) (events_of history) → EachOf (Traced tells inputs) (events_of (history_after history s (list_map (λ said. On change (Said person said)) spoken)))
-  deeds_traced history s change person [] told each = each
-  deeds_traced history s change person (said ∷ spoken) (now, told) each =
-      deeds_traced (entry_for s (On change (Said person said)) ∷ history) _ change person spoken told (deed_entry history s change (Said person said) now each)
+      → EachOf (Traced told) (events_of history) → EachOf (Traced told) (events_of (history_after history s (list_map (λ said. On change (Said person said)) spoken)))
+  deeds_traced history s change person [] all each = each
+  deeds_traced history s change person (said ∷ spoken) (now, all) each =
+      deeds_traced (entry_for s (On change (Said person said)) ∷ history) _ change person spoken all (deed_entry history s change (Said person said) now each)

@@ -1,11 +1,9 @@
 -- What the contracts of this crate cite. For a reader, in this order:
---     Telling    what each input tells the bot
---     Knowing    what is known after inputs
---     Guarding   where a guard stands after inputs, and what it answers
+--     Knowing    what is known after what the bot was told
 --     World      how the main branch moves, and what is supposed of the world
 --     Moves      what is promised of each move that the host makes
-pub mod Guarding
+--     Duties     what a host has to do, by the state of the bot
+pub mod Duties
 pub mod Knowing
 pub mod Moves
-pub mod Telling
 pub mod World

@@ -1,78 +1,79 @@
 -- THE MAIN BRANCH: each value that it takes after the first, others have pushed, or it is the merge of the value before with heads, each
 -- approved as it stands, and tested as it lands.
-use Rattle.std.specs.Prelude.{◌≡◌, ℕ, true, false, ⊤, List, [], ◌∷◌, ◌++◌, Option, Some}
+use Rattle.std.specs.Prelude.{◌≡◌, ◌≢◌, ℕ, true, false, ⊤, List, [], ◌∷◌, ◌++◌, Some}
 use Rattle.std.specs.List.{All, Contains}
 use Rattle.gate_deliveries.specs.declared.delivery.Delivery.{Delivery}
 use Rattle.gate_deliveries.specs.declared.delivery.Event.{Event as Telling}
 use Rattle.gate_deliveries.specs.declared.delivery.Event.TheVariants as telling
+use Rattle.gate_guard.specs.Duties.{duties_of}
 use Rattle.gate_guard.specs.Knowing.{HaveCome, WasTold, events_after, known_after}
-use Rattle.gate_guard.specs.Telling.{tells_input}
-use Rattle.gate_guard.specs.World.{Checking, KeepsPremise, Merging, Step, commits_of, inputs_in, main_after, moved, noted, pushed}
-use Rattle.gate_queue.specs.History.{Event, IsReadyToLand, gave, landings}
+use Rattle.gate_guard.specs.World.{Checking, KeepsPremise, Merging, Step, commits_of, told_in, main_after, moved, told, pushed}
+use Rattle.gate_guard.specs.declared.duty.Duty.TheVariants as duty
+use Rattle.gate_queue.specs.History.{Event, IsReadyToLand, gave, landing_with, landings}
 use Rattle.gate_queue.specs.Vocabulary.{Land, Success}
 use Rattle.gate_queue.specs.Words.{WasTested}
 use Rattle.gate_state.specs.declared.act.Fact.TheVariants.{Staged, Status}
 use Rattle.gate_store.specs.Run.{Records, after_delivery, answer_to, is_known, meets_full}
 
-module _ {I : Type 0} (tells : List I → I → Option Telling) where
-  -- The success of a status of a commit was told, after it was told that the batch is staged with this commit, and a check has said so.
-  pub record HasSucceeded (says : Checking) (inputs : List I) (batch : ℕ) (commit name : List ℕ) : Type 0 where
-    pub success : WasTold tells inputs (telling.Other (Status commit name Success))
-    pub staged : WasTold tells success.earlier (telling.Other (Staged batch commit))
-    pub said : says commit name ≡ true
+-- The success of a status of a commit was told, after it was told that the batch is staged with this commit, and a check has said so. That this
+-- staging was taken, and is the last one, is a part of `tested` below.
+pub record HasSucceeded (says : Checking) (all : List Telling) (batch : ℕ) (commit name : List ℕ) : Type 0 where
+  pub success : WasTold all (telling.Other (Status commit name Success))
+  pub staged : WasTold success.earlier (telling.Other (Staged batch commit))
+  pub said : says commit name ≡ true
 
-  -- A MOVE for a batch, after inputs.
-  pub record IsRightMove (joins : Merging) (says : Checking) (inputs : List I) (batch : ℕ) (from to : List ℕ) : Type 0 where
-    -- The order to land came by the last of these inputs: by a success of the commit. All that follows is of that moment.
-    pub later : List I
-    pub until : List I
-    pub at : inputs ≡ later ++ until
-    pub name : List ℕ
-    pub input : I
-    pub earlier : List I
-    pub last : until ≡ input ∷ earlier
-    pub told : tells earlier input ≡ Some (telling.Other (Status to name Success))
-    pub new : landings batch (events_after tells earlier) ≡ 0
-    pub ordered : Contains (events_after tells until) (gave (Land batch from to))
-    -- The batch was tested for this value and this commit, in the words of the history. That says with which heads it was staged.
-    pub tested : WasTested (events_after tells until) batch from to
-    -- The commit is the merge of the branch's value with these heads.
-    pub merged : joins from (commits_of tested.heads) to ≡ true
-    -- Each change was approved without a break, open and fit, at exactly that head.
-    pub ready : All (IsReadyToLand (events_after tells until) batch) tested.heads
-    -- A check of the commit has said of each status that was required that it is good, and that was told after the commit.
-    pub checked : All (HasSucceeded says until batch to) tested.settings.status
+-- A MOVE for a batch, after all that the bot was told.
+pub record IsRightMove (joins : Merging) (says : Checking) (all : List Telling) (batch : ℕ) (from to : List ℕ) : Type 0 where
+  -- The order to land came by the last that was told until then, a success of the commit. All that follows is of that moment.
+  pub later : List Telling
+  pub until : List Telling
+  pub at : all ≡ later ++ until
+  pub name : List ℕ
+  pub earlier : List Telling
+  pub last : until ≡ telling.Other (Status to name Success) ∷ earlier
+  pub new : landings batch (events_after earlier) ≡ 0
+  pub ordered : Contains (events_after until) (gave (Land batch from to))
+  -- The batch was tested for this value and this commit, in the words of the history. That says with which heads it was staged.
+  pub tested : WasTested (events_after until) batch from to
+  -- There is one at least.
+  pub some : tested.heads ≢ []
+  -- The commit is the merge of the branch's value with these heads.
+  pub merged : joins from (commits_of tested.heads) to ≡ true
+  -- Each change was approved without a break, open and fit, at exactly that head.
+  pub ready : All (IsReadyToLand (events_after until) batch) tested.heads
+  -- A check of the commit has said of each status that was required that it is good, and that was told after the commit.
+  pub checked : All (HasSucceeded says until batch to) tested.settings.status
 
-  -- EACH MOVE that the host makes is right, and goes from the value that the branch has.
-  abbrev pub MovesRightly : Merging → Checking → List ℕ → List (Step I) → Type 0
-  MovesRightly joins says first [] = ⊤
-  MovesRightly joins says first (noted input ∷ before) = MovesRightly joins says first before
-  MovesRightly joins says first (moved batch from to ∷ before) = IsRightMove joins says (inputs_in before) batch from to × (main_after first before ≡ from) × MovesRightly joins says first before
-  MovesRightly joins says first (pushed to ∷ before) = MovesRightly joins says first before
+-- EACH MOVE that the host makes is right, and goes from the value that the branch has, which is supposed.
+abbrev pub MovesRightly : Merging → Checking → List ℕ → List Step → Type 0
+MovesRightly joins says first [] = ⊤
+MovesRightly joins says first (told telling ∷ before) = MovesRightly joins says first before
+MovesRightly joins says first (moved batch from to ∷ before) = IsRightMove joins says (told_in before) batch from to × (main_after first before ≡ from) × MovesRightly joins says first before
+MovesRightly joins says first (pushed to ∷ before) = MovesRightly joins says first before
 
-  -- EACH MOVE IS RIGHT, over every list of steps that keeps the premise.
-  abbrev pub LawOfMoves : Type 0
-  LawOfMoves = (joins : Merging) (says : Checking) (first : List ℕ) (steps : List (Step I)) → KeepsPremise tells joins says first steps → MovesRightly joins says first steps
+-- EACH MOVE IS RIGHT, over every list of steps that keeps the premise.
+abbrev pub LawOfMoves : Type 0
+LawOfMoves = (joins : Merging) (says : Checking) (first : List ℕ) (steps : List Step) → KeepsPremise joins says first steps → MovesRightly joins says first steps
 
-  -- What has happened stays so, whatever is noted later. So an order that has come can be carried out at any time after that.
-  abbrev pub LawOfStaying : Type 0
-  LawOfStaying = (input : I) (inputs : List I) (event : Event) → Contains (events_after tells inputs) event → Contains (events_after tells (input ∷ inputs)) event
+-- WHAT IS TO LAND, by the state after such steps, has come as an order, and nothing has ended it since. So a host that moves the branch for
+-- nothing else keeps that part of the premise. And whatever has come as an order that nothing has ended is to land.
+pub record DutiesTellLandings (told : List Telling) : Type 0 where
+  pub ordered : (batch : ℕ) (from to : List ℕ) → (duties_of (known_after told).state).staging ≡ Some (duty.Land batch from to)
+      → Contains (events_after told) (gave (Land batch from to)) × (landing_with (events_after told) batch ≡ Some to)
+  pub all : (batch : ℕ) (to : List ℕ) → landing_with (events_after told) batch ≡ Some to
+      → (from : List ℕ) × ((duties_of (known_after told).state).staging ≡ Some (duty.Land batch from to))
 
--- OF A HOST THAT HANDS IN DELIVERIES, each under an identifier of its own: each tells the bot itself.
-abbrev pub tells_itself : List Telling → Telling → Option Telling
-tells_itself earlier event = Some event
+abbrev pub LawOfDuties : Type 0
+LawOfDuties = (joins : Merging) (says : Checking) (first : List ℕ) (steps : List Step) → KeepsPremise joins says first steps → DutiesTellLandings (told_in steps)
 
-abbrev pub LawOfDeliveries : Type 0
-LawOfDeliveries = LawOfMoves tells_itself
-
--- The records that a keeper's book shows stand where such deliveries lead. One more that is new leads them on, and each order of its answer has
--- come then, unless it meets a full gate.
+-- THE KEEPER: if the records that its book shows stand where all that was told leads, one more delivery that is new leads them on, and each order
+-- of its answer has come then, unless it meets a full gate.
 abbrev pub LawOfDelivering : Type 0
-LawOfDelivering = (records : Records) (events : List Telling) (delivery : Delivery) → records.state ≡ (known_after tells_itself events).state
+LawOfDelivering = (records : Records) (all : List Telling) (delivery : Delivery) → records.state ≡ (known_after all).state
     → is_known records delivery.id ≡ false → meets_full records delivery ≡ false
-    → ((after_delivery records delivery).state ≡ (known_after tells_itself (delivery.event ∷ events)).state)
-    × HaveCome tells_itself (delivery.event ∷ events) (Some (answer_to records delivery))
+    → ((after_delivery records delivery).state ≡ (known_after (delivery.event ∷ all)).state)
+    × HaveCome (delivery.event ∷ all) (answer_to records delivery)
 
--- OF A GUARD: each input tells what `tells_input` says, so of a merge only checks tell.
-abbrev pub LawOfInputs : Type 0
-LawOfInputs = LawOfMoves tells_input
+-- What has happened stays so, whatever is told later. So an order that has come has still come after that.
+abbrev pub LawOfStaying : Type 0
+LawOfStaying = (telling : Telling) (all : List Telling) (event : Event) → Contains (events_after all) event → Contains (events_after (telling ∷ all)) event

@@ -1,5 +1,5 @@
--- THE WORLD: what a host is told and does, and what others do to the main branch; and what is supposed of it.
-use Rattle.std.specs.Prelude.{◌≡◌, ℕ, Bool, true, ⊤, List, [], ◌∷◌, Option, Some, map as list_map}
+-- THE WORLD: what a host tells the bot and does, and what others do to the main branch; and what is supposed of it.
+use Rattle.std.specs.Prelude.{◌≡◌, ℕ, Bool, true, ⊤, List, [], ◌∷◌, map as list_map}
 use Rattle.std.specs.List.{Contains}
 use Rattle.gate_deliveries.specs.declared.delivery.Event.{Event as Telling}
 use Rattle.gate_deliveries.specs.declared.delivery.Event.TheVariants as telling
@@ -10,25 +10,25 @@ use Rattle.gate_state.specs.declared.act.Fact.TheVariants.{Staged, Status, Tick}
 use Rattle.gate_state.specs.declared.act.StatusState.TheVariants.{Success}
 use Rattle.gate_state.specs.State.{IsMoment}
 
-pub data Step (I : Type 0) : Type 0 where
-  -- The host writes an input down.
-  noted : I → Step I
+pub data Step : Type 0 where
+  -- The host tells the bot something, by a delivery under an identifier of its own.
+  told : Telling → Step
   -- It moves the main branch for a batch, from a commit to a commit.
-  moved : ℕ → List ℕ → List ℕ → Step I
+  moved : ℕ → List ℕ → List ℕ → Step
   -- Somebody else moves the main branch to a commit.
-  pushed : List ℕ → Step I
+  pushed : List ℕ → Step
 
--- Steps that were made stand in a list, the newest first: the inputs among them, and where the main branch is after them, which began at a
+-- Steps that were made stand in a list, the newest first: what was told by them, and where the main branch is after them, which began at a
 -- commit.
-abbrev pub inputs_in : {I : Type 0} → List (Step I) → List I
-inputs_in [] = []
-inputs_in (noted input ∷ steps) = input ∷ inputs_in steps
-inputs_in (moved batch from to ∷ steps) = inputs_in steps
-inputs_in (pushed to ∷ steps) = inputs_in steps
+abbrev pub told_in : List Step → List Telling
+told_in [] = []
+told_in (told telling ∷ steps) = telling ∷ told_in steps
+told_in (moved batch from to ∷ steps) = told_in steps
+told_in (pushed to ∷ steps) = told_in steps
 
-abbrev pub main_after : {I : Type 0} → List ℕ → List (Step I) → List ℕ
+abbrev pub main_after : List ℕ → List Step → List ℕ
 main_after first [] = first
-main_after first (noted input ∷ steps) = main_after first steps
+main_after first (told telling ∷ steps) = main_after first steps
 main_after first (moved batch from to ∷ steps) = to
 main_after first (pushed to ∷ steps) = to
 
@@ -50,22 +50,22 @@ IsMergeFor joins events batch commit =
 abbrev pub Checking : Type 0
 Checking = List ℕ → List ℕ → Bool
 
-module _ {I : Type 0} (tells : List I → I → Option Telling) (joins : Merging) (says : Checking) where
-  -- A reading of the clock is within its limit, as each value of the type `Moment` is. Nothing else is supposed of what the bot is told, by
-  -- inputs of before.
-  abbrev pub TellsTruly : List I → Option Telling → Type 0
-  TellsTruly earlier (Some (telling.Other (Staged batch commit))) = IsMergeFor joins (events_after tells earlier) batch commit
-  TellsTruly earlier (Some (telling.Other (Status commit name Success))) = (batch : ℕ) → WasTold tells earlier (telling.Other (Staged batch commit)) → says commit name ≡ true
-  TellsTruly earlier (Some (telling.Other (Tick now))) = IsMoment now
-  TellsTruly earlier told = ⊤
+module _ (joins : Merging) (says : Checking) where
+  -- A reading of the clock is within its limit, as each value of the type `Moment` is. Nothing else is supposed of what the bot is told, after
+  -- what it was told earlier.
+  abbrev pub TellsTruly : List Telling → Telling → Type 0
+  TellsTruly earlier (telling.Other (Staged batch commit)) = IsMergeFor joins (events_after earlier) batch commit
+  TellsTruly earlier (telling.Other (Status commit name Success)) = (batch : ℕ) → WasTold earlier (telling.Other (Staged batch commit)) → says commit name ≡ true
+  TellsTruly earlier (telling.Other (Tick now)) = IsMoment now
+  TellsTruly earlier telling = ⊤
 
-module _ {I : Type 0} (tells : List I → I → Option Telling) (joins : Merging) (says : Checking) (first : List ℕ) where
+module _ (joins : Merging) (says : Checking) (first : List ℕ) where
   -- The host moves the main branch only by an order to land that has come, from the commit that the order names, if the branch is there.
-  abbrev pub MayCome : List (Step I) → Step I → Type 0
-  MayCome before (noted input) = TellsTruly tells joins says (inputs_in before) (tells (inputs_in before) input)
-  MayCome before (moved batch from to) = Contains (events_after tells (inputs_in before)) (gave (Land batch from to)) × (main_after first before ≡ from)
+  abbrev pub MayCome : List Step → Step → Type 0
+  MayCome before (told telling) = TellsTruly joins says (told_in before) telling
+  MayCome before (moved batch from to) = Contains (events_after (told_in before)) (gave (Land batch from to)) × (main_after first before ≡ from)
   MayCome before (pushed to) = ⊤
 
-  abbrev pub KeepsPremise : List (Step I) → Type 0
+  abbrev pub KeepsPremise : List Step → Type 0
   KeepsPremise [] = ⊤
   KeepsPremise (step ∷ before) = MayCome before step × KeepsPremise before

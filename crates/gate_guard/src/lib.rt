@@ -1,11 +1,8 @@
-//! The guard: what a host knows, as a function of what it has written down, and why each move that it makes of the main branch is right.
+//! What a host has to do, and why each move that it makes of the main branch is right.
 #![tactic(auto)]
 
-mod guard;
-mod input;
+mod duty;
 mod laws;
-mod merges;
 
-pub use guard::Guard;
-pub use input::Input;
+pub use duty::{Duties, Duty, duties_in};
 pub use laws::law_of_moves;

@@ -20,6 +20,8 @@ fn job_words(rt: &impl Abort, alloc: Global, job: &Job) -> String {
     match job {
         Job::Run { db: None } => format!(in alloc; "Run"),
         Job::Run { db: Some(db) } => format!(in alloc; "Run {db}"),
+        Job::Guard { db: None } => format!(in alloc; "Guard"),
+        Job::Guard { db: Some(db) } => format!(in alloc; "Guard {db}"),
         Job::Serve {
             port,
             until_input_ends: true,
@@ -101,6 +103,9 @@ fn words_ask_for_jobs(rt: HostRuntime) {
         run => Run
         run --db q.db => Run q.db
         run --db=q.db => Run q.db
+        guard => Guard
+        guard --db q.db => Guard q.db
+        guard --db=q.db => Guard q.db
         serve --port 8080 --count 2 => Serve 8080 2 30
         serve --count=1000000 --port=65535 => Serve 65535 1000000 30
         serve --port 1 --count 1 => Serve 1 1 30
@@ -113,6 +118,7 @@ fn words_ask_for_jobs(rt: HostRuntime) {
         serve --port 8080 --count 2 --token => Usage
         serve --port 8080 --count 2 --token t --token u => Usage
         run --token t => Usage
+        guard --token t => Usage
         serve --port 8080 --count 2 --log => Serve 8080 log
         serve --log --port 8080 --count 2 --token t => Serve 8080 token t log
         serve --port 8080 --count 2 --log --log => Usage
@@ -142,6 +148,9 @@ fn words_ask_for_jobs(rt: HostRuntime) {
         run --db => Usage
         run --db q.db --db r.db => Usage
         run q.db => Usage
+        guard --db => Usage
+        guard --db q.db --db r.db => Usage
+        guard q.db => Usage
         serve --db q.db => Usage
         report q.jsonl --db q.db => Usage
         report --db q.db => Usage
@@ -149,6 +158,7 @@ fn words_ask_for_jobs(rt: HostRuntime) {
         run now => Usage
         --version => Usage
         --help => Help
+        guard --help => Help
         serve --help => Help
         help => Help
     ";

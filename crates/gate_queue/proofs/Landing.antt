@@ -8,8 +8,8 @@ use Rattle.std.specs.List.{cons_option, count_by, filter_map, list_any}
 use Rattle.std.specs.Option.{option_flatten, option_or}
 use Rattle.std.specs.Str.{bytes_eq}
 use Rattle.std.proofs.lemmas.Bool.{or_left, or_right}
-use Rattle.gate_queue.specs.Vocabulary.{DeskView, Other, Base, Refused, Head, Order, Stage, Land, Batch, Branch, StageOf}
-use Rattle.gate_queue.specs.History.{Event, did, gave, last_of, names_change, batches_back, landing_said, landing_with, are_same, has_landed, landing_back, landed_back, is_order, is_stage_of, is_land_of, stages, landings}
+use Rattle.gate_queue.specs.Vocabulary.{DeskView, Other, Base, Refused, Head, Order, Stage, Land, Batch, Branch}
+use Rattle.gate_queue.specs.History.{Event, did, gave, last_of, names_change, batches_back, commit_of, landing_of, landing_said, landing_with, are_same, has_landed, landing_back, landed_back, is_order, is_stage_of, is_land_of, stages, landings}
 use Rattle.gate_queue.specs.Machine.{head_on}
 use Rattle.gate_state.specs.declared.batch.Stage.TheVariants as stage
 use Rattle.gate_queue.proofs.After.{rest_back, rest_after}
@@ -32,14 +32,6 @@ pub list_any_skip : (test : ℕ → Bool) (b : Bool) (n : ℕ) (ns : List ℕ) �
 list_any_skip test b n ns fails = grind arith
 
 -- THE RUNNING BATCH and the commit that it is landing with
-abbrev pub commit_of : StageOf → Option (List ℕ)
-commit_of (stage.Landing commit) = Some commit
-commit_of other = None
-
-abbrev pub landing_of : ℕ → Option Batch → Option (List ℕ)
-landing_of number None = None
-landing_of number (Some batch) = if eqb number batch.number then commit_of batch.stage else None
-
 pub none_lands : (number : ℕ) (running : Option Batch) → lands running ≡ false → landing_of number running ≡ None
 none_lands number running not_so = grind arith
 

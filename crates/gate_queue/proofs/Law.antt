@@ -36,7 +36,7 @@ use Rattle.gate_queue.proofs.Meaning.{meaning_allowed, meaning_right}
 use Rattle.gate_state.specs.Lemmas.Numbers.{all_uses}
 use Rattle.gate_queue.proofs.Held.{Holds, heads_told_holds}
 use Rattle.gate_queue.proofs.States.{clock_holds, holding, starting_holds, still_clock, still_state, queued_held, tried_held, IsNow}
-use Rattle.gate_queue.proofs.Steps.{Kept, AreNotices, IsNext, stage_on, given_both, other_number, first_used, first_kind, tries_left_staging, starting_kept, keeping, followed_runs, by_start, Numbered}
+use Rattle.gate_queue.proofs.Steps.{Kept, AreNotices, IsNext, stage_on, given_both, other_number, first_headed, first_used, first_kind, tries_left_staging, starting_kept, keeping, followed_runs, by_start, Numbered}
 use Rattle.gate_queue.proofs.Tested.{Tests, TestsAt, IsAt, EndNone, stage_tests, other_tests, staged_tests, unasked, elsewhere_told}
 use Rattle.gate_queue.proofs.Testing.{standing_approved, stands_all, report_of, notices_tests, act_tests, restarted_tests, failed_tests, requeued_tests, goes_on_tests, goes_on_right}
 use Rattle.gate_queue.proofs.Unseen.{Unseen, nothing_unseen, blank_phase, blank_landing, blank_trying}
@@ -196,6 +196,7 @@ starting_right now branch events s act is same =
     by_start now branch s is (All (IsRightOrder events act)) (λ still. All-nil (IsRightOrder events act)) (λ batch waiting base at based.
     All-cons (IsRightOrder events act) (stage_on s.desk batch base) [] (
       ap (λ (l : Look). l.base) (sym same) ∙ based,
+      first_headed branch s is batch waiting at,
       subst (λ (br : Branch). AreRightHeads events br (filter_map (head_on s.desk) batch.changes)) (sym (first_kind branch s is batch waiting at).branch)
           (first_heads branch s is batch waiting at events same),
     )
@@ -530,6 +531,7 @@ state_told history s is whole =
       approvers = approvers;
       queued = λ change. is.queue.staging.places change ∙ (λ i. if stands change i || landing change i then 1 else 0);
       landing = λ change. is.queue.staging.landing change ∙ ap {B = ℕ} (λ (b : Bool). if b then 1 else 0) (landing change);
+      to_land = kept.landing;
       tried = λ change. is.queue.trying.places change ∙ ap {B = ℕ} (λ (b : Bool). if b then 1 else 0) (or-false (trying_on s.desk change) ∙ trying change);
     }
 

@@ -1,17 +1,17 @@
 -- What a legal history and its state keep, step by step: an act, and then its orders.
-use Rattle.std.proofs.Common.{◌≡◌, ◌≤◌, ◌+◌, ℕ, eqb, ltb, Bool, true, false, not, if◌then◌else◌, List, [], ◌∷◌, ◌++◌, length, Option, Some, None, Result, is_some, refl, sym, ◌∙◌, ap, subst, arith, ◌⊎◌, inl, inr}
+use Rattle.std.proofs.Common.{◌≡◌, ◌≢◌, ◌≤◌, ◌+◌, ℕ, eqb, ltb, Bool, true, false, not, if◌then◌else◌, List, [], ◌∷◌, ◌++◌, length, Option, Some, None, Result, is_some, refl, sym, ◌∙◌, ap, subst, arith, ◌⊎◌, inl, inr}
 use Rattle.std.proofs.lemmas.Bool.Decides.{nat_tests, Decides-eqb}
 use Rattle.std.proofs.lemmas.List.Elements.{All-head}
 use Rattle.std.proofs.lemmas.List.Sums.{sum_by-cons}
 use Rattle.std.specs.Bool.{⊤, then_some}
 use Rattle.std.specs.FinMap as finite
-use Rattle.std.specs.List.{All, filter_map, list_any}
+use Rattle.std.specs.List.{All, cons_option, filter_map, list_any}
 use Rattle.std.specs.Option.{option_map, option_map_or}
 use Rattle.std.proofs.lemmas.Bool.{or_left}
-use Rattle.gate_queue.specs.Vocabulary.{SettingsView, SettingsFault, Look, DeskView, look, Act, Head, Order, Stage, Land, Notice, Why, Batch, Branch, Staging, Trying, Report, StageOf, Lane, Queue, Outcome, State}
+use Rattle.gate_queue.specs.Vocabulary.{SettingsView, SettingsFault, Look, DeskView, look, Change, Act, Head, Order, Stage, Land, Notice, Why, Batch, Branch, Staging, Trying, Report, StageOf, Lane, Queue, Outcome, State}
 use Rattle.gate_state.specs.Counts.{held, held_by, of_any_priority, uses}
 use Rattle.gate_state.specs.declared.reply.Why.TheVariants as why
-use Rattle.gate_queue.specs.History.{Event, did, gave, given, author_back, change_of, names_change, batches_back, landing_with, is_stage_of, is_land_of, stages, landings, ends_why, look_back}
+use Rattle.gate_queue.specs.History.{Event, did, gave, given, author_back, change_of, names_change, batches_back, commit_of, landing_of, landing_with, is_stage_of, is_land_of, stages, landings, ends_why, look_back}
 use Rattle.gate_state.specs.Lanes as lanes
 use Rattle.gate_state.specs.Lanes.{batches_of, is_landing, ordered_at, with_report, reported_on, staged_at, to_land as lanes_to_land}
 use Rattle.gate_queue.specs.Machine.{broken, followed_on, then_next, accepted, lone_notices, failing, has_passed, to_land, land_order, tries_left, head_on, first_order, starting, with_queue, ending, on_both, lone_on}
@@ -23,7 +23,7 @@ use Rattle.gate_queue.proofs.Acting.{AreMild, starting_look, land_look, ending_l
 use Rattle.gate_queue.proofs.After.{order_elsewhere}
 use Rattle.gate_queue.proofs.Growing.{waits, Grows, same_grows, started_grows, reported_grows, ending_grows}
 use Rattle.gate_queue.proofs.Keeping.{lands, some_there}
-use Rattle.gate_queue.proofs.Landing.{Lands, Members, list_any_skip, commit_of, landing_of, none_lands, named_heads, staged_named, counted}
+use Rattle.gate_queue.proofs.Landing.{Lands, Members, list_any_skip, none_lands, named_heads, staged_named, counted}
 use Rattle.gate_state.specs.Lemmas.Numbers.{has_number, all_uses}
 use Rattle.gate_queue.proofs.Held.{Holds}
 use Rattle.gate_queue.proofs.States.{ready, tried_ready, running_ready, queued_held, tried_held, reported_holds, starting_holds, holding, IsNow, its_branch}
@@ -256,6 +256,19 @@ other_members events number branch base heads None other all = tt
 other_members events number branch base heads (Some batch) other all =
     λ c. list_any_skip (λ n. eqb n batch.number) (names_change c heads) number (batches_back events c) (other batch refl) ∙ all c
 
+-- a change of a batch is there
+there_held : (branch : Branch) (s : State) → Holds s → (c : ℕ) → 1 ≤ held of_any_priority c (lane_of branch s.queue) → is_some (finite.get s.desk.changes c) ≡ true
+there_held Staging s is c some = let places = is.queue.staging.places c in grind arith
+there_held Trying s is c some = let places = is.queue.trying.places c in grind arith
+
+some_head : (desk : DeskView) (changes : List ℕ) → not (eqb (length changes) 0) ≡ true → ((c : ℕ) → list_any (eqb c) changes ≡ true → is_some (finite.get desk.changes c) ≡ true)
+    → filter_map (head_on desk) changes ≢ []
+some_head desk [] some there = cc some
+some_head desk (first ∷ changes) some there = by (finite.get desk.changes first) (there first (or_left _ _ ((Decides-eqb first first).1 refl))) where
+  by : (had : Option Change) → is_some had ≡ true → cons_option (option_map (λ (x : Change). record { change = first; head = x.head }) had) (filter_map (head_on desk) changes) ≢ []
+  by None is = cc is
+  by (Some c) is = λ none. cc none
+
 module _ (branch : Branch) (s : State) (is : Holds s) (batch : Batch) (waiting : List Batch) (idle : IsNext (lane_of branch s.queue) batch waiting) where
   held_there : (c : ℕ) → list_any (eqb c) batch.changes ≡ true → 1 ≤ held of_any_priority c (lane_of branch s.queue)
   held_there c there =
@@ -268,6 +281,10 @@ module _ (branch : Branch) (s : State) (is : Holds s) (batch : Batch) (waiting :
 
   first_based : is_some s.desk.base ≡ true
   first_based = based_on branch s is batch.changes (first_kind branch s is batch waiting idle).changes held_there
+
+  -- It has a head, since each of its changes is there.
+  pub first_headed : filter_map (head_on s.desk) batch.changes ≢ []
+  first_headed = some_head s.desk batch.changes (first_kind branch s is batch waiting idle).changes (λ c among. there_held branch s is c (held_there c among))
 
 -- what is started on a branch: nothing, or the first waiting batch, on the base
 pub by_start : (now : ℕ) (branch : Branch) (s : State) → Holds s → (P : List Order → Type 0) → ((specs.started branch now s.queue).staging.running ≡ s.queue.staging.running → P [])

@@ -1,5 +1,5 @@
 -- THE HISTORY: all acts so far with their replies, and what it says of people and changes.
-use Rattle.std.specs.Prelude.{◌≡◌, ℕ, ℤ, pos, ◌==◌, ◌≤◌, Bool, true, false, not, ◌&&◌, ◌||◌, ⊤, List, [], ◌∷◌, Option, Some, None, is_some, if◌then◌else◌}
+use Rattle.std.specs.Prelude.{◌≡◌, ◌≢◌, ℕ, ℤ, pos, ◌==◌, ◌≤◌, Bool, true, false, not, ◌&&◌, ◌||◌, ⊤, List, [], ◌∷◌, Option, Some, None, is_some, if◌then◌else◌}
 use Rattle.std.specs.FinMap as finite
 use Rattle.std.specs.FinSet as set
 use Rattle.std.specs.Bool.{then_some}
@@ -16,8 +16,11 @@ use Rattle.gate_rules.specs.declared.change.Repeat.TheVariants as repeat
 use Rattle.gate_state.specs.Counts.{held, in_landing, of_any_priority}
 use Rattle.gate_queue.specs.Machine.{IsEmpty, broken, missing, meaning, is_good, reply_to, after, Step}
 use Rattle.gate_state.specs.State.{IsState}
+use Rattle.gate_state.specs.declared.batch.Batch.{Batch}
 use Rattle.gate_state.specs.declared.batch.Branch.{Branch}
 use Rattle.gate_state.specs.declared.batch.Branch.TheVariants.{Staging, Trying}
+use Rattle.gate_state.specs.declared.batch.Stage.{Stage as StageOf}
+use Rattle.gate_state.specs.declared.batch.Stage.TheVariants as stage
 use Rattle.gate_state.specs.Room.{HasRoom}
 
 -- A history is a list of entries, the newest first.
@@ -519,9 +522,9 @@ abbrev pub AreRightHeads : List Event → Branch → List Head → Type 0
 AreRightHeads events Staging heads = (priority : ℤ) × All (IsStandingAt events priority) heads
 AreRightHeads events Trying heads = (one : Head) × (heads ≡ one ∷ []) × IsTriedAt events one
 
--- An order to stage names the present base and right heads.
+-- An order to stage names the present base and right heads, one at least.
 abbrev pub IsRightOrder : List Event → Act → Order → Type 0
-IsRightOrder events act (Stage batch branch base heads) = (base_back events ≡ Some base) × AreRightHeads events branch heads
+IsRightOrder events act (Stage batch branch base heads) = (base_back events ≡ Some base) × (heads ≢ []) × AreRightHeads events branch heads
 IsRightOrder events act (Land batch base commit) = IsRightLanding events act batch base commit
 IsRightOrder events act (Notice change why) = ⊤
 
@@ -562,6 +565,15 @@ Legal (entry ∷ history) s = (before : State) × Legal history before × Step b
 abbrev pub approvers_on : DeskView → ℕ → Option (List (List ℕ))
 approvers_on desk change = option_and_then (λ c. c.approved) (finite.get desk.changes change)
 
+-- the commit that the batch of a number is to land with, if it is the one that runs and is landing
+abbrev pub commit_of : StageOf → Option (List ℕ)
+commit_of (stage.Landing commit) = Some commit
+commit_of other = None
+
+abbrev pub landing_of : ℕ → Option Batch → Option (List ℕ)
+landing_of number None = None
+landing_of number (Some batch) = if number == batch.number then commit_of batch.stage else None
+
 -- WHAT A HISTORY TELLS of the state that it led to
 pub record StateTells (history : List Entry) (s : State) : Type 0 where
   -- people, settings, base and clock are those of the history
@@ -579,6 +591,8 @@ pub record StateTells (history : List Entry) (s : State) : Type 0 where
   pub queued : (change : ℕ) → held of_any_priority change s.queue.staging
       ≡ (if standing_back (events_of history) change || landing_back (events_of history) change then 1 else 0)
   pub landing : (change : ℕ) → in_landing of_any_priority change s.queue.staging ≡ (if landing_back (events_of history) change then 1 else 0)
+  -- what a batch is to land with by the history, the batch that runs on staging is landing with
+  pub to_land : (number : ℕ) → landing_with (events_of history) number ≡ landing_of number s.queue.staging.running
   -- it is in exactly one batch on trying if it is tried, and in none if it isn't
   pub tried : (change : ℕ) → held of_any_priority change s.queue.trying ≡ (if trying_back (events_of history) change then 1 else 0)
 

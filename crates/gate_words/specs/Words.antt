@@ -12,7 +12,7 @@ use Rattle.clap.specs.declared.error.kind.ErrorKind.TheVariants.{DisplayHelp, Di
 use Rattle.std.specs.declared.io.ErrorKind.{ErrorKind as IoKind}
 use Rattle.std.specs.declared.io.ErrorKind.TheVariants.{OutOfMemory as NoMemory}
 use Rattle.gate_words.specs.declared.words.Job.{Job}
-use Rattle.gate_words.specs.declared.words.Job.TheVariants.{Run, Serve, Report}
+use Rattle.gate_words.specs.declared.words.Job.TheVariants.{Run, Guard, Serve, Report}
 use Rattle.gate_words.specs.declared.words.WordsFault.{WordsFault}
 use Rattle.gate_words.specs.declared.words.WordsFault.TheVariants.{Help, Usage, Memory}
 
@@ -26,11 +26,12 @@ IsPatient patience = (1 ≤ patience) × (patience ≤ 3600)
 
 abbrev pub IsWithinLimits : Job → Type 0
 IsWithinLimits (Run db) = ⊤
+IsWithinLimits (Guard db) = ⊤
 IsWithinLimits (Serve port count patience db token log until_input_ends) = AreWithinLimits port count × IsPatient patience
 IsWithinLimits (Report file) = ⊤
 
--- THE COMMANDS: `run`, `serve --port N --count N` and `report FILE`, of which the first two may have `--db FILE`, and the second
--- `--patience SECONDS`, `--token FILE`, `--log` and `--until-input-ends`. The program's name isn't among the words.
+-- THE COMMANDS: `run`, `guard`, `serve --port N --count N` and `report FILE`, of which the first three may have `--db FILE`, and the
+-- third `--patience SECONDS`, `--token FILE`, `--log` and `--until-input-ends`. The program's name isn't among the words.
 abbrev pub number_rule : Text → ValueParser → Rule
 number_rule name limits = record (new_rule name) { long = Some name; value_names = 1; required = true; parser = Some limits }
 
@@ -48,6 +49,9 @@ flag_rule name = record (new_rule name) { long = Some name; action = Some SetTru
 
 abbrev pub run_words : App
 run_words = with_rule (new_app (codes "run")) db_rule
+
+abbrev pub guard_words : App
+guard_words = with_rule (new_app (codes "guard")) db_rule
 
 abbrev pub numbered_words : App
 numbered_words =
@@ -72,7 +76,9 @@ abbrev pub bare_words : App
 bare_words = record { top = record (new_app (codes "gate")).top { no_binary_name = true }; subs = [] }
 
 abbrev pub gate_words : App
-gate_words = with_subcommand (with_subcommand (with_subcommand bare_words run_words.top) serve_words.top) report_words.top
+gate_words =
+    with_subcommand (with_subcommand (with_subcommand (with_subcommand bare_words
+    run_words.top) guard_words.top) serve_words.top) report_words.top
 
 -- THE JOB that a command asks for, by the values of its options
 abbrev pub IsNumber : ℕ → Option Text → Type 0
@@ -104,11 +110,19 @@ IsFlagIn name flag rows = IsFlag flag (one_of name rows)
 
 abbrev pub IsRunIn : Job → List Row → Type 0
 IsRunIn (Run db) rows = IsFileOf (codes "db") db rows
+IsRunIn (Guard db) rows = ⊥
 IsRunIn (Serve port count patience db token log until_input_ends) rows = ⊥
 IsRunIn (Report file) rows = ⊥
 
+abbrev pub IsGuardIn : Job → List Row → Type 0
+IsGuardIn (Run db) rows = ⊥
+IsGuardIn (Guard db) rows = IsFileOf (codes "db") db rows
+IsGuardIn (Serve port count patience db token log until_input_ends) rows = ⊥
+IsGuardIn (Report file) rows = ⊥
+
 abbrev pub IsServeIn : Job → List Row → Type 0
 IsServeIn (Run db) rows = ⊥
+IsServeIn (Guard db) rows = ⊥
 IsServeIn (Serve port count patience db token log until_input_ends) rows =
     AreNumbersIn port count rows × IsPatienceIn patience rows × IsFileOf (codes "db") db rows × IsFileOf (codes "token") token rows
     × IsFlagIn (codes "log") log rows × IsFlagIn (codes "until-input-ends") until_input_ends rows
@@ -116,6 +130,7 @@ IsServeIn (Report file) rows = ⊥
 
 abbrev pub IsFileIn : Job → List Row → Type 0
 IsFileIn (Run db) rows = ⊥
+IsFileIn (Guard db) rows = ⊥
 IsFileIn (Serve port count patience db token log until_input_ends) rows = ⊥
 IsFileIn (Report file) rows = first_of (codes "FILE") rows ≡ Some (string_bytes file)
 
@@ -123,6 +138,7 @@ IsFileIn (Report file) rows = first_of (codes "FILE") rows ≡ Some (string_byte
 abbrev pub IsJobIn : Job → Option (Text × List Row) → Type 0
 IsJobIn (Run db) command =
     ((command ≡ None) × (db ≡ None)) ⊎ ((rows : List Row) × (command ≡ Some (codes "run", rows)) × IsRunIn (Run db) rows)
+IsJobIn (Guard db) command = (rows : List Row) × (command ≡ Some (codes "guard", rows)) × IsGuardIn (Guard db) rows
 IsJobIn (Serve port count patience db token log until_input_ends) command =
     (rows : List Row) × (command ≡ Some (codes "serve", rows)) × IsServeIn (Serve port count patience db token log until_input_ends) rows
 IsJobIn (Report file) command = (rows : List Row) × (command ≡ Some (codes "report", rows)) × IsFileIn (Report file) rows

@@ -2,7 +2,7 @@ ghost use Rattle.std.specs.Prelude.{◌≡◌, false, pos, map, codes, IfOk};
 ghost use Rattle.clap.specs.Words.{FailsBy, app_of, fault_of, new_app, rule_of, subcommand_of, subcommand_rows_of, with_rule, with_subcommand};
 ghost use Rattle.clap.specs.declared.builder.command.Command.TheViews.{out-Command as fields_of};
 ghost use Rattle.clap.specs.declared.builder.value_parser.ValueParser.TheVariants.{Signed};
-ghost use Rattle.gate_words.specs.Words.{bare_words, db_rule, file_rule, flag_rule, gate_words, guarded_words, number_rule, numbered_words, patience_rule, report_words, run_words, serve_words, token_rule};
+ghost use Rattle.gate_words.specs.Words.{bare_words, db_rule, file_rule, flag_rule, gate_words, guard_words, guarded_words, number_rule, numbered_words, patience_rule, report_words, run_words, serve_words, token_rule};
 
 use clap::builder::ValueParser;
 use clap::{Arg, ArgAction, ArgMatches, Command, Error, value_parser};
@@ -25,6 +25,7 @@ It keeps its records in a database file, or in memory, and then they are gone wh
 
 const USAGE: &str = "\
 gate [run [--db <FILE>]]
+       gate guard [--db <FILE>]
        gate serve --port <N> --count <N> [--patience <SECONDS>] [--db <FILE>] [--token <FILE>] [--log] [--until-input-ends]
        gate report <FILE>";
 
@@ -32,6 +33,7 @@ const MORE: &str = "\
 Examples:
   gate < deliveries.jsonl
   gate run --db gate.db < deliveries.jsonl
+  gate guard --db gate.db < deliveries.jsonl
   gate serve --port 8080 --count 100 --db gate.db
   gate report deliveries.jsonl
 
@@ -40,6 +42,9 @@ docs/formats.md describes deliveries and their answers.";
 // What is told of each job.
 const RUN: &str =
     "Answer the deliveries on standard input, one on each line; gate without words does it in memory";
+
+const GUARD: &str =
+    "Answer the deliveries on standard input, one on each line, and tell what a host has to do for each branch then";
 
 const SERVE: &str =
     "Answer deliveries over HTTP on 127.0.0.1, on so many connections one after the other";
@@ -154,6 +159,13 @@ fn run_command<'a>(alloc: Global) -> Result<Command<'a>, AllocError>
     command(alloc, "run", "gate run [--db <FILE>]", RUN).arg(db(alloc))
 }
 
+fn guard_command<'a>(alloc: Global) -> Result<Command<'a>, AllocError>
+    ensures words { IfOk result (λ made. app_of made ≡ guard_words) }
+    ensures local { IfOk result (λ made. (fields_of made).has_globals ≡ false) }
+{
+    command(alloc, "guard", "gate guard [--db <FILE>]", GUARD).arg(db(alloc))
+}
+
 const SERVE_USAGE: &str =
     "gate serve --port <N> --count <N> [--patience <SECONDS>] [--db <FILE>] [--token <FILE>] [--log] [--until-input-ends]";
 
@@ -238,11 +250,19 @@ fn with_run<'a>(alloc: Global) -> Result<Command<'a>, AllocError>
     bare_gate(alloc).subcommand(run)
 }
 
+fn with_guard<'a>(alloc: Global) -> Result<Command<'a>, AllocError>
+    ensures { IfOk result (λ made. app_of made ≡ with_subcommand (with_subcommand bare_words run_words.top) guard_words.top) }
+{
+    let guard = guard_command(alloc)?;
+    with_run(alloc)?.subcommand(guard)
+}
+
 fn with_serve<'a>(alloc: Global) -> Result<Command<'a>, AllocError>
-    ensures { IfOk result (λ made. app_of made ≡ with_subcommand (with_subcommand bare_words run_words.top) serve_words.top) }
+    ensures { IfOk result (λ made. app_of made
+        ≡ with_subcommand (with_subcommand (with_subcommand bare_words run_words.top) guard_words.top) serve_words.top) }
 {
     let serve = serve_command(alloc)?;
-    with_run(alloc)?.subcommand(serve)
+    with_guard(alloc)?.subcommand(serve)
 }
 
 fn gate_command<'a>(alloc: Global) -> Result<Command<'a>, AllocError>

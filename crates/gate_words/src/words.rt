@@ -1,7 +1,7 @@
 ghost use Rattle.std.specs.Prelude.{◌≡◌, map, IfOk, IfErr, IfSome};
 ghost use Rattle.std.specs.IoError.{error_kind};
 ghost use Rattle.clap.specs.Words.{found_of, kind_of, rows_of, subcommand_rows_of};
-ghost use Rattle.gate_words.specs.Words.{AreNumbersIn, AreWithinLimits, IsAskedFor, IsFileIn, IsFileOf, IsFlagIn, IsJobIn, IsPatienceIn, IsPatient, IsRefusedBy, IsRunIn, IsServeIn, IsToldAs, IsToldBy, IsWithinLimits, IsWithoutWords, LacksJob, LacksNumbers, LacksPatience};
+ghost use Rattle.gate_words.specs.Words.{AreNumbersIn, AreWithinLimits, IsAskedFor, IsFileIn, IsFileOf, IsFlagIn, IsGuardIn, IsJobIn, IsPatienceIn, IsPatient, IsRefusedBy, IsRunIn, IsServeIn, IsToldAs, IsToldBy, IsWithinLimits, IsWithoutWords, LacksJob, LacksNumbers, LacksPatience};
 
 use crate::command::{MAX_COUNT, MAX_PATIENCE, PATIENCE, matches_in};
 use clap::error::ErrorKind;
@@ -18,6 +18,11 @@ const NO_TEXT: &str = "error: a word isn't UTF-8\n";
 pub enum Job {
     /// To serve the lines of standard input, over the records in a database file, or over new ones in memory.
     Run {
+        /// The path of the database file. Without one the records are in memory.
+        db: Option<String>,
+    },
+    /// To serve the same lines over the same, and to tell with each answer what a host has to do for each branch then.
+    Guard {
         /// The path of the database file. Without one the records are in memory.
         db: Option<String>,
     },
@@ -86,6 +91,15 @@ fn run_job(alloc: Global, options: &ArgMatches<'_>) -> Result<Job, AllocError>
     ensures job { IfOk result (λ job. IsRunIn job (rows_of (found_of options.now))) }
 {
     Ok(Job::Run {
+        db: file_of(alloc, options, "db")?,
+    })
+}
+
+fn guard_job(alloc: Global, options: &ArgMatches<'_>) -> Result<Job, AllocError>
+    ensures limits { IfOk result IsWithinLimits }
+    ensures job { IfOk result (λ job. IsGuardIn job (rows_of (found_of options.now))) }
+{
+    Ok(Job::Guard {
         db: file_of(alloc, options, "db")?,
     })
 }
@@ -183,6 +197,7 @@ fn job_in(alloc: Global, matches: &ArgMatches<'_>) -> Result<Option<Job>, AllocE
     match matches.subcommand() {
         None => Ok(Some(Job::Run { db: None })),
         Some(("run", options)) => Ok(Some(run_job(alloc, options)?)),
+        Some(("guard", options)) => Ok(Some(guard_job(alloc, options)?)),
         Some(("serve", options)) => serve_job(alloc, options),
         Some(("report", options)) => report_job(alloc, options),
         Some(_) => Ok(None),

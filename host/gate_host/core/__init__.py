@@ -4,8 +4,8 @@ Everything that the host learns is a *fact*. The facts are one list, in the orde
 is a function of that list and of the bot's answers alone:
 
 - `facts` has each kind of fact, `orders` what the bot answers, `deliveries` what a fact tells the bot.
-- `known` has what is known after a list of facts and answers: what is tested, and what people are told. `duties` has what is open then:
-  what has to be merged and moved. `earlier` has what a journal of an earlier version knew, as one fact.
+- `known` has what is known after a list of facts and answers: what is tested, and what people are told. `duties` has what the bot says is
+  to be merged, tested and moved, and what of that comes next. `earlier` has what a journal of an earlier version knew, as one fact.
 - `watching`, `notes` and `clock` decide: from what was seen and what is known they give the facts to write down.
 - `words` has the words for people.
 

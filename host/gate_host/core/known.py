@@ -566,6 +566,8 @@ class Known:
         self.batches[stage.branch] = replace(batch, staged=self.clock)
         self.tests[stage.branch] = Test(stage.branch, stage.batch, batch.commit)
         self.results[stage.branch] = {}
+        # What was reported of the commit before was told of a head at the most, and is news again.
+        self.reported.pop(batch.commit, None)
         return [Told(change, words.staged(stage, batch.commit)) for change in stage.changes]
 
     def note_landing(self, land: Land) -> List[Told]:

@@ -1,0 +1,2 @@
+mod Splitting
+mod Telling

@@ -1,0 +1,8 @@
+use Rattle.std.proofs.Common.{◌∙◌, ap₂}
+use Rattle.std.proofs.lemmas.Result.{IfOk-weaker}
+use Rattle.clap.specs.Words.{App, with_subcommand}
+use Rattle.gate_words.proofs.command.with_guard.Goals as goal
+
+pub returns : goal.returns
+returns c = IfOk-weaker c.subcommand.result _ _ (λ made adds.
+    adds.shape c.in_ok-guard.ensures.local ∙ ap₂ (λ (a b : App). with_subcommand a b.top) c.in_ok-with_run.ensures c.in_ok-guard.ensures.words) c.subcommand.ensures
