@@ -405,8 +405,9 @@ class Host:
         return True
 
     def take_report(self, report: Report) -> bool:
-        """Takes what somebody reports of a commit. It waits for a change that is about to be opened at that."""
-        if any(head == report.commit and self.watch.is_awaited(change) for change, head in self.heads.items()):
+        """Takes what somebody reports of a commit. It waits for a change that is about to be opened at that, or a test that is to begin."""
+        is_awaited = any(head == report.commit and self.watch.is_awaited(change) for change, head in self.heads.items())
+        if is_awaited or watching.is_about_to_be_tested(self.known, report.commit):
             return False
         if not self.ports.journal.has_taken(report.note):
             found = watching.report_of(self.known, report, self.ports.owner.settings.checks, self.ports.owner.reporters)

@@ -2,7 +2,7 @@
 import unittest
 from dataclasses import astuple, replace
 
-from playing import A, B, C, D, E, DONE, Play, BEFORE, STAGED, LANDED
+from playing import A, B, C, D, E, DONE, Play, BEFORE, ORDERED, MADE, STAGED, LANDED
 from gate_host.core import watching
 from gate_host.core.facts import (
     Closed, HeadDated, Labeled, MainSeen, MoverFound, Opened, Pushed, PushesForgotten, PushTold, Queued, Reported, Reviewed, RoleGiven,
@@ -132,6 +132,16 @@ class WatchTests(unittest.TestCase):
         ):
             found = watching.report_of(known, given, {"build"}, reporters)
             self.assertEqual(found if not due else due in found, Reported(*astuple(given)) if not due else True, given)
+
+    def test_of_a_merge_the_host_alone_reports_what_it_tests_also_when_the_batch_is_over(self):
+        known = Play(*LANDED, (Opened(8, "vera", C), DONE)).known
+        report = Report("n", "ci", C, "build", "success", "")
+        found = watching.report_of(known, report, {"build"}, {"build": {"ci"}})
+        self.assertIn("for which the host has a command of its own", found)
+
+    def test_which_commit_is_about_to_be_tested(self):
+        for steps, due in ((ORDERED, False), (MADE, True), (STAGED, False), (LANDED, False)):
+            self.assertEqual(watching.is_about_to_be_tested(Play(*steps).known, C), due)
 
     def test_labels(self):
         play = Play(*BEFORE)

@@ -164,15 +164,21 @@ def old_pushes(known: Known, up_to: int) -> Optional[PushesForgotten]:
 
 
 def report_of(known: Known, report: Report, commands: Container[str], reporters: Mapping[str, Container[str]]) -> Union[Reported, str]:
-    """The fact as which a report is written down, or why it doesn't count. What a command of the host tests the host alone reports."""
+    """The fact as which a report is written down, or why it doesn't count. What a command of the host tests the host alone reports, of each
+    commit that it has made, also when the batch is over."""
     said = f"{report.person} reports {report.name} of {report.commit}"
     if report.person not in reporters.get(report.name, ()):
         return f"{said}, and isn't named as a reporter of that"
-    if report.name in commands and known.tests_of(report.commit):
+    if report.name in commands and (known.tests_of(report.commit) or report.commit in known.made):
         return f"{said}, for which the host has a command of its own"
     if not known.changes_at(report.commit):
         return f"{said}, which is neither tested now nor the head of an open change"
     return Reported(report.note, report.person, report.commit, report.name, report.state, report.description)
+
+
+def is_about_to_be_tested(known: Known, commit: str) -> bool:
+    """Whether a commit is the merge of a batch of which it isn't told yet that it is staged."""
+    return any(batch.commit == commit and batch.order in known.orders for batch in known.batches.values())
 
 
 def freeze_of(known: Known, asked: Union[Freezing, Thawing], owner: Optional[str]) -> Union[Frozen, Thawed, str]:
