@@ -13,10 +13,16 @@ from .core.duties import Answered, answered_in
 # The first answer comes when the bot has read its file, which takes time in its size.
 SECONDS_FOR_FIRST = 600
 SECONDS = 120
+# With this status the program refuses the words that it is started with, and nothing else.
+WRONG_WORDS = 2
 
 
 class BotEnded(Exception):
     """The bot has ended, or gives no answer, with what it said of it."""
+
+
+class NoSuchJob(BotEnded):
+    """The program refuses the words that it was started with, so it is of another version, with what it said of it."""
 
 
 class Child:
@@ -36,6 +42,7 @@ class Child:
         self.given, self.answers = piped(self.process.stdin), piped(self.process.stdout)
         self.seconds = SECONDS_FOR_FIRST
         self.rest = b""
+        self.has_written = False
 
     def line_after(self, line: str) -> str:
         """Gives the program a line, and gives the one that it writes then."""
@@ -56,6 +63,7 @@ class Child:
             if not part:
                 raise self.ended()
             self.rest += part
+            self.has_written = True
         answer, _, self.rest = self.rest.partition(b"\n")
         self.seconds = SECONDS
         return answer.decode()
@@ -68,8 +76,13 @@ class Child:
             self.process.kill()
             status = self.process.wait()
         self.said.seek(0)
-        words = self.said.read(1000).decode(errors="replace").strip()
-        return BotEnded(words or f"the bot ended with status {status}")
+        words = self.said.read(1000).decode(errors="replace").strip() or f"the bot ended with status {status}"
+        return NoSuchJob(words) if status == WRONG_WORDS and not self.has_said_more() else BotEnded(words)
+
+    def has_said_more(self) -> bool:
+        """Whether a program that has ended has ever written anything to standard output. It may not have been read yet."""
+        is_left = select.select([self.answers], [], [], 0)[0]
+        return self.has_written or bool(is_left and os.read(self.answers.fileno(), 1))
 
     def close(self) -> None:
         """Ends the bot by the end of its input, which has it leave its file in order."""

@@ -6,7 +6,7 @@ from typing import Callable, Dict, Iterable, Optional, Tuple, TypeVar
 
 from .bot_file import has_file, lacks_answers
 from .bot_settings import read_settings
-from .client import BotEnded, Guard
+from .client import BotEnded, Guard, NoSuchJob
 from .core.duties import Duties
 from .core.orders import Unread
 from .faults import Trouble
@@ -64,6 +64,9 @@ class KeptBot:
                 if self.bot is None:
                     self.bot = self.start()
                 return by(self.bot)
+            except NoSuchJob as fault:
+                # However often it is started, it stays the same program.
+                raise Trouble(self.too_old(str(fault))) from fault
             except BotEnded as fault:
                 complain(f"{fault}; the bot is started again")
                 self.close()
@@ -71,6 +74,11 @@ class KeptBot:
                     break
                 time.sleep(min(10.0, 0.1 * 2 ** attempt))
         raise Trouble("the bot gives no answer, however often it is started")
+
+    def too_old(self, said: str) -> str:
+        """What is told of a program that doesn't know the job, with the first line of what it has said."""
+        build = f"build this one's, or name another in {self.places.settings}"
+        return f"{self.program()} has no `gate guard`, so it is older than this host; {build}. It says: {said.partition(chr(10))[0]}"
 
     def handed_in(self, bot: Guard, line: str) -> str:
         """The answer of a bot to a delivery. What is to be done after it is kept."""

@@ -10,7 +10,7 @@ from unittest import mock
 sys.path.insert(0, str(Path(__file__).resolve().parent.parent))
 
 from folders import InFolder  # noqa: E402
-from gate_host.client import Bot, BotEnded, Guard  # noqa: E402
+from gate_host.client import Bot, BotEnded, Guard, NoSuchJob  # noqa: E402
 from gate_host.core.duties import Answered, Duties, ToMerge  # noqa: E402
 from gate_host.core.orders import Unread  # noqa: E402
 
@@ -60,6 +60,33 @@ class ClientTests(InFolder):
             bot.close()
         with self.assertRaisesRegex(BotEnded, "can't be started"):
             Bot(str(self.room / "none"), self.room / "file")
+
+    def test_a_program_that_refuses_its_words_is_told_from_one_that_ends(self):
+        """It has the status of wrong words, and has written no answer, whether or not it has read the line."""
+        words = "echo \"error: unrecognized subcommand '$1'\" >&2"
+        for text, is_refusal in (
+            (f"{words}; exit 2", True), (f"read -r line; {words}; exit 2", True), ("exit 2", True), (f"{words}; exit 1", False),
+            (f"{words}; kill -9 $$", False), (f"{words}; exit 0", False), ("read -r line; echo '[]'; exit 2", False),
+            ("printf '['; exit 2", False), ("read -r line; printf '['; exit 2", False),
+        ):
+            for is_late in (False, True):
+                guard = Guard(self.program(text), self.room / "file")
+                if is_late and not text.startswith("read"):
+                    guard.process.wait(10)
+                with self.assertRaises(BotEnded, msg=text) as raised:
+                    guard.line_after("one")
+                    guard.line_after("two")
+                guard.close()
+                self.assertEqual(isinstance(raised.exception, NoSuchJob), is_refusal, (text, is_late))
+        self.assertEqual(str(self.ended_with(f"{words}; exit 2")), "error: unrecognized subcommand 'guard'")
+        self.assertEqual(str(self.ended_with("exit 2")), "the bot ended with status 2")
+
+    def ended_with(self, text):
+        guard = Guard(self.program(text), self.room / "file")
+        with self.assertRaises(NoSuchJob) as raised:
+            guard.line_after("one")
+        guard.close()
+        return raised.exception
 
     def test_a_silent_bot_is_ended(self):
         bot = Bot(self.program("exec sleep 60"), self.room / "file")

@@ -87,6 +87,27 @@ class KeptBotTests(unittest.TestCase):
             self.bot().hand_in("a")
         self.assertEqual(len(self.got()), 1)
 
+    def test_a_program_without_the_job_is_told_at_once_and_not_started_again(self):
+        """As one of before is, also while the last delivery is handed in again."""
+        said = "error: unrecognized subcommand 'guard'\n\nUsage: gate run"
+        self.program.write_text(f'#!/bin/sh\necho "$1" >> {self.room}/got\necho "{said}" >&2\nexit 2\n', encoding="utf-8")
+        due = f"{self.program} has no `gate guard`, so it is older than this host; .*{self.places.settings}. It says: {said[:38]}$"
+        with self.assertRaisesRegex(Trouble, due):
+            self.bot().hand_in("a")
+        self.keep(ANSWER % 1)
+        with self.assertRaisesRegex(Trouble, due):
+            self.bot().duties()
+        self.assertEqual(self.got(), ["guard"] * 2)
+
+    def test_a_program_that_ends_so_after_an_answer_is_started_again(self):
+        self.program.write_text(f'#!/bin/sh\nread -r line\necho "$1" >> {self.room}/got\necho nothing\nexit 2\n', encoding="utf-8")
+        with self.assertRaisesRegex(Trouble, "isn't the one of this host: .*nothing"):
+            self.bot().hand_in("a")
+        self.program.write_text(f'#!/bin/sh\necho "$1" >> {self.room}/got\nprintf "["\nexit 2\n', encoding="utf-8")
+        with self.assertRaisesRegex(Trouble, "however often it is started"):
+            self.bot().hand_in("a")
+        self.assertEqual(len(self.got()), 1 + kept_bot.STARTS)
+
     def test_what_is_no_answer_is_refused(self):
         (self.room / "answer").write_text('{{"error":"NotJson"}}', encoding="utf-8")
         with self.assertRaisesRegex(Trouble, "takes this for no delivery.*NotJson.*: a"):
