@@ -4,6 +4,7 @@ It is a database of SQLite that nobody but the host opens. Whatever belongs toge
 ends: a fact with its deliveries, an answer with what it has people told. All else that the host knows is a function of these.
 """
 import sqlite3
+import time
 from contextlib import contextmanager
 from dataclasses import dataclass
 from pathlib import Path
@@ -27,6 +28,8 @@ CREATE TABLE marks (name TEXT PRIMARY KEY, value TEXT NOT NULL);
 CREATE TABLE notes (name TEXT PRIMARY KEY) WITHOUT ROWID;
 """
 Value = Union[None, int, str]
+# For so long somebody else may be opening a new journal.
+SECONDS_TO_OPEN = 5
 
 
 class Row(NamedTuple):
@@ -57,17 +60,36 @@ class Journal:
         work with it."""
         self.path = path
         self.database = sqlite3.connect(path, isolation_level=None)
-        self.database.execute("PRAGMA journal_mode = WAL")
+        self.begin_log()
         self.database.execute("PRAGMA synchronous = FULL")
-        version = self.number("PRAGMA user_version")
-        if version == 0:
-            with self.step():
-                self.make(TABLES)
-                self.database.execute(f"PRAGMA user_version = {VERSION}")
-        elif version in (1, 2) and is_hosts:
+        version = self.version() or self.begin()
+        if version in (1, 2) and is_hosts:
             bring_over(self)
         elif version not in (1, 2, VERSION):
             raise Trouble(f"{path} is a journal of version {version}, and not {VERSION}")
+
+    def begin_log(self) -> None:
+        """Has SQLite write its steps to a log. If somebody else is at that too, it may say so at once, and not wait as it does else."""
+        late = time.monotonic() + SECONDS_TO_OPEN
+        while True:
+            try:
+                self.database.execute("PRAGMA journal_mode = WAL")
+                return
+            except sqlite3.OperationalError as fault:
+                if "locked" not in str(fault) or time.monotonic() > late:
+                    raise
+            time.sleep(0.01)
+
+    def version(self) -> int:
+        return self.number("PRAGMA user_version")
+
+    def begin(self) -> int:
+        """Makes the tables of a new journal, unless somebody else has made them meanwhile. Gives the version that it has then."""
+        with self.step():
+            if not self.version():
+                self.make(TABLES)
+                self.database.execute(f"PRAGMA user_version = {VERSION}")
+            return self.version()
 
     def make(self, tables: str) -> None:
         for statement in tables.split(";\n"):
@@ -101,7 +123,7 @@ class Journal:
 
     def known(self, heard: Optional[Callable[[Known, Heard], None]] = None) -> Known:
         """What is known by all that was written down. Tells of each answer, if somebody wants to know."""
-        if self.number("PRAGMA user_version") < VERSION:
+        if self.version() < VERSION:
             return earlier_in(self).known()
         known = Known()
         query = "SELECT id, line, answer FROM deliveries WHERE fact > 0 ORDER BY number"
