@@ -12,7 +12,9 @@ from unittest import mock
 
 sys.path.insert(0, str(Path(__file__).resolve().parent.parent))
 
-from gate_host.checks import MOST_OUTPUTS, Checks, is_of_system, lack_of_room, remove_tree, verdict_in  # noqa: E402
+from gate_host.checks import (  # noqa: E402
+    MOST_OUTPUTS, Checks, has_ended, is_of_system, lack_of_room, remove_tree, verdict_in,
+)
 from gate_host.git import GitFailed  # noqa: E402
 from gate_host.core.known import Test  # noqa: E402
 from gate_host.places import Places  # noqa: E402
@@ -129,6 +131,19 @@ class VerdictTests(InClones):
             self.assertLess(time.monotonic(), late)
         self.assertEqual(self.run_all({"build": "exit 0"}), [("build", "success")])
         self.assertEqual(len(self.clones), 2)
+
+    def test_a_check_of_a_commit_of_before_has_no_result(self):
+        """It may have ended since the bot has put its batch back, when another one is tested on the branch, or none."""
+        settings = settings_of({"build": "exit 0"})
+        for wanted in ([OTHER], []):
+            self.begin_anew()
+            self.round(settings)
+            late = time.monotonic() + SECONDS
+            while not all(has_ended(lane.running.process) for lane in self.checks.lanes()):
+                self.assertLess(time.monotonic(), late)
+            self.assertEqual(self.checks.ended(wanted), [])
+        self.until(settings, lambda: self.results, OTHER)
+        self.assertEqual([result.test for result in self.results], [OTHER])
 
     def test_the_last_outputs_are_kept(self):
         for number in range(MOST_OUTPUTS + 3):

@@ -37,6 +37,8 @@ class ToldTests(unittest.TestCase):
             ([*LANDING, (NotMoved("status-8.0"), DONE)], {"id": "status-8.0", "event": "refused", "batch": 1}),
             ([*BEFORE, (MainSeen(A, "other"), DONE)], {"id": "settings-5", "event": "settings", "text": "other"}),
             ([*BEFORE, (MainSeen(D, None), DONE)], {"id": "base-5", "event": "base", "commit": D}),
+            # What the report of a landing has told isn't told again.
+            ([*LANDED, (MainSeen(C, "other"), DONE)], {"id": "settings-10", "event": "settings", "text": "other"}),
             ([*BEFORE, (Said("n2", 7, "eve", "so\nbors r+\nBORS: try\nborst"), DONE)],
              {"id": "comment-5", "event": "comment", "change": 7, "person": "eve", "text": "bors r+\nBORS: try"}),
         ):

@@ -22,11 +22,11 @@ class GuardedTests(InHistory):
         self.complain = patched.start()
         self.addCleanup(patched.stop)
 
-    def batch(self, *heads):
-        return Batch("tick-1.0", Stage(3, "staging", self.base, tuple(enumerate(heads, 1))), 5)
+    def batch(self, *heads, branch="staging"):
+        return Batch("tick-1.0", Stage(3, branch, self.base, tuple(enumerate(heads, 1))), 5)
 
-    def merged(self, *heads):
-        batch = self.batch(*heads)
+    def merged(self, *heads, branch="staging"):
+        batch = self.batch(*heads, branch=branch)
         made = self.guarded.merge(batch.order, batch)
         return Batch(batch.order, batch.stage, batch.now, made.commit)
 
@@ -76,6 +76,13 @@ class GuardedTests(InHistory):
         self.assertEqual(self.git("rev-parse", "staging"), batch.commit)
         self.lose_mirror()
         self.guarded.bring(batch)
+
+    def test_the_merge_of_a_batch_is_put_on_its_own_branch_alone(self):
+        for branch in ("trying", "staging"):
+            batch = self.merged(self.one, branch=branch)
+            self.guarded.point(batch, Known())
+            self.assertEqual(self.repository.branches(), {"refs/heads/main": self.base, f"refs/heads/{branch}": batch.commit})
+            self.git("update-ref", "-d", f"refs/heads/{branch}")
 
     def test_what_somebody_else_put_there_is_kept(self):
         batch = self.merged(self.one)

@@ -4,6 +4,7 @@ import re
 import sys
 import tempfile
 import unittest
+from collections import Counter
 from pathlib import Path
 from types import SimpleNamespace
 from unittest import mock
@@ -433,6 +434,9 @@ class DeathTests(InWorld):
     def test_a_host_that_dies_at_any_place_comes_to_the_same_end(self):
         places, due = self.dies_at_each_place("calm", None)
         landed = commit_of([1, 2])
+        # Each thing is told once.
+        told = {"role": 1, "base": 2, "settings": 2, "opened": 4, "comment": 4, "staged": 2, "conflict": 1, "status": 4}
+        self.assertEqual(Counter(due[0]), told)
         self.assertEqual(due[1:3], (["base", "conflict", "staged", "staged"], landed))
         self.assertEqual(due[3:5], ({"staging": landed, "trying": commit_of([4])}, [(A, landed)]))
         self.assertEqual(due[5][1][-1], f"Landed on main as {landed}, with changes 1, 2. Approved by rosa.")

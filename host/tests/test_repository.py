@@ -130,6 +130,13 @@ class MoveTests(InHistory):
         self.git("update-ref", "-d", "refs/heads/main")
         self.assertFalse(self.repository.land(land))
 
+    def test_landing_moves_the_branch_from_no_older_commit_than_the_base(self):
+        """A push that compares nothing would take it forward from there."""
+        before, self.base = self.base, self.commit({"a": "2\n"}, self.base)
+        made = self.made(self.one)
+        self.assertFalse(self.repository.land(Land(3, self.base, made)))
+        self.assertEqual(self.git("rev-parse", "main"), before)
+
     def test_a_branch_that_is_another_name_of_one_is_not_moved(self):
         made = self.made(self.one)
         self.git("symbolic-ref", "refs/heads/staging", "refs/heads/main")
