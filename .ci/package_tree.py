@@ -69,7 +69,8 @@ class Tree:
     def __init__(self, folder, program=None, source=TOP):
         self.folder = Path(folder)
         self.folder.mkdir(parents=True)
-        left_out = [f"--exclude={it}" for it in ("out", ".git", "__pycache__", "must-fail", "./host/tests", "./bench", "./crates")]
+        folders = ("out", ".git", "__pycache__", "must-fail", "./host/tests", "./host/planted", "./bench", "./crates")
+        left_out = [f"--exclude={it}" for it in folders]
         must(["tar", "-C", source, *left_out, "-cf", self.folder / "it.tar", ".", *(f"crates/{it}" for it in CRATES)])
         # Else the files are those of the owner of the tree when root unpacks them.
         must(["tar", "-C", self.folder, "--no-same-owner", "-xf", self.folder / "it.tar"])

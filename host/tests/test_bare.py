@@ -11,24 +11,31 @@ from unittest import mock
 
 sys.path.insert(0, str(Path(__file__).resolve().parent.parent))
 
-from gate_host.bare import OwnerFiles, SystemClock  # noqa: E402
+from gate_host import bare  # noqa: E402
+from gate_host.bare import OwnerFiles, SystemClock, run_host  # noqa: E402
 from gate_host.faults import Trouble  # noqa: E402
 from gate_host.places import Places  # noqa: E402
 
 HOST = Path(__file__).resolve().parent.parent / "gate-host"
 
 
-class OwnerTests(unittest.TestCase):
+class InGuarded(unittest.TestCase):
+    """A test with a repository that was set up."""
+
+    words = ()
+
     def setUp(self):
         room = tempfile.TemporaryDirectory()
         self.addCleanup(room.cleanup)
         path, program = Path(room.name) / "project.git", Path(room.name) / "gate"
         shutil.copy("/bin/true", program)
         subprocess.run(["git", "init", "--quiet", "--bare", "--initial-branch=main", str(path)], check=True, timeout=30)
-        words = ["init", str(path), "--program", str(program), "--check=build=true", "--reviewer=rosa"]
+        words = ["init", str(path), "--program", str(program), "--check=build=true", "--reviewer=rosa", *self.words]
         subprocess.run([sys.executable, HOST, *words], check=True, capture_output=True, timeout=60)
         self.places = Places(path)
 
+
+class OwnerTests(InGuarded):
     def test_what_was_good_before_stays(self):
         files = OwnerFiles(self.places, os.geteuid())
         self.assertEqual(files.read(), [("settings", ""), ("roles", ""), ("reporters", "")])
@@ -60,6 +67,19 @@ class OwnerTests(unittest.TestCase):
         self.places.repository.chmod(0o777)
         with self.assertRaisesRegex(Trouble, "could exchange what is in it"):
             files.read()
+
+
+class HostTests(InGuarded):
+    words = ("--main=m", "--staging=s", "--trying=t")
+
+    def test_it_works_on_the_branches_that_the_settings_name(self):
+        with mock.patch.object(bare, "Host") as host, mock.patch.object(bare, "complain"):
+            run_host(self.places, False)
+        ports = host.call_args[0][0]
+        ports.journal.close()
+        for repository in (ports.repository.repository, ports.source.repository, ports.runner.repository):
+            self.assertEqual(repository.main, "refs/heads/m")
+            self.assertEqual(repository.staged_on, {"staging": "refs/heads/s", "trying": "refs/heads/t"})
 
 
 class ClockTests(unittest.TestCase):
