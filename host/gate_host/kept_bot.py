@@ -77,7 +77,7 @@ class KeptBot:
 
     def too_old(self, said: str) -> str:
         """What is told of a program that doesn't know the job, with the first line of what it has said."""
-        build = f"build this one's, or name another in {self.places.settings}"
+        build = f"build the one of this host, or name another in {self.places.settings}"
         return f"{self.program()} has no `gate guard`, so it is older than this host; {build}. It says: {said.partition(chr(10))[0]}"
 
     def handed_in(self, bot: Guard, line: str) -> str:
