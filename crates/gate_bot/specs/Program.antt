@@ -1,18 +1,12 @@
--- THE RECORDS with which each job begins: none, or those in a file.
+-- FAULTS of the files that a job begins with.
 use Rattle.std.specs.Prelude.{◌≡◌, ◌⊎◌}
-use Rattle.std.specs.FinMap.{empty}
 use Rattle.gate_hook.specs.declared.fault.HookFault.TheVariants.{Gate}
 use Rattle.gate_jobs.specs.declared.fault.JobFault.{JobFault}
 use Rattle.gate_jobs.specs.declared.fault.JobFault.TheVariants.{Hook, File, Token}
-use Rattle.gate_queue.specs.Machine.{empty_state}
 use Rattle.gate_queue.specs.declared.fault.Fault.TheVariants.{Memory, Store, Foreign}
-use Rattle.gate_store.specs.Run.{Records}
 use Rattle.sqlite.specs.declared.error.Error.{Error}
 use Rattle.sqlite.specs.declared.error.Error.TheVariants.{SqliteFailure}
 use Rattle.sqlite.specs.declared.error.ErrorCode.TheVariants.{OutOfMemory}
-
-abbrev pub no_records : Records
-no_records = record { state = empty_state 1; kept = empty }
 
 -- what is told of a file that can't be opened
 abbrev pub fault_of : Error → JobFault

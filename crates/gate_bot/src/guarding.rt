@@ -1,8 +1,10 @@
 ghost use Rattle.std.specs.Prelude.{◌≡◌, ℕ, List, IfErr, IfOk, IfSome, OnOk};
 ghost use Rattle.std.specs.Io.KnownBytes.{IsAtEnd};
-ghost use Rattle.gate_bot.specs.Program.{IsOfFiles, no_records};
-ghost use Rattle.gate_guard_lines.specs.Serving.{IsInputOf, IsTold};
+ghost use Rattle.gate_bot.specs.Program.{IsOfFiles};
+ghost use Rattle.gate_guard_lines.specs.Lines.{IsInputOf, IsTold};
 ghost use Rattle.gate_hook.specs.Lines.{MayEnd};
+ghost use Rattle.gate_hook.specs.Memory.{no_records};
+ghost use Rattle.gate_hook.specs.Serving.{StaysSound};
 ghost use Rattle.gate_sql.specs.Files.{StandIn};
 ghost use Rattle.gate_sql.specs.Shown.{shown};
 ghost use Rattle.gate_store.specs.Run.{IsOfBooks, Records};
@@ -10,9 +12,9 @@ ghost use Rattle.gate_tables.specs.Tables.{is_honest, is_sound};
 ghost use Rattle.sqlite.specs.Files.{over_files};
 ghost use Rattle.sqlite.specs.WalFiles.{image_at};
 
-use crate::records::{FileBook, book_in_file, book_in_memory};
+use crate::records::{FileBook, book_in_file};
 use gate_guard_lines::guard_lines;
-use gate_hook::HookFault;
+use gate_hook::{HookFault, book_in_memory};
 use gate_jobs::JobFault;
 use gate_queue::Fault;
 use gate_store::{Book, Keeper};
@@ -20,7 +22,7 @@ use sqlite::Start;
 use std::alloc::Global;
 use std::io::{BufRead, Write};
 
-// Answers lines for a host over any book, and gives it back. A keeper whose book is known is dear to prove.
+// Answers lines for a host over any book, and gives it back. A keeper whose book is known takes long to prove.
 fn guard_over<B: Book, R: BufRead, W: Write>(
     alloc: Global,
     book: B,
@@ -32,6 +34,7 @@ fn guard_over<B: Book, R: BufRead, W: Write>(
     ensures end { OnOk result.0 (IfSome (R.Read.remaining reader.old) (λ _. IsAtEnd (R.Read.remaining reader.new))) }
     ensures cause { IfErr result.0 (MayEnd B.may_answer) }
     ensures honest { B.is_honest result.1 → B.is_honest book }
+    ensures stays { (B.is_honest book → B.is_sound book) → B.is_honest result.1 → StaysSound result.0 (B.is_sound result.1) }
 {
     let mut keeper = Keeper::new(book);
     let told = guard_lines(alloc, &mut keeper, reader, writer);
@@ -74,6 +77,9 @@ pub fn guard_in_file<S: Start, R: BufRead, W: Write>(
     ensures told { IfOk result (λ ended. is_honest over_files ended.1 → is_sound over_files ended.1
         → (old : Records) × StandIn (image_at S.Start) old × (input : List ℕ) × IsInputOf (R.Read.remaining reader.old) input
         × IsTold ended.0 old (shown over_files ended.1) input (W.contents writer.old) (W.contents writer.new)) }
+
+    // A book that is honest in the end is sound, unless it met `Memory` or `Store`.
+    ensures stays { IfOk result (λ ended. is_honest over_files ended.1 → StaysSound ended.0 (is_sound over_files ended.1)) }
 
     // It succeeds at the end of the input alone.
     ensures end { IfOk result (λ ended. OnOk ended.0 (IfSome (R.Read.remaining reader.old) (λ _. IsAtEnd (R.Read.remaining reader.new)))) }

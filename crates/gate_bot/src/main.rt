@@ -7,17 +7,18 @@ mod reporting;
 mod running;
 mod serving;
 
-use crate::records::{book_in_memory, close};
+use crate::records::close;
 use crate::serving::{Service, routes_of, serve, serve_in_file, token_in};
+use gate_hook::{book_in_memory, serve_in_memory};
 use gate_jobs::{
     Ending, Job, JobFault, WordsFault, complaint, ended, explain, no_text, read_words, status,
 };
 use gate_queue::Fault;
 use sqlite::{Start, Unknown};
+use std::env;
 use std::fs::File;
-use std::io::BufReader;
+use std::io::{self, BufReader, StdinLock};
 use std::process::ExitCode;
-use std::{env, io};
 
 /// Does the job that the words ask for. The status is 0 at its end or after help that was asked for, 1 after a fault, with one line
 /// `gate: WORD` on standard error, and 2 if the words are wrong.
@@ -84,7 +85,7 @@ fn done<S: Start>(rt: &HostRuntime, job: &Job, start: S) -> Result<(), JobFault>
 }
 
 fn run(rt: &HostRuntime) -> Result<(), JobFault> {
-    running::run(rt.alloc(), &mut rt.reader(), &mut io::writer(rt))?;
+    serve_in_memory(rt.alloc(), &mut rt.reader(), &mut io::writer(rt))?;
     Ok(())
 }
 
@@ -101,21 +102,19 @@ fn run_in_file<S: Start>(rt: &HostRuntime, file: &str, start: S) -> Result<(), J
     Ok(())
 }
 
-// Standard input is read in pieces, and then line by line.
+// Standard input, which is read in pieces. If there is no memory for them, the fault is `Gate(Memory)`.
+fn input_of(rt: &HostRuntime) -> Result<BufReader<StdinLock<'_>>, JobFault> {
+    BufReader::new(rt.alloc(), rt.reader()).map_err(|_| JobFault::from(Fault::Memory))
+}
+
 fn guard(rt: &HostRuntime) -> Result<(), JobFault> {
-    let mut reader = match BufReader::new(rt.alloc(), rt.reader()) {
-        Ok(reader) => reader,
-        Err(_) => return Err(JobFault::from(Fault::Memory)),
-    };
+    let mut reader = input_of(rt)?;
     guarding::guard(rt.alloc(), &mut reader, &mut io::writer(rt))?;
     Ok(())
 }
 
 fn guard_in_file<S: Start>(rt: &HostRuntime, file: &str, start: S) -> Result<(), JobFault> {
-    let mut reader = match BufReader::new(rt.alloc(), rt.reader()) {
-        Ok(reader) => reader,
-        Err(_) => return Err(JobFault::from(Fault::Memory)),
-    };
+    let mut reader = input_of(rt)?;
     let (told, book) = guarding::guard_in_file(rt, file, start, &mut reader, &mut io::writer(rt))?;
     close(book);
     told?;

@@ -1,5 +1,5 @@
 ghost use Rattle.std.specs.Prelude.{◌≡◌, IfErr, IfOk, false};
-ghost use Rattle.gate_bot.specs.Program.{IsOfFiles, IsOfRecords, IsUnopened, fault_of, no_records};
+ghost use Rattle.gate_bot.specs.Program.{IsOfFiles, IsOfRecords, IsUnopened, fault_of};
 ghost use Rattle.gate_sql.specs.Files.{StandIn};
 ghost use Rattle.gate_sql.specs.Shown.{shown};
 ghost use Rattle.gate_sql.specs.Versions.{OpensAs};
@@ -14,22 +14,14 @@ ghost use Rattle.sqlite.specs.WalFiles.{image_at};
 ghost use Rattle.sqlite.specs.WalReads.{AreClean};
 
 use gate_jobs::JobFault;
-use gate_queue::{Fault, Gate};
+use gate_queue::Fault;
 use gate_sql::SqlBook;
-use gate_store::PlainBook;
 use sqlite::{Alter, Connection, Error, ErrorCode, FileFrom, FileStore, Files, Start};
 use sqlite_disk::Disk;
 use std::alloc::Global;
 
 /// A book in a database file, which keeps the records for the next program. `S` stands for what the file and its log held.
 pub type FileBook<S> = SqlBook<FileStore<FileFrom<S>>>;
-
-/// A book in memory that has no records. What it keeps is lost when the program ends. It takes no memory.
-pub fn book_in_memory(alloc: Global) -> PlainBook
-    ensures value { result ≡ no_records }
-{
-    PlainBook::new(alloc, Gate::new(alloc))
-}
 
 /// The book that a database file keeps. A file that isn't there is made, and one that is empty gets its tables and no records. Each
 /// page of a new file ends in a sum of it, by which a later open refuses a page that was changed. `File` if it can't be opened, or

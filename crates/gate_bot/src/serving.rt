@@ -2,8 +2,8 @@ ghost use Rattle.std.specs.Prelude.{◌≡◌, ◌↔◌, IfErr, IfOk, IsSome};
 ghost use Rattle.gate_bot.specs.Program.{IsOfTokens};
 ghost use Rattle.gate_jobs.specs.Serving.{AllServed};
 
-use crate::records::{book_in_file, book_in_memory, close};
-use gate_hook::{HookFault, Routes, Token};
+use crate::records::{book_in_file, close};
+use gate_hook::{HookFault, Routes, Token, book_in_memory};
 use gate_jobs::{Acceptor, Connections, JobFault, LineLog, Log, Silence, announce, token_of};
 use gate_queue::Fault;
 use gate_store::{Book, Keeper};

@@ -3,4 +3,5 @@ mod Tracing
 mod Learning
 mod Coming
 mod Moving
+mod Due
 mod Standing

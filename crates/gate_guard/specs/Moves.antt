@@ -1,18 +1,17 @@
 -- THE MAIN BRANCH: each value that it takes after the first, others have pushed, or it is the merge of the value before with heads, each
 -- approved as it stands, and tested as it lands.
-use Rattle.std.specs.Prelude.{◌≡◌, ◌≢◌, ℕ, true, false, ⊤, List, [], ◌∷◌, ◌++◌, Some}
-use Rattle.std.specs.List.{All, Contains}
+use Rattle.std.specs.Prelude.{◌≡◌, ◌≢◌, ◌⊎◌, ℕ, true, false, ⊤, List, [], ◌∷◌, ◌++◌}
+use Rattle.std.specs.List.{All, Contains, flat_map}
 use Rattle.gate_deliveries.specs.declared.delivery.Delivery.{Delivery}
 use Rattle.gate_deliveries.specs.declared.delivery.Event.{Event as Telling}
 use Rattle.gate_deliveries.specs.declared.delivery.Event.TheVariants as telling
-use Rattle.gate_guard.specs.Duties.{duties_of}
 use Rattle.gate_guard.specs.Knowing.{HaveCome, WasTold, events_after, known_after}
 use Rattle.gate_guard.specs.World.{Checking, KeepsPremise, Merging, Step, commits_of, told_in, main_after, moved, told, pushed}
-use Rattle.gate_guard.specs.declared.duty.Duty.TheVariants as duty
-use Rattle.gate_queue.specs.History.{Event, IsReadyToLand, gave, landing_with, landings}
+use Rattle.gate_queue.specs.History.{Event, IsReadyToLand, gave, landings, orders_in}
 use Rattle.gate_queue.specs.Vocabulary.{Land, Success}
 use Rattle.gate_queue.specs.Words.{WasTested}
 use Rattle.gate_state.specs.declared.act.Fact.TheVariants.{Staged, Status}
+use Rattle.gate_state.specs.declared.reply.Order.{Order}
 use Rattle.gate_store.specs.Run.{Records, after_delivery, answer_to, is_known, meets_full}
 
 -- The success of a status of a commit was told, after it was told that the batch is staged with this commit, and a check has said so. That this
@@ -55,24 +54,17 @@ MovesRightly joins says first (pushed to ∷ before) = MovesRightly joins says f
 abbrev pub LawOfMoves : Type 0
 LawOfMoves = (joins : Merging) (says : Checking) (first : List ℕ) (steps : List Step) → KeepsPremise joins says first steps → MovesRightly joins says first steps
 
--- WHAT IS TO LAND, by the state after such steps, has come as an order, and nothing has ended it since. So a host that moves the branch for
--- nothing else keeps that part of the premise. And whatever has come as an order that nothing has ended is to land.
-pub record DutiesTellLandings (told : List Telling) : Type 0 where
-  pub ordered : (batch : ℕ) (from to : List ℕ) → (duties_of (known_after told).state).staging ≡ Some (duty.Land batch from to)
-      → Contains (events_after told) (gave (Land batch from to)) × (landing_with (events_after told) batch ≡ Some to)
-  pub all : (batch : ℕ) (to : List ℕ) → landing_with (events_after told) batch ≡ Some to
-      → (from : List ℕ) × ((duties_of (known_after told).state).staging ≡ Some (duty.Land batch from to))
+-- THE KEEPER: if the records that its book shows stand where all that was told leads, one more delivery that is new leads them on, unless it meets
+-- a full gate. Each order of its answer has come then, and each order that has come then is one of its answer, or had come before.
+pub record LeadsOn (records : Records) (all : List Telling) (delivery : Delivery) : Type 0 where
+  pub state : (after_delivery records delivery).state ≡ (known_after (delivery.event ∷ all)).state
+  pub come : HaveCome (delivery.event ∷ all) (answer_to records delivery)
+  pub answered : (order : Order) → Contains (events_after (delivery.event ∷ all)) (gave order)
+      → Contains (flat_map orders_in (answer_to records delivery)) order ⊎ Contains (events_after all) (gave order)
 
-abbrev pub LawOfDuties : Type 0
-LawOfDuties = (joins : Merging) (says : Checking) (first : List ℕ) (steps : List Step) → KeepsPremise joins says first steps → DutiesTellLandings (told_in steps)
-
--- THE KEEPER: if the records that its book shows stand where all that was told leads, one more delivery that is new leads them on, and each order
--- of its answer has come then, unless it meets a full gate.
 abbrev pub LawOfDelivering : Type 0
 LawOfDelivering = (records : Records) (all : List Telling) (delivery : Delivery) → records.state ≡ (known_after all).state
-    → is_known records delivery.id ≡ false → meets_full records delivery ≡ false
-    → ((after_delivery records delivery).state ≡ (known_after (delivery.event ∷ all)).state)
-    × HaveCome (delivery.event ∷ all) (answer_to records delivery)
+    → is_known records delivery.id ≡ false → meets_full records delivery ≡ false → LeadsOn records all delivery
 
 -- What has happened stays so, whatever is told later. So an order that has come has still come after that.
 abbrev pub LawOfStaying : Type 0

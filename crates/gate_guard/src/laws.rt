@@ -1,6 +1,7 @@
-ghost use Rattle.gate_guard.specs.Moves.{LawOfDelivering, LawOfDuties, LawOfMoves, LawOfStaying};
+ghost use Rattle.gate_guard.specs.Due.{LawOfDuties};
+ghost use Rattle.gate_guard.specs.Moves.{LawOfDelivering, LawOfMoves, LawOfStaying};
 
-use gate_queue::{empty_history_is_legal, law_of_histories, law_of_tests};
+use gate_queue::{empty_history_is_legal, law_of_histories, law_of_since, law_of_tests};
 use gate_store::law_of_deliveries;
 
 /// The law of moves: over every list of what a host tells the bot and does, with pushes of others in between, each move of the main branch
@@ -12,10 +13,11 @@ use gate_store::law_of_deliveries;
 pub fn law_of_moves()
     ensures moves { LawOfMoves }
 
-    // What is to land by the state has come as an order, and nothing has ended it.
+    // What is to be merged, tested or landed for main by the state was ordered so, and fits what is known now; and each order to land that
+    // nothing has ended is to land.
     ensures duties { LawOfDuties }
 
-    // What a keeper is told leads its records so, and the orders of its answers have come.
+    // What a keeper is told leads its records so, and the orders that have come are those of its answers.
     ensures delivering { LawOfDelivering }
 
     // What has come stays.
@@ -23,6 +25,7 @@ pub fn law_of_moves()
 {
     law_of_deliveries();
     law_of_histories();
+    law_of_since();
     law_of_tests();
     empty_history_is_legal();
 }

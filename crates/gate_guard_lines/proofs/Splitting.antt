@@ -73,9 +73,6 @@ first_line_of (x ∷ xs) some = by (eqb x 10) refl (first_line_of xs) where
   by true is rest = split_feed x xs is
   by false is rest = split_other x xs is rest
 
-pub no_lines : lines_of [] ≡ []
-no_lines = refl
-
 -- LINES WITHOUT LINE FEEDS are those of the text in which each has one behind it.
 pub joined : List (List ℕ) → List ℕ
 joined [] = []

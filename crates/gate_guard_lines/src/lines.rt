@@ -1,9 +1,11 @@
 ghost use Rattle.std.specs.Prelude.{◌≡◌, ℕ, List, Ok, IfErr, IfSome, OnOk};
 ghost use Rattle.std.specs.Io.BufRead.{strip_last};
 ghost use Rattle.std.specs.Io.KnownBytes.{IsAtEnd};
-ghost use Rattle.gate_guard_lines.specs.Serving.{FindsDuties, IsInputOf, IsTold, TellsDelivery, TellsLine, TellsReading};
+ghost use Rattle.gate_guard_lines.specs.Lines.{IsInputOf, IsTold};
+ghost use Rattle.gate_guard_lines.specs.Serving.{FindsDuties, TellsDelivery, TellsLine, TellsReading};
 ghost use Rattle.gate_hook.specs.Lines.{MayEnd};
-ghost use Rattle.gate_store.specs.Outlasting.{Outlasts};
+ghost use Rattle.gate_hook.specs.Serving.{StaysSound};
+ghost use Rattle.gate_store.specs.Outlasting.{Outlasts, RemainsSound};
 
 use crate::text::told_text;
 use gate_deliveries::{DeliveryFault, error_text, read_delivery};
@@ -104,9 +106,9 @@ pub fn guard_lines<B: Book, R: BufRead, W: Write>(
     reader: &mut R,
     writer: &mut W,
 ) -> Result<u64, HookFault>
-    // If the book is sound, there is an input, and what the reader tells of it is so. The records are those after its lines, and what is
-    // written is what is told for them. At a fault that is so of some first lines. The next one has acted, or it hasn't, and nothing of
-    // its text or a part is written.
+    // If the book is sound, there is an input, which is what the reader has, if it tells its bytes. The records are those after its lines,
+    // and what is written is what is told for them. None of them met a full gate. At a fault that is so of some first lines. After a fault
+    // of the gate the next one has acted, or it hasn't, and nothing of its text is written. After `Write` it has, and a part is.
     ensures told { B.is_sound keeper.new → (input : List ℕ) × IsInputOf (R.remaining reader.old) input
         × IsTold result (B.shows keeper.old) (B.shows keeper.new) input (W.contents writer.old) (W.contents writer.new) }
 
@@ -114,6 +116,9 @@ pub fn guard_lines<B: Book, R: BufRead, W: Write>(
     ensures end { OnOk result (IfSome (R.remaining reader.old) (λ _. IsAtEnd (R.remaining reader.new))) }
     ensures cause { IfErr result (MayEnd B.may_answer) }
     ensures outlasts { Outlasts B.Book keeper.old keeper.new }
+
+    // A book that was sound, and is honest still, is sound, unless it met `Memory` or `Store`.
+    ensures stays { RemainsSound B.Book keeper.old keeper.new (StaysSound result) }
 {
     let mut line = Vec::new(alloc);
     for count in 0..u64::MAX {

@@ -1,9 +1,9 @@
 -- THE LAW OF THE HISTORY: after every legal history the rules read the desk and the history alike, what is landing and tested is
 -- what the history says, and each order is right.
-use Rattle.std.proofs.Common.{◌≡◌, ◌≤◌, ℕ, ℤ, eqb, leb, ◌&&◌, ◌||◌, Bool, true, false, not, if◌then◌else◌, List, [], ◌∷◌, ◌++◌, length, Option, Some, None, Result, Ok, Err, refl, sym, ◌∙◌, ap, subst, inl, arith}
+use Rattle.std.proofs.Common.{◌≡◌, ◌≤◌, ℕ, ℤ, eqb, leb, ◌&&◌, ◌||◌, Bool, true, false, not, if◌then◌else◌, List, [], ◌∷◌, ◌++◌, length, Option, Some, None, is_some, Result, Ok, Err, refl, sym, ◌∙◌, ap, subst, inl, arith}
 use Rattle.std.proofs.lemmas.Bool.{leb-true, or_left, or_right}
 use Rattle.std.proofs.lemmas.Bool.Decides.{nat_tests, Decides-eqb}
-use Rattle.std.proofs.lemmas.List.Elements.{All-nil, All-cons, All-head, All-append}
+use Rattle.std.proofs.lemmas.List.Elements.{All-nil, All-cons, All-head, All-append, All-weaker}
 use Rattle.std.proofs.lemmas.List.Sums.{sum_by-cons}
 use Rattle.std.specs.Cmp.{signed_Decides}
 use Rattle.std.specs.Cmp.Lexicographic.{slice_cmp}
@@ -19,7 +19,7 @@ use Rattle.gate_state.specs.State.{IsMoment, approved_on, landing_on, trying_on,
 use Rattle.gate_state.specs.Counts.{occurs, in_landing, held, held_by, of_any_priority, uses}
 use Rattle.gate_state.specs.Acts.{ActKeepsLimits}
 use Rattle.gate_state.specs.declared.reply.Why.TheVariants as why
-use Rattle.gate_queue.specs.History.{Entry, Event, did, gave, given, ends_why, happened, events_of, author_back, settings_back, phase_back, labels_back, reviews_back, standing_back, approvers_back, landing_back, trying_back, approvers_on, change_back, look_back, stages, keeps_order, IsStandingAt, AreRightHeads, IsRightOrder, Legal, StateTells, EntryTells, entry_of, orders_in, denied_by}
+use Rattle.gate_queue.specs.History.{Entry, Event, did, gave, given, ends_why, happened, events_of, author_back, settings_back, base_back, heads_back, phase_back, labels_back, reviews_back, standing_back, approvers_back, landing_back, trying_back, approvers_on, change_back, look_back, stages, keeps_order, IsStandingAt, AreRightHeads, IsRightOrder, Legal, HasStayed, OrderTells, StageTells, RunningTells, StateTells, EntryTells, entry_of, orders_in, denied_by}
 use Rattle.gate_state.specs.Lanes as lanes
 use Rattle.gate_state.specs.Lanes.{batches_of, is_landing}
 use Rattle.gate_queue.specs.Machine.{broken, heads_told, denial, meaning, acted, missing, on_either, has_ordered, is_ordered, has_staged, is_staged_with, empty_state, answered, quiet, then_next, about, with_desk, with_queue, effect, notices, are_present, under, accepted, lone, lone_notices, failing, ordered_on, has_passed, goes_on, told_of, told, lands_with, sent_back, has_overdue, timed_out, head_on, starting, done, reply_to, unless_denied, after, ending, passing, on_both, told_on, told_as, lone_on, if_passed}
@@ -35,9 +35,9 @@ use Rattle.gate_queue.proofs.Fitness.{opened_so, passed, unless_so}
 use Rattle.gate_queue.proofs.Meaning.{meaning_allowed, meaning_right}
 use Rattle.gate_state.specs.Lemmas.Numbers.{all_uses}
 use Rattle.gate_queue.proofs.Held.{Holds, heads_told_holds}
-use Rattle.gate_queue.proofs.States.{clock_holds, holding, starting_holds, still_clock, still_state, queued_held, tried_held, IsNow}
+use Rattle.gate_queue.proofs.States.{clock_holds, holding, starting_holds, still_clock, running_ready, still_state, queued_held, tried_held, IsNow}
 use Rattle.gate_queue.proofs.Steps.{Kept, AreNotices, IsNext, stage_on, given_both, other_number, first_headed, first_used, first_kind, tries_left_staging, starting_kept, keeping, followed_runs, by_start, Numbered}
-use Rattle.gate_queue.proofs.Tested.{Tests, TestsAt, IsAt, EndNone, stage_tests, other_tests, staged_tests, unasked, elsewhere_told}
+use Rattle.gate_queue.proofs.Tested.{Tests, TestsAt, IsHead, IsOrdered, IsAt, EndNone, stage_tests, other_tests, staged_tests, unasked, elsewhere_told}
 use Rattle.gate_queue.proofs.Testing.{standing_approved, stands_all, report_of, notices_tests, act_tests, restarted_tests, failed_tests, requeued_tests, goes_on_tests, goes_on_right}
 use Rattle.gate_queue.proofs.Unseen.{Unseen, nothing_unseen, blank_phase, blank_landing, blank_trying}
 use Rattle.gate_queue.proofs.Wording.{none_both}
@@ -508,6 +508,38 @@ landing_there events change unseen = let blank = λ (is : author_back events cha
 trying_there : (events : List Event) (change : ℕ) → Unseen events change → option_map_or (λ (x : Change). x.trying) (change_back events change) false ≡ trying_back events change
 trying_there events change unseen = let blank = λ (is : author_back events change ≡ None). blank_trying events change (unseen is) in grind arith
 
+stages_once : (events : List Event) (queue : Queue) → Numbered events queue → (number : ℕ) → stages number events ≤ 1
+stages_once events queue numbered number = let few = numbered.once number in grind arith
+
+-- the batch that runs on staging, if it is ordered or staged
+module _ (events : List Event) (s : State) (is : Holds s) (kept : Kept events s) (batch : Batch) (runs : s.queue.staging.running ≡ Some batch) where
+  stayed : (staged : Head) → IsHead events batch staged → HasStayed events batch.number staged
+  stayed staged its = record { head = its.head; unmoved = its.unmoved }
+
+  order_told : IsOrdered events batch → OrderTells events batch.number
+  order_told was =
+      by_option (λ base. base_back events ≡ base → OrderTells events batch.number) (λ none. absurd (cc (none, based))) (λ base present. record {
+        base = base;
+        present = present;
+        ordered = was.ordered base present;
+        once = stages_once events s.queue kept.numbered batch.number;
+        heads = All-weaker (IsHead events batch) (HasStayed events batch.number) stayed (heads_back events batch.number) was.heads;
+      }) (base_back events) refl where
+        based : is_some (base_back events) ≡ true
+        based = sym (ap (λ (l : Look). is_some l.base) kept.same) ∙ (running_ready s is batch runs).1
+
+  stage_told : (at : StageOf) → TestsAt events batch at → StageTells events batch.number at
+  stage_told stage.Waiting tests = tt
+  stage_told (stage.Ordered since) tests = order_told tests
+  stage_told (stage.Staged since commit reports) tests = (order_told tests.0, tests.1.staged)
+  stage_told (stage.Landing commit) tests = tt
+
+running_told : (events : List Event) (s : State) → Holds s → Kept events s → Tests events s.queue.staging.running → RunningTells events s.queue.staging.running
+running_told events s is kept = by s.queue.staging.running refl where
+  by : (running : Option Batch) → s.queue.staging.running ≡ running → Tests events running → RunningTells events running
+  by None runs tests = tt
+  by (Some batch) runs tests = stage_told events s is kept batch runs batch.stage tests
+
 -- the state that a legal history led to
 state_told : (history : List Entry) (s : State) → IsState s → Whole (events_of history) s → StateTells history s
 state_told history s is whole =
@@ -532,14 +564,12 @@ state_told history s is whole =
       queued = λ change. is.queue.staging.places change ∙ (λ i. if stands change i || landing change i then 1 else 0);
       landing = λ change. is.queue.staging.landing change ∙ ap {B = ℕ} (λ (b : Bool). if b then 1 else 0) (landing change);
       to_land = kept.landing;
+      running = running_told now s (record { desk = is.desk; queue = is.queue }) kept whole.tests;
       tried = λ change. is.queue.trying.places change ∙ ap {B = ℕ} (λ (b : Bool). if b then 1 else 0) (or-false (trying_on s.desk change) ∙ trying change);
     }
 
 pub histories_law : (history : List Entry) (s : State) → Legal history s → StateTells history s
 histories_law history s legal = state_told history s (legal_state history s legal) (keeps history s legal)
-
-stages_once : (events : List Event) (queue : Queue) → Numbered events queue → (number : ℕ) → stages number events ≤ 1
-stages_once events queue numbered number = let few = numbered.once number in grind arith
 
 -- one more entry, after every legal history
 pub tells : (history : List Entry) (old : State) (act : Act) → IsState (after old act) → Legal history old → EntryTells history old (entry_of act (reply_to old act)) (after old act)

@@ -574,6 +574,30 @@ abbrev pub landing_of : ℕ → Option Batch → Option (List ℕ)
 landing_of number None = None
 landing_of number (Some batch) = if number == batch.number then commit_of batch.stage else None
 
+-- WHAT RUNS ON STAGING, by the history. A batch that is ordered or staged was ordered there once, on the present base. Since then no base
+-- was set, and settings only that equal those before. Each head that the order names is the present one, and hasn't moved since.
+pub record HasStayed (events : List Event) (number : ℕ) (staged : Head) : Type 0 where
+  pub head : head_back events staged.change ≡ staged.head
+  pub unmoved : is_unmoved events number staged ≡ true
+
+pub record OrderTells (events : List Event) (number : ℕ) : Type 0 where
+  pub base : List ℕ
+  pub present : base_back events ≡ Some base
+  pub ordered : is_ordered_on events number base ≡ true
+  pub once : stages number events ≤ 1
+  pub heads : All (HasStayed events number) (heads_back events number)
+
+-- One that is staged was staged with this commit last. Of one that lands `landing_with` tells.
+abbrev pub StageTells : List Event → ℕ → StageOf → Type 0
+StageTells events number stage.Waiting = ⊤
+StageTells events number (stage.Ordered since) = OrderTells events number
+StageTells events number (stage.Staged since commit reports) = OrderTells events number × (is_staged_back events number commit ≡ true)
+StageTells events number (stage.Landing commit) = ⊤
+
+abbrev pub RunningTells : List Event → Option Batch → Type 0
+RunningTells events None = ⊤
+RunningTells events (Some batch) = StageTells events batch.number batch.stage
+
 -- WHAT A HISTORY TELLS of the state that it led to
 pub record StateTells (history : List Entry) (s : State) : Type 0 where
   -- people, settings, base and clock are those of the history
@@ -593,6 +617,8 @@ pub record StateTells (history : List Entry) (s : State) : Type 0 where
   pub landing : (change : ℕ) → in_landing of_any_priority change s.queue.staging ≡ (if landing_back (events_of history) change then 1 else 0)
   -- what a batch is to land with by the history, the batch that runs on staging is landing with
   pub to_land : (number : ℕ) → landing_with (events_of history) number ≡ landing_of number s.queue.staging.running
+  -- the batch that runs there, if it is ordered or staged, is so by the history
+  pub running : RunningTells (events_of history) s.queue.staging.running
   -- it is in exactly one batch on trying if it is tried, and in none if it isn't
   pub tried : (change : ℕ) → held of_any_priority change s.queue.trying ≡ (if trying_back (events_of history) change then 1 else 0)
 

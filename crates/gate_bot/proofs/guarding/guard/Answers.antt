@@ -1,5 +1,5 @@
 use Rattle.std.proofs.Common.{subst}
-use Rattle.gate_guard_lines.specs.Serving.{IsTold}
+use Rattle.gate_guard_lines.specs.Lines.{IsTold}
 use Rattle.gate_store.specs.Run.{Records}
 use Rattle.gate_bot.proofs.guarding.guard.Goals as goal
 

@@ -1,6 +1,7 @@
 use Rattle.std.proofs.Common.{arith}
 use Rattle.gate_guard.proofs.Coming.{stays_law}
-use Rattle.gate_guard.proofs.Moving.{duties_law, moves_law}
+use Rattle.gate_guard.proofs.Due.{duties_law}
+use Rattle.gate_guard.proofs.Moving.{moves_law}
 use Rattle.gate_guard.proofs.Standing.{delivering_law}
 use Rattle.gate_guard.proofs.laws.law_of_moves.Goals as goal
 
@@ -9,7 +10,8 @@ returns-clause-moves c = moves_law c.law_of_deliveries.ensures.history c.law_of_
 
 pub returns-clause-duties : goal.returns-clause-duties
 returns-clause-duties c =
-    duties_law c.law_of_deliveries.ensures.history c.law_of_histories.ensures c.law_of_tests.ensures (c.empty_history_is_legal.ensures 1 (omega arith) (omega arith))
+    duties_law c.law_of_deliveries.ensures.history c.law_of_histories.ensures c.law_of_tests.ensures c.law_of_since.ensures
+    (c.empty_history_is_legal.ensures 1 (omega arith) (omega arith))
 
 pub returns-clause-delivering : goal.returns-clause-delivering
 returns-clause-delivering c = delivering_law

@@ -18,6 +18,7 @@ returns-in-Ok-duties_now g c =
             ∙ ap (λ (answer : List ℕ). told_text answer c.in-Ok-duties_now.duties) (c.as_str.ensures.value ∙ said.answer mid)
             ∙ ap (told_text _) (found.duties sound ∙ ap (λ (records : Records). duties_of records.state) (said.delivers.book mid));
         records = λ sound. found.same sound ∙ said.delivers.book (found.outlasts.was sound);
+        room = λ sound. said.delivers.full (found.outlasts.was sound);
         stops = λ sound. tt;
         outlasts = outlasts_both g.B.Book _ _ _ said.delivers.outlasts found.outlasts;
         stays = λ begun honest. found.stays (λ mid. said.delivers.stays mid) honest;

@@ -1,0 +1,4 @@
+mod Arriving
+mod Lasting
+mod Standing
+mod Starting

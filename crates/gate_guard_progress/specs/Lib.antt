@@ -1,0 +1,7 @@
+-- What the contracts of this crate cite. For a reader, in this order:
+--     Standing   where the bot stands after a host has told it more, by which the laws of progress carry over
+--     Arriving   what a host tells of a batch, and that its commit comes onto the main branch
+--     Starting   what becomes of deliveries that a host hands in again
+pub mod Arriving
+pub mod Standing
+pub mod Starting
