@@ -1,4 +1,5 @@
 mod Arriving
+mod Journals
 mod Lasting
 mod Standing
 mod Starting

@@ -8,16 +8,16 @@ use Rattle.gate_store.proofs.Firsts.{answered_kept, kept_after}
 use Rattle.gate_store.specs.Run.{Records, after_deliveries, after_delivery, answer_to, answers_to, is_known, kept_under, stepped}
 
 -- ONE AFTER THE OTHER
-after_both : (records : Records) (these those : List Delivery) → after_deliveries records (these ++ those) ≡ after_deliveries (after_deliveries records these) those
+pub after_both : (records : Records) (these those : List Delivery) → after_deliveries records (these ++ those) ≡ after_deliveries (after_deliveries records these) those
 after_both records [] those = refl
 after_both records (delivery ∷ these) those = after_both (after_delivery records delivery) these those
 
-answers_to_both : (records : Records) (these those : List Delivery) → answers_to records (these ++ those) ≡ answers_to records these ++ answers_to (after_deliveries records these) those
+pub answers_to_both : (records : Records) (these those : List Delivery) → answers_to records (these ++ those) ≡ answers_to records these ++ answers_to (after_deliveries records these) those
 answers_to_both records [] those = refl
 answers_to_both records (delivery ∷ these) those = ap (λ (answers : List (List Reply)). answer_to records delivery ∷ answers) (answers_to_both (after_delivery records delivery) these those)
 
 -- WHAT WAS HANDED IN IS KNOWN.
-kept_here : (records : Records) (delivery : Delivery) → kept_under (after_delivery records delivery) delivery.id ≡ Some (answer_to records delivery)
+pub kept_here : (records : Records) (delivery : Delivery) → kept_under (after_delivery records delivery) delivery.id ≡ Some (answer_to records delivery)
 kept_here records delivery = let one = answered_kept records (delivery ∷ []) in cc one
 
 abbrev IsKnownTo : Records → Delivery → Type 0

@@ -1,4 +1,5 @@
 ghost use Rattle.gate_guard_progress.specs.Arriving.{LawOfArriving};
+ghost use Rattle.gate_guard_progress.specs.Journals.{LawOfJournals, LawOfShowing};
 ghost use Rattle.gate_guard_progress.specs.Standing.{LawOfAnyTelling, LawOfStanding};
 ghost use Rattle.gate_guard_progress.specs.Starting.{LawOfKnowing, LawOfRepeats, LawOfStarts};
 
@@ -38,3 +39,18 @@ pub fn law_of_starts()
     // A start from any place on is as good as no stop.
     ensures starts { LawOfStarts }
 {}
+
+/// The law of journals: a host writes down each delivery before it hands it in, then its answer, and which entries people were shown. It may
+/// stop after any of its steps, as often as it likes, and begins again with what is written down. Its bot may lose its records. Whatever the
+/// host did, the answers that are written down are those of a bot to which each delivery comes once, without a stop. The bot stands where
+/// these deliveries lead, or one further, and the next answer comes as if there had been no stop. No identifier is written down twice, and
+/// people aren't shown again what is written down as shown.
+pub fn law_of_journals()
+    // What is written down is in order, whatever the host did, and wherever it stopped.
+    ensures journals { LawOfJournals }
+
+    // What is written down stays, and what is written down as shown isn't shown again.
+    ensures showing { LawOfShowing }
+{
+    law_of_moves();
+}

@@ -5,4 +5,4 @@
 
 mod laws;
 
-pub use laws::{law_of_arrivals, law_of_starts};
+pub use laws::{law_of_arrivals, law_of_journals, law_of_starts};
