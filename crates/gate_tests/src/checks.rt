@@ -15,21 +15,7 @@ pub(crate) fn check_pair(rt: &impl Abort, one: &str, other: &str, are_equal: boo
     assert!(rt; are_equal == (one == other), "{one:?} and {other:?}");
 }
 
-// The first word of a text, and the rest.
-pub(crate) fn cut(text: &str) -> (&str, &str) {
-    text.split_once(' ').unwrap_or((text, ""))
-}
-
-// A row of a table: a text, and behind ` =>` what is answered to it. Rows are indented by eight spaces, and what stands
-// behind these counts; a blank line is none, and `//` begins a remark.
-pub(crate) fn row_of<'a>(rt: &impl Abort, line: &'a str) -> Option<(&'a str, &'a str)> {
-    let Some(row) = line.strip_prefix("        ") else {
-        check_that(rt, line, line.trim().is_empty());
-        return None;
-    };
-    if row.starts_with("//") {
-        return None;
-    }
-    let (row, answer) = row.split_once(" =>").expect(rt, "a row");
-    Some((row, answer.trim_start()))
+// A row of a table: a text, and behind ` => ` what is answered to it.
+pub(crate) fn row_of<'a>(rt: &impl Abort, line: &'a str) -> (&'a str, &'a str) {
+    line.split_once(" => ").expect(rt, "a row")
 }
