@@ -38,7 +38,7 @@ REVIEWS = {"yes": True, "no": False}
 
 # What the numbers in the tables of a database stand for.
 PHASES = {1: "opened", 2: "closed", 3: "landed"}
-TRYING, LANDING = 2, 4
+ON_STAGING, ON_TRYING, IS_LANDING = 1, 2, 4
 LABEL, REVIEW, DELEGATE, APPROVER, LAST_NAME, PASSED = 1, 2, 3, 4, 5, 8
 STATUS, BLOCK_LABEL, PR_STATUS = 1, 2, 3
 
@@ -182,7 +182,7 @@ def is_in(tables: Tables, change: int, branch: int, phase: Optional[int] = None)
 
 
 def phase_word(tables: Tables, change: int, phase: str) -> str:
-    marks = ["trying"] * is_in(tables, change, TRYING) + ["landing"] * is_in(tables, change, 1, LANDING)
+    marks = ["trying"] * is_in(tables, change, ON_TRYING) + ["landing"] * is_in(tables, change, ON_STAGING, IS_LANDING)
     if phase == "landed" and marks:
         return "landed, and yet in test"
     return "-".join(([] if phase == "opened" and marks else [phase]) + marks)
@@ -253,7 +253,7 @@ def said_in(tables: Tables, number: int) -> Said:
     word = {0: "", 1: "approve", 2: "approve for", 3: "try"}[last]
     repeated = (word, tuple(marks_of(tables, number, LAST_NAME))) if word else None
     delegates = tuple(marks_of(tables, number, DELEGATE))
-    return Said(priority, approvers, delegates, is_in(tables, number, TRYING), repeated)
+    return Said(priority, approvers, delegates, is_in(tables, number, ON_TRYING), repeated)
 
 
 def after(said: Said, words: str, author: str, person: str) -> Tuple[Said, List[str]]:
