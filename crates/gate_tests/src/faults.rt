@@ -1,4 +1,7 @@
 use crate::checks::{check_words, row_of};
+use gate_answers::AnswerFault;
+use gate_hook::{DeliveryFault, Field, HookFault, error_text};
+use gate_queue::Fault;
 use gate_text::{ChangeNo, SettingsFault, TextFault, read_settings};
 use std::alloc::{AllocError, Global};
 use std::process::Abort;
@@ -90,4 +93,53 @@ fn refusals_of_texts(rt: HostRuntime) {
     check_printed(&rt, alloc, "01", words);
     let memory = shown(&rt, alloc, TextFault::Memory);
     check_words(&rt, "no memory", memory.as_str(), "out of memory");
+}
+
+fn check_hook_fault(rt: &impl Abort, alloc: Global, fault: HookFault, word: &str) {
+    let printed = format!(in alloc; "{fault}").expect(rt, "memory");
+    check_words(rt, word, printed.as_str(), word);
+}
+
+#[test]
+fn words_of_hook_faults(rt: HostRuntime) {
+    check_hook_fault(&rt, rt.alloc(), HookFault::Gate(Fault::Memory), "Memory");
+    check_hook_fault(&rt, rt.alloc(), HookFault::Gate(Fault::Store), "Store");
+    check_hook_fault(&rt, rt.alloc(), HookFault::Gate(Fault::Full), "Full");
+    check_hook_fault(&rt, rt.alloc(), HookFault::Gate(Fault::Foreign), "Foreign");
+    check_hook_fault(&rt, rt.alloc(), HookFault::Read, "Read");
+    check_hook_fault(&rt, rt.alloc(), HookFault::Write, "Write");
+    check_hook_fault(&rt, rt.alloc(), HookFault::TooMuch, "TooMuch");
+}
+
+fn check_delivery_fault(rt: &impl Abort, alloc: Global, fault: DeliveryFault, words: &str) {
+    let printed = format!(in alloc; "{fault}").expect(rt, "memory");
+    check_words(rt, words, printed.as_str(), words);
+}
+
+#[test]
+fn words_of_delivery_faults(rt: HostRuntime) {
+    let alloc = rt.alloc();
+    check_delivery_fault(&rt, alloc, DeliveryFault::NotJson, "not a JSON object");
+    check_delivery_fault(&rt, alloc, DeliveryFault::UnknownEvent, "unknown event");
+    let fault = DeliveryFault::BadField(Field::Approves);
+    check_delivery_fault(&rt, alloc, fault, r#"bad field "approves""#);
+    check_delivery_fault(&rt, alloc, DeliveryFault::Memory, "out of memory");
+    let text = error_text(alloc, &DeliveryFault::Memory).expect(&rt, "memory");
+    check_words(
+        &rt,
+        "Memory",
+        text.as_str(),
+        r#"{"error":"Memory","number":4}"#,
+    );
+}
+
+fn check_answer_fault(rt: &impl Abort, alloc: Global, fault: AnswerFault, words: &str) {
+    let printed = format!(in alloc; "{fault}").expect(rt, "memory");
+    check_words(rt, words, printed.as_str(), words);
+}
+
+#[test]
+fn words_of_answer_faults(rt: HostRuntime) {
+    check_answer_fault(&rt, rt.alloc(), AnswerFault::NotAnswer, "not an answer");
+    check_answer_fault(&rt, rt.alloc(), AnswerFault::Memory, "out of memory");
 }

@@ -1,7 +1,9 @@
-//! The tests of gate_text, gate_rules, gate_state and gate_queue by calls that no delivery to the program makes, and of what it never
-//! prints. All else that these crates do is tested by the program.
+//! The tests of the libraries without a database by calls that neither a delivery nor a request to the program makes, and of what it
+//! never prints. All else that these crates do is tested by the program.
 #![tactic(auto)]
 
+#[cfg(test)]
+mod by_commit;
 #[cfg(test)]
 mod calls;
 #[cfg(test)]
@@ -10,5 +12,7 @@ mod checks;
 mod equal;
 #[cfg(test)]
 mod faults;
+#[cfg(test)]
+mod records;
 #[cfg(test)]
 mod same;
