@@ -7,6 +7,8 @@
  *   FAULTS_HOW    error: it fails with an error. end: it takes no byte, and doesn't say why
  *   FAULTS_BYTES  how many bytes a read or a write of the counted kind takes at the most. With 0 there is no limit
  *   FAULTS_SAYS   the file that gets the number of calls that counted, at the end of the program
+ *   FAULTS_TRACE  the file that gets each call that has opened, written, cut or synced a file which the program opens by its name. Of
+ *                 each a line has the call, the descriptor, a size and a place; behind it stands the name, or what was written
  *
  * The program has a single thread, so nothing is locked.
  */
@@ -28,6 +30,7 @@ enum kind { NONE, MEMORY, INPUT, OUTPUT, DISK };
 static const char *const kinds[] = {"", "memory", "input", "output", "disk"};
 
 static enum kind counted = NONE;
+static FILE *trace;
 static unsigned long at, count, most;
 static int ends;
 
@@ -44,6 +47,8 @@ __attribute__((constructor)) static void begin(void) {
     at = number("FAULTS_AT");
     most = number("FAULTS_BYTES");
     ends = how && !strcmp(how, "end");
+    if (getenv("FAULTS_TRACE"))
+        trace = fopen(getenv("FAULTS_TRACE"), "w");
     for (int it = MEMORY; kind && it <= DISK; it++)
         if (!strcmp(kind, kinds[it]))
             counted = it;
@@ -58,6 +63,8 @@ __attribute__((destructor)) static void end(void) {
         fprintf(said, "%lu\n", found);
         fclose(said);
     }
+    if (trace)
+        fclose(trace);
 }
 
 /* Counts a call, and tells whether it is the one that fails. */
@@ -128,10 +135,20 @@ ssize_t send(int file, const void *from, size_t length, int flags) {
 
 /* --- Files */
 
-static int opened(int file) {
+/* Notes a call that was made, and returns what it has returned. */
+static long noted(const char *call, int file, long returned, long size, long place, const void *bytes) {
+    if (trace && returned >= 0) {
+        fprintf(trace, "%s %d %ld %ld\n", call, file, size, place);
+        if (bytes)
+            fwrite(bytes, 1, size, trace);
+    }
+    return returned;
+}
+
+static int opened(int file, const char *name) {
     if (file >= 0 && file < (int)sizeof is_file)
         is_file[file] = 1;
-    return file;
+    return (int)noted("open", file, file, strlen(name), 0, name);
 }
 
 int open(const char *name, int flags, ...) {
@@ -139,7 +156,7 @@ int open(const char *name, int flags, ...) {
     va_start(rest, flags);
     mode_t mode = va_arg(rest, mode_t);
     va_end(rest);
-    return fails(DISK) ? (int)failure(DISK) : opened(NEXT(open)(name, flags, mode));
+    return fails(DISK) ? (int)failure(DISK) : opened(NEXT(open)(name, flags, mode), name);
 }
 
 int close(int file) {
@@ -161,19 +178,22 @@ ssize_t pread(int file, void *into, size_t length, off_t from) {
 }
 
 ssize_t pwrite(int file, const void *from, size_t length, off_t to) {
-    return fails(DISK) ? failure(DISK) : NEXT(pwrite)(file, from, length, to);
+    if (fails(DISK))
+        return failure(DISK);
+    ssize_t done = NEXT(pwrite)(file, from, length, to);
+    return noted("write", file, done, done, to, from);
 }
 
 int fsync(int file) {
-    return fails(DISK) ? (int)failure(DISK) : NEXT(fsync)(file);
+    return fails(DISK) ? (int)failure(DISK) : (int)noted("sync", file, NEXT(fsync)(file), 0, 0, NULL);
 }
 
 int fdatasync(int file) {
-    return fails(DISK) ? (int)failure(DISK) : NEXT(fdatasync)(file);
+    return fails(DISK) ? (int)failure(DISK) : (int)noted("sync", file, NEXT(fdatasync)(file), 0, 0, NULL);
 }
 
 int ftruncate(int file, off_t length) {
-    return fails(DISK) ? (int)failure(DISK) : NEXT(ftruncate)(file, length);
+    return fails(DISK) ? (int)failure(DISK) : (int)noted("cut", file, NEXT(ftruncate)(file, length), length, 0, NULL);
 }
 
 off_t lseek(int file, off_t to, int from) {

@@ -4,12 +4,14 @@ requests to it, and its database files as the stock SQLite reads them.
 A script that imports this sets `sys.dont_write_bytecode` before, so that nothing is left in the folder.
 """
 import json
+import os
 import random
 import resource
 import select
 import socket
 import sqlite3
 import subprocess
+import tempfile
 import time
 from collections import deque
 from contextlib import closing, suppress
@@ -20,11 +22,13 @@ from importlib.util import module_from_spec, spec_from_loader
 from itertools import count
 from pathlib import Path
 from threading import Lock
+from typing import Any, Callable, Dict, List, Optional, Sequence, Tuple, TypeVar, Union
 
 TOP = Path(__file__).resolve().parent.parent
 BY_LLVM = TOP / "crates/gate_bot/out/gate_bot"
 BY_RATTLE = BY_LLVM.with_name("gate_bot.by-rattle")
 BOOKS = TOP / "crates/gate_books/out/gate_books"
+SHIM = TOP / ".ci/faults.c"
 
 # What a run, and a response, may take before its program counts as one that never ends; and what a run may that has more to do.
 SECONDS = 30
@@ -51,17 +55,21 @@ class Failed(Exception):
     """What is wrong with a case."""
 
 
-def want(what, found, due):
+# What a case returns.
+Result = TypeVar("Result")
+
+
+def want(what: str, found: object, due: object) -> None:
     if found != due:
         raise Failed(f"{what} is {excerpt(found)}, and should be {excerpt(due)}")
 
 
-def excerpt(thing):
+def excerpt(thing: object) -> str:
     text = repr(thing)
     return text if len(text) < 400 else f"{text[:200]} .. {text[-200:]}"
 
 
-def outcome_of(case, *given):
+def outcome_of(case: Callable[..., Result], *given: Any) -> Tuple[Optional[Result], Optional[str]]:
     """What a case returns, and what is wrong with it. One of both is none."""
     try:
         return case(*given), None
@@ -84,7 +92,7 @@ def passes(failures, path, case, *given):
     return failure is None
 
 
-def status_of(name, passed, failures):
+def status_of(name: str, passed: int, failures: Sequence[str]) -> int:
     """Prints the failures of a script, and the counts in its last line. The status with which it ends."""
     for failure in failures:
         print(f"FAILED {failure}")
@@ -95,7 +103,7 @@ def status_of(name, passed, failures):
 # --- What `rt ci` leaves
 
 
-def builds_of(program, failures):
+def builds_of(program: Path, failures: List[str]) -> List[Path]:
     """A program by LLVM, which has to be there, and by Rattle's own compiler if it is there too."""
     if not program.is_file():
         failures.append(f"{program.relative_to(TOP)} isn't built: `.ci/run` or `rt ci` leaves it")
@@ -113,16 +121,16 @@ def programs_of(paths, failures):
 class Program:
     """A built program, and a folder for its files."""
 
-    def __init__(self, path, room):
+    def __init__(self, path: Union[str, Path], room: Union[str, Path]) -> None:
         self.path = str(path)
         self.room = Path(room)
         self.made = count(1)
 
-    def file(self):
+    def file(self) -> Path:
         """A file that isn't there yet."""
         return self.room / f"{next(self.made)}"
 
-    def run(self, words=(), given=b"", seconds=SECONDS, **how):
+    def run(self, words: Sequence[str] = (), given: bytes = b"", seconds: int = SECONDS, **how: Any) -> Tuple[int, bytes, bytes]:
         """The status of a run, and the bytes on standard output and standard error. `how` is for `subprocess`."""
         how = {"stdout": subprocess.PIPE, "stderr": subprocess.PIPE, **({} if "stdin" in how else {"input": given}), **how}
         try:
@@ -132,7 +140,7 @@ class Program:
         return ran.returncode, ran.stdout or b"", ran.stderr or b""
 
 
-def over(file):
+def over(file: Optional[Path]) -> List[str]:
     """The words for records in a file, or in memory."""
     return [] if file is None else ["--db", str(file)]
 
@@ -156,12 +164,36 @@ def rows_of(file):
         return {table: sorted(database.execute(f"SELECT * FROM {table}").fetchall()) for table in tables}
 
 
-def under(limits):
+def run_apart(command: Sequence[str], given: bytes, seconds: int) -> Tuple[int, bytes, bytes]:
+    """The exit status of a program, and what it wrote and complained, by way of files."""
+    with tempfile.TemporaryFile() as answers, tempfile.TemporaryFile() as errors:
+        try:
+            status = subprocess.run(command, input=given, stdout=answers, stderr=errors, timeout=seconds).returncode
+        except subprocess.TimeoutExpired as late:
+            raise Failed(f"it had not ended after {seconds} seconds") from late
+        answers.seek(0)
+        errors.seek(0)
+        return status, answers.read(), errors.read()
+
+
+def quick_room() -> "tempfile.TemporaryDirectory[str]":
+    """A folder that is removed in the end. If files can be in memory it is there, since a sync costs nothing there."""
+    return tempfile.TemporaryDirectory(dir="/dev/shm" if os.access("/dev/shm", os.W_OK) else None)
+
+
+def made_shim(room: Path) -> Path:
+    """.ci/faults.c, as what is loaded before the C library."""
+    shim = Path(room, "faults.so")
+    subprocess.run(["cc", "-O2", "-shared", "-fPIC", "-o", str(shim), str(SHIM)], check=True)
+    return shim
+
+
+def under(limits: Sequence[Tuple[int, int]]) -> Dict[str, Any]:
     """How a program is started under these limits."""
     return {"preexec_fn": partial(set_limits, limits)}
 
 
-def set_limits(limits):
+def set_limits(limits: Sequence[Tuple[int, int]]) -> None:
     for kind, most in limits:
         # The hard limit stays, so that a case can lift the other one later.
         resource.setrlimit(kind, (most, resource.getrlimit(kind)[1]))
