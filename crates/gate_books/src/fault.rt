@@ -13,15 +13,12 @@ pub(crate) enum BooksFault {
     /// The lines weren't served to their end.
     #[error("{0}")]
     Hook(HookFault),
-    /// Standard input or output failed, or a file in memory.
+    /// Standard input or output failed.
     #[error("Device")]
     Device,
     /// The rows of the tables weren't read.
     #[error("Rows")]
     Rows,
-    /// An opening that was stopped left other records than it found, or none was stopped.
-    #[error("Stops")]
-    Stops,
 }
 
 impl From<HookFault> for BooksFault {

@@ -1,16 +1,7 @@
-//! A program for tests alone: it serves lines over other books than the program `gate` does, or tells what a book in a database holds
-//! at the end.
+//! A program for tests alone: it makes calls of the libraries that the program `gate` never makes.
 //!
-//! `gate_books in_tables` serves them over a book in a database in memory, and `gate_books reopened` leaves its book after each line,
-//! and opens it again. `gate_books tables` prints the rows of the tables in place of the answers, and `gate_books changed` the row
-//! changes of each line. `gate_books committed` prints the same rows as `tables`, but its book keeps each delivery by `commit`, which
-//! the program never calls. `.ci/test_rows` starts it so.
-//!
-//! `gate_books opened` begins with lines of SQL, which make the database that it opens, and prints the rows of the tables behind
-//! the answers.
-//!
-//! `gate_books stopped` begins with lines of SQL as well. It makes their database in two files in memory, and opens it with a stop
-//! at each call of either file.
+//! `gate_books committed` serves lines over a book in a database in memory that keeps each delivery by `commit`, and prints the rows
+//! of the tables in place of the answers. `.ci/test_rows` starts it so.
 //!
 //! `gate_books twice`, `gate_books twice_in_tables` and, by `commit`, `gate_books twice_committed` hand all lines in by one call, and
 //! then once more to the same keeper.
@@ -22,15 +13,10 @@
 
 mod alone;
 mod by_commit;
-mod changed;
 mod fault;
-mod files;
-mod opened;
 mod refusals;
-mod reopened;
 mod row_changes;
 mod serving;
-mod stopped;
 mod tables;
 mod twice;
 
@@ -58,13 +44,7 @@ fn run(rt: &HostRuntime) -> Result<(), BooksFault> {
     let mut writer = io::writer(rt);
     match asked.as_str() {
         "alone" => alone::ask_alone(rt.alloc(), &mut reader, &mut writer),
-        "in_tables" => serving::serve_in_tables(rt.alloc(), &mut reader, &mut writer),
-        "reopened" => reopened::serve_reopened(rt.alloc(), &mut reader, &mut writer),
-        "tables" => tables::print_tables(rt.alloc(), &mut reader, &mut writer),
         "committed" => tables::print_committed(rt.alloc(), &mut reader, &mut writer),
-        "changed" => changed::print_changed(rt.alloc(), &mut reader, &mut writer),
-        "opened" => opened::print_opened(rt.alloc(), &mut reader, &mut writer),
-        "stopped" => stopped::print_stopped(rt.alloc(), &mut reader, &mut writer),
         "twice" => twice::run_twice_plain(rt.alloc(), &mut reader, &mut writer),
         "twice_in_tables" => twice::run_twice_in_tables(rt.alloc(), &mut reader, &mut writer),
         "twice_committed" => twice::run_twice_committed(rt.alloc(), &mut reader, &mut writer),

@@ -49,25 +49,3 @@ pub(crate) fn served_by_commit<B: Book + Drop, R: Read, W: Write>(
         Err(fault) => Err(fault),
     }
 }
-
-/// Serves all lines over a book in a new database in memory.
-pub(crate) fn serve_in_tables<R: Read, W: Write>(
-    alloc: Global,
-    reader: &mut R,
-    writer: &mut W,
-) -> Result<(), BooksFault> {
-    match memory_book(alloc) {
-        Ok(book) => serve_over(alloc, book, reader, writer),
-        Err(fault) => Err(fault),
-    }
-}
-
-fn serve_over<B: Book + Drop, R: Read, W: Write>(
-    alloc: Global,
-    book: B,
-    reader: &mut R,
-    writer: &mut W,
-) -> Result<(), BooksFault> {
-    drop(served(alloc, book, reader, writer)?);
-    Ok(())
-}

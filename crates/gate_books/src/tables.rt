@@ -1,5 +1,5 @@
 use crate::fault::BooksFault;
-use crate::serving::{MemoryBook, memory_book, served, served_by_commit};
+use crate::serving::{MemoryBook, memory_book, served_by_commit};
 use sqlite::types::ValueRef;
 use sqlite::{Alter, Connection, Row};
 use std::alloc::Global;
@@ -21,28 +21,8 @@ const TABLES: [(&str, &str); 9] = [
     ("wanted", "SELECT * FROM wanted ORDER BY kind, place"),
 ];
 
-/// Serves all lines over a book in a database, drops the answers, and prints the rows of the tables: one on each line, the name
-/// of the table and the values of the columns with `|` between two.
-pub(crate) fn print_tables<R: Read, W: Write>(
-    alloc: Global,
-    reader: &mut R,
-    writer: &mut W,
-) -> Result<(), BooksFault> {
-    match book_after(alloc, reader) {
-        Ok(book) => print_all(book.into_connection(), writer),
-        Err(fault) => Err(fault),
-    }
-}
-
-// The book in a database after all lines.
-fn book_after<R: Read>(alloc: Global, reader: &mut R) -> Result<MemoryBook, BooksFault> {
-    match memory_book(alloc) {
-        Ok(book) => served(alloc, book, reader, &mut io::sink()),
-        Err(fault) => Err(fault),
-    }
-}
-
-/// The same, but each delivery is kept by `commit`.
+/// Serves all lines over a book in a database that keeps each delivery by `commit`, drops the answers, and prints the rows of the
+/// tables: one on each line, the name of the table and the values of the columns with `|` between two.
 pub(crate) fn print_committed<R: Read, W: Write>(
     alloc: Global,
     reader: &mut R,
@@ -54,6 +34,7 @@ pub(crate) fn print_committed<R: Read, W: Write>(
     }
 }
 
+// The book in a database after all lines.
 fn book_committed<R: Read>(alloc: Global, reader: &mut R) -> Result<MemoryBook, BooksFault> {
     match memory_book(alloc) {
         Ok(book) => served_by_commit(alloc, book, reader, &mut io::sink()),
@@ -61,8 +42,8 @@ fn book_committed<R: Read>(alloc: Global, reader: &mut R) -> Result<MemoryBook, 
     }
 }
 
-/// Prints the rows of all tables of a database.
-pub(crate) fn print_all<S: Alter + Drop, W: Write>(
+// Prints the rows of all tables of a database. It knows of no store, since one that is known is dear to prove.
+fn print_all<S: Alter + Drop, W: Write>(
     connection: Connection<S>,
     writer: &mut W,
 ) -> Result<(), BooksFault> {
