@@ -1,14 +1,42 @@
 use crate::by_commit::ByCommit;
 use crate::fault::BooksFault;
 use gate_hook::serve_lines;
-use gate_sql::SqlBook;
+use gate_sql::{SqlBook, book_in_files_in_memory};
 use gate_store::{Book, Keeper};
-use sqlite::{Connection, MemStore};
+use sqlite::{Connection, FileStore, Files, MemStore, Options};
+use sqlite_disk::Memory;
 use std::alloc::Global;
 use std::io::{Read, Write};
 
 /// A book in a database in memory.
 pub(crate) type MemoryBook = SqlBook<MemStore>;
+
+/// A book in a database in two files in memory.
+pub(crate) type FilesBook = SqlBook<FileStore<Memory>>;
+
+// Before each commit the log is copied into the database file.
+const OPTIONS: Options = Options {
+    cache_pages: 2000,
+    spill_pages: 2000,
+    checkpoint_frames: 1,
+    seed: 1,
+};
+
+/// A book in two new files in memory.
+pub(crate) fn files_book(alloc: Global) -> Result<FilesBook, BooksFault> {
+    let files = Files {
+        log: Memory::new(alloc),
+        db: Memory::new(alloc),
+    };
+    if !files.may_be_used() {
+        drop(files);
+        return Err(BooksFault::Rows);
+    }
+    match book_in_files_in_memory(alloc, files, OPTIONS) {
+        Ok(book) => Ok(book),
+        Err(fault) => Err(BooksFault::from(fault)),
+    }
+}
 
 /// A book in a new database in memory.
 pub(crate) fn memory_book(alloc: Global) -> Result<MemoryBook, BooksFault> {

@@ -1,5 +1,5 @@
 use crate::fault::BooksFault;
-use crate::serving::{MemoryBook, memory_book, served_by_commit};
+use crate::serving::{FilesBook, files_book, served_by_commit};
 use sqlite::types::ValueRef;
 use sqlite::{Alter, Connection, Row};
 use std::alloc::Global;
@@ -21,7 +21,7 @@ const TABLES: [(&str, &str); 9] = [
     ("wanted", "SELECT * FROM wanted ORDER BY kind, place"),
 ];
 
-/// Serves all lines over a book in a database that keeps each delivery by `commit`, drops the answers, and prints the rows of the
+/// Serves all lines over a book in two files in memory that keeps each delivery by `commit`, drops the answers, and prints the rows of the
 /// tables: one on each line, the name of the table and the values of the columns with `|` between two.
 pub(crate) fn print_committed<R: Read, W: Write>(
     alloc: Global,
@@ -34,9 +34,9 @@ pub(crate) fn print_committed<R: Read, W: Write>(
     }
 }
 
-// The book in a database after all lines.
-fn book_committed<R: Read>(alloc: Global, reader: &mut R) -> Result<MemoryBook, BooksFault> {
-    match memory_book(alloc) {
+// The book in its files after all lines.
+fn book_committed<R: Read>(alloc: Global, reader: &mut R) -> Result<FilesBook, BooksFault> {
+    match files_book(alloc) {
         Ok(book) => served_by_commit(alloc, book, reader, &mut io::sink()),
         Err(fault) => Err(fault),
     }
