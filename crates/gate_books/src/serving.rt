@@ -3,13 +3,10 @@ use crate::fault::BooksFault;
 use gate_hook::serve_lines;
 use gate_sql::{SqlBook, book_in_files_in_memory};
 use gate_store::{Book, Keeper};
-use sqlite::{Connection, FileStore, Files, MemStore, Options};
+use sqlite::{FileStore, Files, Options};
 use sqlite_disk::Memory;
 use std::alloc::Global;
 use std::io::{Read, Write};
-
-/// A book in a database in memory.
-pub(crate) type MemoryBook = SqlBook<MemStore>;
 
 /// A book in a database in two files in memory.
 pub(crate) type FilesBook = SqlBook<FileStore<Memory>>;
@@ -35,15 +32,6 @@ pub(crate) fn files_book(alloc: Global) -> Result<FilesBook, BooksFault> {
     match book_in_files_in_memory(alloc, files, OPTIONS) {
         Ok(book) => Ok(book),
         Err(fault) => Err(BooksFault::from(fault)),
-    }
-}
-
-/// A book in a new database in memory.
-pub(crate) fn memory_book(alloc: Global) -> Result<MemoryBook, BooksFault> {
-    let connection = Connection::open_in_memory(alloc)?;
-    match SqlBook::new(alloc, connection) {
-        Ok(book) => Ok(book),
-        Err(refused) => Err(BooksFault::from(refused.fault)),
     }
 }
 

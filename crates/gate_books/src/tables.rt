@@ -63,8 +63,8 @@ fn print_each<S: Alter, W: Write>(
     Ok(())
 }
 
-/// Prints the rows that a statement shows, behind this name each.
-pub(crate) fn print_table<S: Alter, W: Write>(
+// Prints the rows that a statement shows, behind this name each.
+fn print_table<S: Alter, W: Write>(
     connection: &mut Connection<S>,
     writer: &mut W,
     table: &str,
