@@ -12,6 +12,7 @@ use Rattle.std.specs.Str.{bytes_eq}
 use Rattle.gate_deliveries.specs.declared.delivery.Delivery.{Delivery}
 use Rattle.gate_guard.specs.Moves.{LawOfDelivering}
 use Rattle.gate_guard.specs.World.{Step, told as told_step, told_in}
+use Rattle.gate_guard_progress.proofs.Standing.{neither}
 use Rattle.gate_guard_progress.proofs.Starting.{after_both, answers_to_both, kept_here, starts_law}
 use Rattle.gate_guard_progress.specs.Journals.{AreDistinct, Doing, Entry, Host, IsAfter, IsLater, LawOfJournals, LawOfShowing, StandsAfter, after_doings, after_one, answered, answers_in, deliveries_in, first_host, hand_first, handed_in, has_id, hands_in, is_among, keep_answer, keeps, marks, may_be_shown, no_records, notes, other, refills, repeats, shows, stops, with_delivery, with_entry, with_journal, with_mark, with_records, with_shown, writes, written_in}
 use Rattle.gate_guard_progress.specs.Standing.{state_after, tell}
@@ -40,11 +41,7 @@ answers_other [] = refl
 answers_other (answered first its ∷ entries) = ap (λ (more : List (List Reply)). its ∷ more) (answers_other entries)
 answers_other (other ∷ entries) = answers_other entries
 
--- IDENTIFIERS. Of two, neither is the other one.
-neither : (a b : Bool) → (a || b) ≡ false → (a ≡ false) × (b ≡ false)
-neither false b none = (refl, none)
-neither true b none = cc none
-
+-- IDENTIFIERS
 turned : (one two : List ℕ) → bytes_eq one two ≡ false → bytes_eq two one ≡ false
 turned one two differ = by (bytes_eq two one) refl where
   by : (same : Bool) → bytes_eq two one ≡ same → same ≡ false
@@ -117,11 +114,11 @@ module _ (delivering : LawOfDelivering) where
       (news_still records delivery deliveries only news) rest rooms
 
 -- WHAT IS HANDED IN ONCE MORE
+known_same : (records : Records) (delivery : Delivery) → is_known records delivery.id ≡ true → after_delivery records delivery ≡ records
+known_same records delivery known = ap (λ (b : Bool). cond b records (stepped records delivery)) known
+
 again_same : (records : Records) (delivery : Delivery) → after_delivery (after_delivery records delivery) delivery ≡ after_delivery records delivery
-again_same records delivery =
-    let next = after_delivery records delivery in
-    let known : is_known next delivery.id ≡ true = ap is_some (kept_here records delivery) in
-    ap (λ (b : Bool). cond b next (stepped next delivery)) known
+again_same records delivery = known_same (after_delivery records delivery) delivery (ap is_some (kept_here records delivery))
 
 again_answer : (records : Records) (delivery : Delivery) → answer_to (after_delivery records delivery) delivery ≡ answer_to records delivery
 again_answer records delivery =
@@ -146,9 +143,6 @@ known_among records (first ∷ deliveries) id has = by (bytes_eq first.id id) re
       let known : is_known next first.id ≡ true = ap is_some (kept_here records first) in
       known_still next deliveries id (ap (is_known next) (sym ((bytes_decides first.id id).0 is)) ∙ known)
   by false differ among = among (sym (ap (λ (b : Bool). b || has_id deliveries id) differ) ∙ has)
-
-known_same : (records : Records) (delivery : Delivery) → is_known records delivery.id ≡ true → after_delivery records delivery ≡ records
-known_same records delivery known = ap (λ (b : Bool). cond b records (stepped records delivery)) known
 
 refill : (deliveries : List Delivery) (many : ℕ) → after_deliveries (after_deliveries no_records (take many deliveries)) deliveries ≡ after_deliveries no_records deliveries
 refill deliveries many =

@@ -78,7 +78,7 @@ module _ (joins : Merging) (says : Checking) (first : List ℕ) where
   keeps_before before (telling ∷ later) keeps = (keeps_before (told telling ∷ before) later keeps).1
 
 -- ACTS MAY COME that keep their limits and meet no full gate.
-neither : (a b : Bool) → (a || b) ≡ false → (a ≡ false) × (b ≡ false)
+pub neither : (a b : Bool) → (a || b) ≡ false → (a ≡ false) × (b ≡ false)
 neither false b none = (refl, none)
 neither true b none = cc none
 

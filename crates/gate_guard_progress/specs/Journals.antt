@@ -1,5 +1,5 @@
--- JOURNALS: a host that writes down what it hands in, what that is answered, and of which of it people were told, and that may stop at any
--- moment. What it hasn't written down then is lost to it. People are *shown* something here, since a bot is told.
+-- JOURNALS: a host that writes down what it hands in, what that is answered, and what people were shown. It may stop at any moment, and what it
+-- hasn't written down then is lost to it. (*Told* is a word for the bot alone here.)
 use Rattle.std.specs.Prelude.{◌≡◌, ◌⊎◌, ◌<◌, ◌==◌, ℕ, nat_lt, Bool, true, false, ◌&&◌, not, ⊤, List, [], ◌∷◌, ◌++◌, length, take, map as list_map, Option, Some, None, if◌then◌else◌}
 use Rattle.std.specs.FinMap.{empty}
 use Rattle.std.specs.List.{All, list_any}
@@ -10,7 +10,7 @@ use Rattle.gate_queue.specs.Machine.{empty_state}
 use Rattle.gate_state.specs.declared.reply.Reply.{Reply}
 use Rattle.gate_store.specs.Run.{NoneMeetsFull, Records, after_deliveries, after_delivery, answer_to, answers_to, meets_full}
 
--- What stands in a journal: a delivery with its answer, or something else of which people are told.
+-- What stands in a journal: a delivery with its answer, or something else that people are shown.
 pub data Entry : Type 0 where
   answered : Delivery → List Reply → Entry
   other : Entry
